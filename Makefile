@@ -1,0 +1,19 @@
+# What can be done here. `make help` says it in words.
+.PHONY: help test prove fmt
+
+help:
+	@echo 'make test    the whole gate: proves every crate from nothing, has every must-fail edit refused,'
+	@echo '             runs every program; its last line is "N passed, 0 failed"'
+	@echo 'make prove   proves what changed since the last proof'
+	@echo 'make fmt     lays out every source file'
+
+test:
+	@tools/gate
+
+prove:
+	@tools/need rt
+	@rt check
+
+fmt:
+	@tools/need rt
+	@rt fmt

@@ -1,0 +1,208 @@
+-- Further cases: what document 01 says beside its sixteen examples, and where two careful readers of it could differ (docs/DECISIONS.md). Computed by the checker, as the examples are. Assumes nothing.
+use Prim.Native.Nat.{ℕ}
+use Prim.Native.String.{String}
+use mathlib.Core.List.{List, [], _∷_, _++_, map}
+use mathlib.Core.Option.{Option, none, some}
+use mathlib.Core.Path.{_≡_, refl}
+use lib.ListN.{length, replicate}
+use Rattle.format.specs.Bytes.{ascii, same}
+use Rattle.format.specs.Reading.{Judged, accepted, refused}
+use Rattle.format.specs.Numbers.{number, groups, shortest, fewest}
+use Rattle.format.specs.Text.{utf8, continues, following, wellFormed}
+use Rattle.format.specs.Parts.{Part, sized, name, remaining}
+use Rattle.format.specs.Tables.{lookup, size, mapTable, rows, table}
+use Rattle.format.specs.Walk.{Section, preamble, begins, greatestId, isCustom, isCode, isData, rank, custom, isCalled, nameSection, hintSection, nothing, seeing, section, sections, framing, walk, sectionCount, sectionAt, payloadIn, customPayload}
+use Rattle.format.specs.Names.{known, knownKind, contents, subsections, payload, judgeNames}
+use Rattle.format.specs.Questions.{Question, moduleName, tagName, keptContents, answer, asked, idOf, queryOf, askAt, ask}
+use Rattle.format.specs.Metadata.{hintOf, anyItem, hintItem, metadata, judgeMetadata, itemAt, askMetadata, hintIn, askHint}
+use Rattle.format.specs.Canonical.{writePart, writeRows, writeTable, unlessEmpty, keepRows, bare, writeContent, writeSubsections, rewriteNames, canonical, canonicalNames, rewriteMetadata, canonicalOf, canonicalMetadata, canonicalHints}
+use Rattle.format.specs.Outputs.{fitting, writeAnswer, outputAfter}
+use Rattle.format.specs.Lists.{sum, listed, unsortedAt, badTextAt, subsection, functionNames}
+use Rattle.format.specs.Through.{through, askThrough, metadataSection, itemOf, askMetadataThrough, askHintThrough}
+use Rattle.format.specs.Listing.{digits, decimal, word, line, sectionLines, payloadLine, printed, greatestInput, listing}
+use Rattle.format.specs.Examples.{digit, hex, Result, value, isAccepted, isNone, isLikely, isUnlikely, found, bytes, refusal, ofOutcome, of, place, likelihood, numberIs, namesAre, answerIs, canonicalIs, hintIs, function, localIn, P, Example, _gives_, computed, stated}
+
+nameIs : String → Result
+nameIs s = ofOutcome (λ p _. place (some p)) (name 0 (hex s))
+
+tag : ℕ → Question
+tag k = tagName (record { 0 = k })
+
+metadataIs : ℕ → ℕ → String → Result
+metadataIs f at s = of place (askMetadata anyItem (record { 0 = f }) (record { 0 = at }) 0 (hex s))
+
+metadataCanonicalIs : String → Result
+metadataCanonicalIs s = of bytes (canonicalMetadata (hex s))
+
+hintsCanonicalIs : String → Result
+hintsCanonicalIs s = of bytes (canonicalHints (hex s))
+
+-- what fits an output of some bytes, and the output afterwards
+canonicalInto : List ℕ → String → List ℕ
+canonicalInto old s = outputAfter (canonicalNames (hex s)) old
+
+canonicalAnswers : ℕ → String → Result
+canonicalAnswers room s = of (λ n. value n 0) (writeAnswer room (canonicalNames (hex s)))
+
+writtenIs : List ℕ → List ℕ → String → Result
+writtenIs indices lengths text = of bytes (functionNames indices lengths (hex text))
+
+pub payloads : List Example
+payloads =
+    -- 01 00; C0 80; ED A0 80; a count of 4,294,967,295 in six bytes
+    namesAre "01 00" gives refusal 2 2 ∷
+    nameIs "02 C0 80" gives refusal 4 1 ∷
+    nameIs "03 ED A0 80" gives refusal 4 1 ∷
+    metadataIs 0 0 "FF FF FF FF 0F 00" gives refusal 2 6 ∷
+    -- an earlier fault inside a list that is too long wins; a missing number is refused where it would start
+    metadataIs 0 0 "FF FF FF FF 0F 05 00 05" gives refusal 11 7 ∷
+    metadataIs 0 0 "" gives refusal 2 0 ∷
+    -- bytes outside the innermost part are not looked at; the whole fifth byte is compared
+    namesAre "01 04 FF FF FF FF 1F" gives refusal 2 2 ∷
+    numberIs "80 80 80 80 80 00" gives refusal 3 0 ∷
+    -- a part too long is refused at its length, before its contents are judged
+    namesAre "00 03 05 FF 61" gives refusal 2 2 ∷
+    namesAre "01 09 02 03 01 62 03 01 61" gives refusal 2 1 ∷
+    -- 4 gives the start of the text, which ends where its length says
+    namesAre "00 03 02 61 FF" gives refusal 4 3 ∷
+    namesAre "00 03 01 C3 A9" gives refusal 4 3 ∷
+    -- the last before and the first after the surrogates; the greatest code point, and one more; U+0000, U+FEFF, U+FFFF
+    nameIs "03 ED 9F BF" gives found 1 3 ∷
+    nameIs "03 EE 80 80" gives found 1 3 ∷
+    nameIs "04 F4 8F BF BF" gives found 1 4 ∷
+    nameIs "04 F4 90 80 80" gives refusal 4 1 ∷
+    nameIs "01 00" gives found 1 1 ∷
+    nameIs "03 EF BB BF" gives found 1 3 ∷
+    nameIs "03 EF BF BF" gives found 1 3 ∷
+    -- 11 before what follows the index; 9 before the size; 10 before a fault of the next subsection
+    namesAre "01 06 02 03 01 62 03 85" gives refusal 11 6 ∷
+    namesAre "02 01 00 01 FF" gives refusal 9 3 ∷
+    namesAre "01 02 00 00 01 FF" gives refusal 10 3 ∷
+    -- an empty name lies where its text would start; tag names stand under 11
+    answerIs (function 7) "01 03 01 07 00" gives found 5 0 ∷
+    answerIs (tag 7) "0B 03 01 07 00" gives found 5 0 ∷
+    answerIs (tag 7) "01 03 01 07 00" gives isNone ∷
+    -- a known id as kept gets none from an accepted payload, the refusal from a refused one
+    answerIs (keptContents 1) P gives isNone ∷
+    answerIs (keptContents 1) "01 00" gives refusal 2 2 ∷
+    -- an answer waits for the whole payload's judgement
+    answerIs (function 0) "01 07 02 00 01 61 00 01 62" gives refusal 11 6 ∷
+    -- an item of size 0 is an item, and stays; a hint's size may be padded; 2 comes before 12
+    metadataIs 2 5 "01 02 01 05 00" gives found 5 0 ∷
+    metadataCanonicalIs "01 02 81 00 05 80 00" gives bytes (hex "01 02 01 05 00") ∷
+    hintIs 2 5 "01 02 01 05 81 00 00" gives isUnlikely ∷
+    hintIs 2 5 "01 02 01 05 02 01" gives refusal 2 4 ∷
+    hintIs 2 5 "01 02 01 05 02 01 01" gives refusal 12 4 ∷
+    -- a function without items is left out; nothing left is the one byte 00
+    hintsCanonicalIs "02 02 00 03 01 05 01 01" gives bytes (hex "01 03 01 05 01 01") ∷
+    hintsCanonicalIs "01 02 00" gives bytes (hex "00") ∷
+    -- a group without entries is left out, and the subsection that it leaves empty
+    canonicalIs "02 07 02 00 00 03 01 00 00" gives bytes (hex "02 05 01 03 01 00 00") ∷
+    canonicalIs "02 03 01 00 00" gives bytes [] ∷
+    -- an output exactly long enough is enough, and one shorter is not
+    canonicalAnswers 6 "01 85 00 01 00 81 00 61" gives value 6 0 ∷
+    canonicalAnswers 5 "01 85 00 01 00 81 00 61" gives refusal 13 6 ∷
+    canonicalAnswers 0 "01 01 00" gives value 0 0 ∷
+    bytes (canonicalInto (hex "AA AA AA AA AA AA AA") "01 85 00 01 00 81 00 61") gives bytes (hex "01 04 01 00 01 61 AA") ∷
+    bytes (canonicalInto (hex "AA AA AA AA AA") "01 85 00 01 00 81 00 61") gives bytes (hex "AA AA AA AA AA") ∷
+    -- lists: 14 by the exact sum, 11 at its position, before all of 4, at the start of the first bad name
+    writtenIs (4_294_967_295 ∷ []) (1 ∷ []) "61" gives bytes (hex "01 08 01 FF FF FF FF 0F 01 61") ∷
+    writtenIs [] [] "" gives bytes [] ∷
+    writtenIs (0 ∷ 1 ∷ []) (4_294_967_295 ∷ 3 ∷ []) "61 61" gives refusal 14 0 ∷
+    writtenIs (0 ∷ []) [] "" gives refusal 14 0 ∷
+    writtenIs (3 ∷ 3 ∷ []) (1 ∷ 1 ∷ []) "FF 61" gives refusal 11 1 ∷
+    writtenIs (0 ∷ 1 ∷ []) (1 ∷ 1 ∷ []) "C3 A9" gives refusal 4 0 ∷
+    writtenIs (0 ∷ 1 ∷ []) (1 ∷ 1 ∷ []) "61 A9" gives refusal 4 1 ∷
+    []
+
+pub payloads-hold : map computed payloads ≡ map stated payloads
+unfolding payloads computed stated nameIs numberIs namesAre answerIs canonicalIs hintIs metadataIs metadataCanonicalIs hintsCanonicalIs canonicalInto canonicalAnswers writtenIs function localIn tag P hex digit ofOutcome of place likelihood number groups shortest fewest utf8 continues following wellFormed sized name remaining lookup size mapTable rows table known knownKind contents subsections payload judgeNames answer asked idOf queryOf askAt ask hintOf anyItem hintItem metadata judgeMetadata itemAt askMetadata hintIn askHint writePart writeRows writeTable unlessEmpty keepRows bare writeContent writeSubsections rewriteNames canonical canonicalNames rewriteMetadata canonicalOf canonicalMetadata canonicalHints fitting writeAnswer outputAfter sum listed unsortedAt badTextAt subsection functionNames
+payloads-hold = refl
+
+-- Modules
+ordinary : ℕ → String → List ℕ
+ordinary id contents = id ∷ writePart (hex contents)
+
+customSection : String → String → List ℕ
+customSection called payload = 0 ∷ writePart (writePart (ascii called) ++ hex payload)
+
+theHints : String → List ℕ
+theHints payload = customSection "metadata.code.branch_hint" payload
+
+walkIs : List ℕ → Result
+walkIs ss = of (λ n. value n 0) (sectionCount (preamble ++ ss))
+
+sectionIs : ℕ → List ℕ → Result
+sectionIs position ss = of place′ (sectionAt position (preamble ++ ss))
+  where
+    place′ : Option Section → Result
+    place′ none = isNone
+    place′ (some s) = found (s .at) (length (s .contents .bytes))
+
+payloadIs : String → List ℕ → Result
+payloadIs called ss = of place (customPayload (ascii called) (preamble ++ ss))
+
+answerThrough : Question → List ℕ → Result
+answerThrough q ss = of place (askThrough q (preamble ++ ss))
+
+metadataThrough : String → ℕ → ℕ → List ℕ → Result
+metadataThrough format f at ss = of place (askMetadataThrough (ascii format) (record { 0 = f }) (record { 0 = at }) (preamble ++ ss))
+
+hintThrough : ℕ → ℕ → List ℕ → Result
+hintThrough f at ss = of likelihood (askHintThrough (record { 0 = f }) (record { 0 = at }) (preamble ++ ss))
+
+listingOf : List ℕ → Result
+listingOf ss = bytes (listing (preamble ++ ss))
+
+pub modules : List Example
+modules =
+    -- the 36-byte module's listing; an empty payload; a refusal alone; 65,536 bytes are read and one more is refused
+    bytes (listing (hex "00 61 73 6D 01 00 00 00 00 1A 04 6E 61 6D 65" ++ hex P)) gives bytes (ascii "sections 1\n0 8 26\nname 15 21\nhints none\n") ∷
+    listingOf (customSection "name" "") gives bytes (ascii "sections 1\n0 8 5\nname 15 0\nhints none\n") ∷
+    listingOf (ordinary 1 "00" ++ theHints "01 02") gives bytes (ascii "sections 2\n1 8 1\n0 11 28\nname none\nhints 39 2\n") ∷
+    listingOf (ordinary 13 "") gives bytes (ascii "refused 5 8\n") ∷
+    bytes (listing []) gives bytes (ascii "refused 1 0\n") ∷
+    bytes (listing (replicate 65_537 0)) gives bytes (ascii "refused 16 65536\n") ∷
+    bytes (listing (replicate 65_536 0)) gives bytes (ascii "refused 1 0\n") ∷
+    -- ids from 1 to 12 once and in order, custom sections anywhere; 6 before the size
+    walkIs (ordinary 1 "" ++ customSection "x" "" ++ ordinary 12 "") gives value 3 0 ∷
+    walkIs (ordinary 3 "" ++ (3 ∷ 0xFF ∷ [])) gives refusal 6 10 ∷
+    walkIs (ordinary 3 "" ++ ordinary 2 "") gives refusal 6 10 ∷
+    -- 6 before 8 for data, which is barred after `name`; hints after it are not
+    walkIs (ordinary 11 "" ++ customSection "name" "" ++ ordinary 11 "") gives refusal 6 17 ∷
+    walkIs (customSection "name" "" ++ (11 ∷ 0xFF ∷ [])) gives refusal 8 15 ∷
+    walkIs (customSection "name" "" ++ theHints "") gives value 2 0 ∷
+    -- a second `name` that runs past the module is 2 before 7; hints, code, hints: 7 before 8
+    walkIs (customSection "name" "" ++ (0 ∷ 6 ∷ 4 ∷ ascii "name")) gives refusal 2 16 ∷
+    walkIs (customSection "name" "" ++ customSection "name" "") gives refusal 7 15 ∷
+    walkIs (theHints "" ++ ordinary 10 "" ++ theHints "") gives refusal 7 38 ∷
+    walkIs (ordinary 10 "" ++ theHints "") gives refusal 8 10 ∷
+    -- every custom name is judged; `branchHints` and a second `metadata.code.x` are ordinary custom sections
+    walkIs (0 ∷ 2 ∷ 1 ∷ 0xFF ∷ []) gives refusal 4 11 ∷
+    walkIs (ordinary 10 "" ++ customSection "branchHints" "" ++ customSection "branchHints" "") gives value 3 0 ∷
+    walkIs (customSection "metadata.code.x" "" ++ customSection "metadata.code.x" "") gives value 2 0 ∷
+    -- a section's name may have a padded length; the first of a name answers; none past the last
+    payloadIs "x" (0 ∷ 5 ∷ 0x81 ∷ 0 ∷ 0x78 ∷ 7 ∷ 7 ∷ []) gives found 13 2 ∷
+    payloadIs "x" (customSection "x" "01" ++ customSection "x" "02 03") gives found 12 1 ∷
+    payloadIs "y" (customSection "x" "01") gives isNone ∷
+    sectionIs 1 (ordinary 1 "AA" ++ ordinary 2 "AA AA") gives found 11 2 ∷
+    sectionIs 2 (ordinary 1 "AA" ++ ordinary 2 "AA AA") gives isNone ∷
+    -- a module damaged anywhere is refused, whichever section was asked for
+    payloadIs "x" (customSection "x" "01" ++ ordinary 13 "") gives refusal 5 13 ∷
+    -- through a module: none without the section; the walk's refusals first; offsets from the module's start
+    answerThrough (function 3) (customSection "name" P) gives found 27 1 ∷
+    answerThrough (function 3) (ordinary 1 "") gives isNone ∷
+    answerThrough (function 3) (customSection "name" "01 00" ++ ordinary 13 "") gives refusal 5 17 ∷
+    answerThrough (function 3) (customSection "name" "01 00") gives refusal 2 17 ∷
+    -- only the payload asked is judged; generic metadata called branch_hint is judged by the rules of hints; an empty T
+    answerThrough moduleName (theHints "02" ++ customSection "name" "00 01 00") gives found 47 0 ∷
+    metadataThrough "branch_hint" 2 5 (theHints "01 02 01 05 01 02") gives refusal 12 40 ∷
+    metadataThrough "branch_hint" 2 5 (theHints "01 02 01 05 01 01") gives found 41 1 ∷
+    metadataThrough "" 2 5 (customSection "metadata.code." "01 02 01 05 01 02") gives found 30 1 ∷
+    hintThrough 2 5 (theHints "01 02 01 05 01 01") gives isLikely ∷
+    hintThrough 2 5 (ordinary 1 "") gives isNone ∷
+    []
+
+pub modules-hold : map computed modules ≡ map stated modules
+unfolding modules computed stated ordinary customSection theHints walkIs sectionIs payloadIs answerThrough metadataThrough hintThrough listingOf function localIn tag P hex digit of place likelihood ascii same number groups shortest fewest utf8 continues following wellFormed sized name remaining lookup rows table preamble begins greatestId isCustom isCode isData rank custom isCalled nameSection hintSection nothing seeing section sections framing walk sectionCount sectionAt payloadIn customPayload known knownKind contents subsections payload judgeNames answer asked idOf queryOf askAt ask hintOf anyItem hintItem metadata judgeMetadata itemAt askMetadata hintIn askHint writePart through askThrough metadataSection itemOf askMetadataThrough askHintThrough digits decimal word line sectionLines payloadLine printed greatestInput listing
+modules-hold = refl

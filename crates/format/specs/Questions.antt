@@ -1,0 +1,105 @@
+-- Questions to a name payload. Each answer is none, or the part of what was lent that is asked for, or a refusal. Assumes nothing.
+use Prim.Native.Nat.{ℕ, _<_}
+use mathlib.Core.List.{List, []}
+use mathlib.Core.Option.{Option, none, some}
+use Rattle.format.specs.Reading.{Judged, accepted, refused, mapJudged}
+use Rattle.format.specs.Numbers.{limit32}
+use Rattle.format.specs.Options.{thenSome, mapSome}
+use Rattle.format.specs.Parts.{Part, Place, placeOf}
+use Rattle.format.specs.Tables.{Table, lookup}
+use Rattle.format.specs.Names.{Kind, Content, single, names, namesBy, whole, knownKind, judgeNames}
+use Rattle.format.specs.declared.FunctionIndex.{FunctionIndex}
+use Rattle.format.specs.declared.LocalIndex.{LocalIndex}
+use Rattle.format.specs.declared.TypeIndex.{TypeIndex}
+use Rattle.format.specs.declared.FieldIndex.{FieldIndex}
+use Rattle.format.specs.declared.TagIndex.{TagIndex}
+
+-- What can be asked of one subsection: its name, the name with an index, the name with an index within another, its contents if kept
+pub data Query : Type 0 where
+  itsName itsContents : Query
+  nameOf : ℕ → Query
+  nameWithin : ℕ → ℕ → Query
+
+module _ {X : Type 0} where
+  abbrev pub answerIn : Query → Content X → Option X
+  answerIn itsName (single x) = some x
+  answerIn itsName (names t) = none
+  answerIn itsName (namesBy t) = none
+  answerIn itsName (whole x) = none
+  answerIn (nameOf k) (single x) = none
+  answerIn (nameOf k) (names t) = lookup k t
+  answerIn (nameOf k) (namesBy t) = none
+  answerIn (nameOf k) (whole x) = none
+  answerIn (nameWithin k j) (single x) = none
+  answerIn (nameWithin k j) (names t) = none
+  answerIn (nameWithin k j) (namesBy t) = thenSome (lookup k t) (lookup j)
+  answerIn (nameWithin k j) (whole x) = none
+  answerIn itsContents (single x) = none
+  answerIn itsContents (names t) = none
+  answerIn itsContents (namesBy t) = none
+  answerIn itsContents (whole x) = some x
+
+  -- asked of the subsection with an id
+  unfoldable pub answer : ℕ → Query → Table (Content X) → Option X
+  answer id q t = thenSome (lookup id t) (answerIn q)
+
+-- over any table of ids, of a payload that begins at an offset
+unfoldable pub asked : (ℕ → Kind) → ℕ → Query → ℕ → List ℕ → Judged (Option Part)
+asked kindOf id q at bs = mapJudged (answer id q) (judgeNames kindOf at bs)
+
+-- The questions, each index in a space of its own
+pub data Question : Type 0 where
+  moduleName : Question
+  functionName : FunctionIndex → Question
+  typeName : TypeIndex → Question
+  tagName : TagIndex → Question
+  localName : FunctionIndex → LocalIndex → Question
+  fieldName : TypeIndex → FieldIndex → Question
+  keptContents : ℕ → Question
+
+unfoldable pub idOf : Question → ℕ
+idOf moduleName = 0
+idOf (functionName k) = 1
+idOf (localName k j) = 2
+idOf (typeName k) = 4
+idOf (fieldName k j) = 10
+idOf (tagName k) = 11
+idOf (keptContents id) = id
+
+unfoldable pub queryOf : Question → Query
+queryOf moduleName = itsName
+queryOf (functionName k) = nameOf (k .0)
+queryOf (localName k j) = nameWithin (k .0) (j .0)
+queryOf (typeName k) = nameOf (k .0)
+queryOf (fieldName k j) = nameWithin (k .0) (j .0)
+queryOf (tagName k) = nameOf (k .0)
+queryOf (keptContents id) = itsContents
+
+-- what can be put as a question: an index has 32 bits, an id is a byte
+unfoldable pub Allowed : Question → Type 0
+Allowed moduleName = Unit {0}
+Allowed (functionName k) = k .0 < limit32
+Allowed (localName k j) = (k .0 < limit32) × (j .0 < limit32)
+Allowed (typeName k) = k .0 < limit32
+Allowed (fieldName k j) = (k .0 < limit32) × (j .0 < limit32)
+Allowed (tagName k) = k .0 < limit32
+Allowed (keptContents id) = id < 256
+
+-- asked of a payload that begins at an offset of what was lent
+unfoldable pub askAt : Question → ℕ → List ℕ → Judged (Option Part)
+askAt q at bs = asked knownKind (idOf q) (queryOf q) at bs
+
+unfoldable pub ask : Question → List ℕ → Judged (Option Part)
+ask q bs = askAt q 0 bs
+
+-- The answer as a place; as bytes, none for none and for a refusal; and without its offset, as answers are compared
+unfoldable pub asPlace : Judged (Option Part) → Judged (Option Place)
+asPlace j = mapJudged (mapSome placeOf) j
+
+unfoldable pub asBytes : Judged (Option Part) → List ℕ
+asBytes (accepted none) = []
+asBytes (accepted (some p)) = p .bytes
+asBytes (refused n at) = []
+
+unfoldable pub asTold : Judged (Option Part) → Judged (Option (List ℕ))
+asTold j = mapJudged (mapSome (λ p. p .bytes)) j

@@ -1,0 +1,38 @@
+-- Refusal numbers: what each is given for. Where its offset points is said where it is given. Assumes nothing.
+use Prim.Native.Nat.{ℕ}
+use Rattle.format.specs.declared.Reason.{Reason}
+use Rattle.format.specs.declared.Reason.the-variants.{NoPreamble, PastItsPart, NumberTooLarge, NotText, SectionUnknown, SectionOrder, SectionTwice, SectionTooLate, SubsectionOrder, LeftOver, NotAbove, NotHint, OutputTooShort, ListsDisagree, SubsectionTooLarge, InputTooLarge}
+
+abbrev pub numberOf : Reason → ℕ
+-- preamble missing or different
+numberOf NoPreamble = 1
+-- a number, name or sized part runs past its enclosing part
+numberOf PastItsPart = 2
+-- fifth byte of a number above 0x0F
+numberOf NumberTooLarge = 3
+-- text not UTF-8
+numberOf NotText = 4
+-- section id above 12
+numberOf SectionUnknown = 5
+-- section repeated or out of order
+numberOf SectionOrder = 6
+-- second `name` or `metadata.code.branch_hint`
+numberOf SectionTwice = 7
+-- data after `name`; hints after code
+numberOf SectionTooLate = 8
+-- subsection id not above the one before
+numberOf SubsectionOrder = 9
+-- bytes left over in a subsection or a metadata payload
+numberOf LeftOver = 10
+-- index or offset not above the one before
+numberOf NotAbove = 11
+-- hint of size other than 1, or data above 1
+numberOf NotHint = 12
+-- output shorter than needed
+numberOf OutputTooShort = 13
+-- lists disagree: unequal counts, or lengths that don't add up to the text
+numberOf ListsDisagree = 14
+-- subsection would exceed 4,294,967,295 bytes
+numberOf SubsectionTooLarge = 15
+-- program input above 65,536 bytes
+numberOf InputTooLarge = 16

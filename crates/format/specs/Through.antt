@@ -1,0 +1,38 @@
+-- Questions through a module: the walk first; then the payload is judged and asked, and its offsets count from the module's start. An accepted module without the section gets none. Assumes nothing.
+use Prim.Native.Nat.{ℕ}
+use mathlib.Core.Bool.{cond}
+use mathlib.Core.List.{List, _++_}
+use mathlib.Core.Option.{Option, none, some}
+use Rattle.format.specs.Bytes.{ascii, same}
+use Rattle.format.specs.Reading.{Reader, Judged, accepted, judgedThen}
+use Rattle.format.specs.Parts.{Part}
+use Rattle.format.specs.Walk.{nameSection, hintSection, customPayload}
+use Rattle.format.specs.Questions.{Question, askAt}
+use Rattle.format.specs.Metadata.{anyItem, hintItem, askMetadata, askHint}
+use Rattle.format.specs.declared.FunctionIndex.{FunctionIndex}
+use Rattle.format.specs.declared.CodeOffset.{CodeOffset}
+use Rattle.format.specs.declared.Hint.{Hint}
+
+abbrev pub orNone : {A : Type 0} → Option Part → (ℕ → List ℕ → Judged (Option A)) → Judged (Option A)
+orNone none question = accepted none
+orNone (some p) question = question (p .at) (p .bytes)
+
+-- a question put to the payload of the first custom section of a name
+unfoldable pub through : {A : Type 0} → List ℕ → (ℕ → List ℕ → Judged (Option A)) → List ℕ → Judged (Option A)
+through x question m = judgedThen (customPayload x m) (λ found. orNone found question)
+
+unfoldable pub askThrough : Question → List ℕ → Judged (Option Part)
+askThrough q m = through nameSection (askAt q) m
+
+-- metadata.code.T, where T = branch_hint is read by the rules of hints
+unfoldable pub metadataSection : List ℕ → List ℕ
+metadataSection format = ascii "metadata.code." ++ format
+
+unfoldable pub itemOf : List ℕ → Reader Part
+itemOf format = cond (same format (ascii "branch_hint")) hintItem anyItem
+
+unfoldable pub askMetadataThrough : List ℕ → FunctionIndex → CodeOffset → List ℕ → Judged (Option Part)
+askMetadataThrough format f at m = through (metadataSection format) (askMetadata (itemOf format) f at) m
+
+unfoldable pub askHintThrough : FunctionIndex → CodeOffset → List ℕ → Judged (Option Hint)
+askHintThrough f at m = through hintSection (askHint f at) m

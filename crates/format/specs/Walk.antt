@@ -1,0 +1,129 @@
+-- The framing of a module. The first 8 bytes are 00 61 73 6D 01 00 00 00. Then sections to the end: id byte, size number, that many bytes of contents. Assumes nothing.
+use Prim.Native.Nat.{ℕ, zero, suc}
+use mathlib.Core.Bool.{Bool, true, false, not, cond, _&&_, _||_}
+use mathlib.Core.List.{List, [], _∷_}
+use mathlib.Core.Option.{Option, none, some}
+use lib.Dec.{ltb, leb, eqb}
+use lib.ListN.{length, getElem?}
+use Rattle.format.specs.Bytes.{ascii, same}
+use Rattle.format.specs.Reading.{Outcome, got, Reader, _>>=_, _>>_, return, refuse, checked, Judged, judge, mapJudged}
+use Rattle.format.specs.Parts.{Part, sized, name, remaining, inside}
+use Rattle.format.specs.declared.Reason.the-variants.{NoPreamble, SectionUnknown, SectionOrder, SectionTwice, SectionTooLate}
+
+unfoldable pub preamble : List ℕ
+preamble = 0x00 ∷ 0x61 ∷ 0x73 ∷ 0x6D ∷ 0x01 ∷ 0x00 ∷ 0x00 ∷ 0x00 ∷ []
+
+-- refusal 1 gives offset 0
+unfoldable pub begins : List ℕ → Reader (Unit {0})
+begins [] o bs = got tt o bs
+begins (x ∷ xs) o [] = refuse NoPreamble 0 o []
+begins (x ∷ xs) o (b ∷ bs) = cond (eqb x b) (begins xs (suc o) bs) (refuse NoPreamble 0 o bs)
+
+-- Ids are 0 to 12. Id 0 is custom; the others occur at most once, in increasing order of id
+unfoldable pub greatestId : ℕ
+greatestId = 12
+
+unfoldable pub isCustom : ℕ → Bool
+isCustom id = eqb id 0
+
+unfoldable pub isCode : ℕ → Bool
+isCode id = eqb id 10
+
+unfoldable pub isData : ℕ → Bool
+isData id = eqb id 11
+
+-- where an id stands in the order
+unfoldable pub rank : ℕ → ℕ
+rank id = id
+
+-- a custom section's contents begin with a name; the rest is its payload
+pub record Custom : Type 0 where
+  pub name : Part
+  pub payload : Part
+
+unfoldable pub custom : ℕ → Reader (Option Custom)
+custom zero = do
+  n ← name
+  p ← remaining
+  return (some (record { name = n; payload = p }))
+custom (suc id) = return none
+
+-- the bytes of the name are compared exactly
+unfoldable pub isCalled : List ℕ → Option Custom → Bool
+isCalled x none = false
+isCalled x (some c) = same x (c .name .bytes)
+
+unfoldable pub nameSection : List ℕ
+nameSection = ascii "name"
+
+unfoldable pub hintSection : List ℕ
+hintSection = ascii "metadata.code.branch_hint"
+
+-- a section: its id, the offset of the id byte, the contents, and what they are if it is custom
+pub record Section : Type 0 where
+  pub id : ℕ
+  pub at : ℕ
+  pub contents : Part
+  pub custom : Option Custom
+
+-- What the rules need to know of the sections before: the rank of the last that is not custom, and which of these there were
+pub record Seen : Type 0 where
+  pub rank : ℕ
+  pub code : Bool
+  pub name : Bool
+  pub hints : Bool
+
+unfoldable pub nothing : Seen
+nothing = record { rank = 0; code = false; name = false; hints = false }
+
+unfoldable pub seeing : Seen → Section → Seen
+seeing seen s = record {
+  rank = cond (isCustom (s .id)) (seen .rank) (rank (s .id));
+  code = seen .code || isCode (s .id);
+  name = seen .name || isCalled nameSection (s .custom);
+  hints = seen .hints || isCalled hintSection (s .custom);
+}
+
+-- One section, whose id byte stands at an offset. At most one `name` and at most one `metadata.code.branch_hint`; no data after `name`; no hints after code. Refusals 5 to 8 give the id byte
+unfoldable pub section : Seen → ℕ → ℕ → Reader Section
+section seen at id = do
+  checked (leb id greatestId) SectionUnknown at
+  checked (isCustom id || ltb (seen .rank) (rank id)) SectionOrder at
+  checked (not (isData id && seen .name)) SectionTooLate at
+  part ← sized
+  c ← inside (custom id) part
+  checked (not (isCalled nameSection c && seen .name)) SectionTwice at
+  checked (not (isCalled hintSection c && seen .hints)) SectionTwice at
+  checked (not (isCalled hintSection c && seen .code)) SectionTooLate at
+  return (record { id = id; at = at; contents = part; custom = c })
+
+-- sections up to the end; `most` bounds their number and is never met
+unfoldable pub sections : (most : ℕ) → Seen → Reader (List Section)
+sections zero seen o bs = got [] o bs
+sections (suc most) seen o [] = got [] o []
+sections (suc most) seen o (id ∷ bs) = (do
+  s ← section seen o id
+  more ← sections most (seeing seen s)
+  return (s ∷ more)) (suc o) bs
+
+unfoldable pub framing : Reader (List Section)
+framing o bs = (do
+  begins preamble
+  sections (length bs) nothing) o bs
+
+unfoldable pub walk : List ℕ → Judged (List Section)
+walk m = judge (framing 0 m)
+
+-- The walk answers: the count of sections; the section at a position, counted from 0; the payload of the first custom section of a name
+unfoldable pub sectionCount : List ℕ → Judged ℕ
+sectionCount m = mapJudged length (walk m)
+
+unfoldable pub sectionAt : ℕ → List ℕ → Judged (Option Section)
+sectionAt position m = mapJudged (λ ss. getElem? ss position) (walk m)
+
+unfoldable pub payloadIn : List ℕ → List Section → Option Part
+payloadIn x [] = none
+payloadIn x (s ∷ ss) = elim (s .custom) [ none ↦ payloadIn x ss | some c ↦ cond (same x (c .name .bytes)) (some (c .payload)) (payloadIn x ss) ]
+
+unfoldable pub customPayload : List ℕ → List ℕ → Judged (Option Part)
+customPayload x m = mapJudged (payloadIn x) (walk m)

@@ -1,0 +1,76 @@
+// The types that every crate shares. What they mean is written in specs/.
+ghost use mathlib.Core.Path.{_≡_};
+ghost use Rattle.format.specs.Refusals.{numberOf};
+
+// A byte offset, counted from the start of what was lent.
+pub struct Offset(pub usize);
+
+// One type for each index space, so that one is not accepted for another.
+pub struct FunctionIndex(pub u32);
+
+pub struct LocalIndex(pub u32);
+
+pub struct TypeIndex(pub u32);
+
+pub struct FieldIndex(pub u32);
+
+pub struct TagIndex(pub u32);
+
+// Where in a function a piece of code metadata belongs: a byte offset within that function.
+pub struct CodeOffset(pub u32);
+
+// Why an input is refused, in the order of the numbers 1 to 16.
+pub enum Reason {
+    NoPreamble,
+    PastItsPart,
+    NumberTooLarge,
+    NotText,
+    SectionUnknown,
+    SectionOrder,
+    SectionTwice,
+    SectionTooLate,
+    SubsectionOrder,
+    LeftOver,
+    NotAbove,
+    NotHint,
+    OutputTooShort,
+    ListsDisagree,
+    SubsectionTooLarge,
+    InputTooLarge,
+}
+
+pub struct Refusal {
+    pub reason: Reason,
+    pub offset: Offset,
+}
+
+pub enum Hint {
+    Unlikely,
+    Likely,
+}
+
+impl Reason {
+    // The number that a host sees and may store.
+    pub fn number(self) -> u32
+        ensures { λ r. ⌜ r ≡ numberOf self ⌝ }
+    {
+        match self {
+            Reason::NoPreamble => 1,
+            Reason::PastItsPart => 2,
+            Reason::NumberTooLarge => 3,
+            Reason::NotText => 4,
+            Reason::SectionUnknown => 5,
+            Reason::SectionOrder => 6,
+            Reason::SectionTwice => 7,
+            Reason::SectionTooLate => 8,
+            Reason::SubsectionOrder => 9,
+            Reason::LeftOver => 10,
+            Reason::NotAbove => 11,
+            Reason::NotHint => 12,
+            Reason::OutputTooShort => 13,
+            Reason::ListsDisagree => 14,
+            Reason::SubsectionTooLarge => 15,
+            Reason::InputTooLarge => 16,
+        }
+    }
+}
