@@ -19,7 +19,7 @@ use Rattle.format.specs.Canonical.{writePart, writeRows, writeTable, unl
 use Rattle.format.specs.Outputs.{fitting, writeAnswer, outputAfter}
 use Rattle.format.specs.Lists.{sum, listed, unsortedAt, badTextAt, subsection, functionNames}
 use Rattle.format.specs.Through.{through, askThrough, metadataSection, itemOf, askMetadataThrough, askHintThrough}
-use Rattle.format.specs.Listing.{digits, decimal, word, line, sectionLines, payloadLine, printed, greatestInput, listing}
+use Rattle.format.specs.Listing.{digits, decimal, piece, line, sectionLines, payloadLine, printed, greatestInput, listing}
 use Rattle.format.specs.Examples.{digit, hex, Result, value, isAccepted, isNone, isLikely, isUnlikely, found, bytes, refusal, ofOutcome, of, place, likelihood, numberIs, namesAre, answerIs, canonicalIs, hintIs, function, localIn, P, Example, _gives_, computed, stated}
 
 nameIs : String → Result
@@ -204,5 +204,5 @@ modules =
     []
 
 pub modules-hold : map computed modules ≡ map stated modules
-unfolding modules computed stated ordinary customSection theHints walkIs sectionIs payloadIs answerThrough metadataThrough hintThrough listingOf function localIn tag P hex digit of place likelihood ascii same number groups shortest fewest utf8 continues following wellFormed sized name remaining lookup rows table preamble begins greatestId isCustom isCode isData rank custom isCalled nameSection hintSection nothing seeing section sections framing walk sectionCount sectionAt payloadIn customPayload known knownKind contents subsections payload judgeNames answer asked idOf queryOf askAt ask hintOf anyItem hintItem metadata judgeMetadata itemAt askMetadata hintIn askHint writePart through askThrough metadataSection itemOf askMetadataThrough askHintThrough digits decimal word line sectionLines payloadLine printed greatestInput listing
+unfolding modules computed stated ordinary customSection theHints walkIs sectionIs payloadIs answerThrough metadataThrough hintThrough listingOf function localIn tag P hex digit of place likelihood ascii same number groups shortest fewest utf8 continues following wellFormed sized name remaining lookup rows table preamble begins greatestId isCustom isCode isData rank custom isCalled nameSection hintSection nothing seeing section sections framing walk sectionCount sectionAt payloadIn customPayload known knownKind contents subsections payload judgeNames answer asked idOf queryOf askAt ask hintOf anyItem hintItem metadata judgeMetadata itemAt askMetadata hintIn askHint writePart through askThrough metadataSection itemOf askMetadataThrough askHintThrough digits decimal piece line sectionLines payloadLine printed greatestInput listing
 modules-hold = refl

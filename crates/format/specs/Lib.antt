@@ -17,3 +17,4 @@ pub mod Lists
 pub mod Listing
 pub mod Examples
 pub mod Cases
+pub mod Laws

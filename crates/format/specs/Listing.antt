@@ -21,19 +21,19 @@ digits (suc most) n after = elim (ltb n 10) [ true ↦ (48 + n) ∷ after | fals
 unfoldable pub decimal : ℕ → List ℕ
 decimal n = digits (suc n) n []
 
--- words and numbers of a line, one space between them
-pub data Word : Type 0 where
-  text : String → Word
-  num : ℕ → Word
+-- the pieces of a line, words and numbers, one space between them
+pub data Piece : Type 0 where
+  text : String → Piece
+  num : ℕ → Piece
 
-unfoldable pub word : Word → List ℕ
-word (text s) = ascii s
-word (num n) = decimal n
+unfoldable pub piece : Piece → List ℕ
+piece (text s) = ascii s
+piece (num n) = decimal n
 
-unfoldable pub line : List Word → List ℕ
+unfoldable pub line : List Piece → List ℕ
 line [] = ascii "\n"
-line (w ∷ []) = word w ++ ascii "\n"
-line (w ∷ v ∷ ws) = word w ++ (ascii " " ++ line (v ∷ ws))
+line (p ∷ []) = piece p ++ ascii "\n"
+line (p ∷ q ∷ ps) = piece p ++ (ascii " " ++ line (q ∷ ps))
 
 -- sections in file order: id, offset of the id byte, contents length
 unfoldable pub sectionLines : List Section → List ℕ

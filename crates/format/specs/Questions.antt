@@ -2,12 +2,13 @@
 use Prim.Native.Nat.{ℕ, _<_}
 use mathlib.Core.List.{List, []}
 use mathlib.Core.Option.{Option, none, some}
+use mathlib.Core.Path.{_≡_}
 use Rattle.format.specs.Reading.{Judged, accepted, refused, mapJudged}
 use Rattle.format.specs.Numbers.{limit32}
 use Rattle.format.specs.Options.{thenSome, mapSome}
 use Rattle.format.specs.Parts.{Part, Place, placeOf}
 use Rattle.format.specs.Tables.{Table, lookup}
-use Rattle.format.specs.Names.{Kind, Content, single, names, namesBy, whole, knownKind, judgeNames}
+use Rattle.format.specs.Names.{Kind, oneName, nameMap, indirectMap, Content, single, names, namesBy, whole, knownKind, judgeNames}
 use Rattle.format.specs.declared.FunctionIndex.{FunctionIndex}
 use Rattle.format.specs.declared.LocalIndex.{LocalIndex}
 use Rattle.format.specs.declared.TypeIndex.{TypeIndex}
@@ -43,7 +44,14 @@ module _ {X : Type 0} where
   unfoldable pub answer : ℕ → Query → Table (Content X) → Option X
   answer id q t = thenSome (lookup id t) (answerIn q)
 
--- over any table of ids, of a payload that begins at an offset
+-- What may be asked over a table of ids: of an id what its kind holds, and of any id its contents as kept. An index has 32 bits, and an id is a byte
+pub data Allowed (kindOf : ℕ → Kind) : ℕ → Query → Type 0 where
+  anId : {id : ℕ} → kindOf id ≡ oneName → Allowed kindOf id itsName
+  anIndex : {id k : ℕ} → kindOf id ≡ nameMap → k < limit32 → Allowed kindOf id (nameOf k)
+  twoIndices : {id k j : ℕ} → kindOf id ≡ indirectMap → k < limit32 → j < limit32 → Allowed kindOf id (nameWithin k j)
+  anyId : {id : ℕ} → id < 256 → Allowed kindOf id itsContents
+
+-- asked of a payload that begins at an offset
 unfoldable pub asked : (ℕ → Kind) → ℕ → Query → ℕ → List ℕ → Judged (Option Part)
 asked kindOf id q at bs = mapJudged (answer id q) (judgeNames kindOf at bs)
 
@@ -75,15 +83,15 @@ queryOf (fieldName k j) = nameWithin (k .0) (j .0)
 queryOf (tagName k) = nameOf (k .0)
 queryOf (keptContents id) = itsContents
 
--- what can be put as a question: an index has 32 bits, an id is a byte
-unfoldable pub Allowed : Question → Type 0
-Allowed moduleName = Unit {0}
-Allowed (functionName k) = k .0 < limit32
-Allowed (localName k j) = (k .0 < limit32) × (j .0 < limit32)
-Allowed (typeName k) = k .0 < limit32
-Allowed (fieldName k j) = (k .0 < limit32) × (j .0 < limit32)
-Allowed (tagName k) = k .0 < limit32
-Allowed (keptContents id) = id < 256
+-- an index has 32 bits, an id is a byte
+unfoldable pub InRange : Question → Type 0
+InRange moduleName = Unit {0}
+InRange (functionName k) = k .0 < limit32
+InRange (localName k j) = (k .0 < limit32) × (j .0 < limit32)
+InRange (typeName k) = k .0 < limit32
+InRange (fieldName k j) = (k .0 < limit32) × (j .0 < limit32)
+InRange (tagName k) = k .0 < limit32
+InRange (keptContents id) = id < 256
 
 -- asked of a payload that begins at an offset of what was lent
 unfoldable pub askAt : Question → ℕ → List ℕ → Judged (Option Part)

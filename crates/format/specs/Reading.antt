@@ -2,6 +2,7 @@
 use Prim.Native.Nat.{ℕ}
 use mathlib.Core.Bool.{Bool, true, false}
 use mathlib.Core.List.{List, [], _∷_}
+use mathlib.Core.Path.{_≡_}
 use Rattle.format.specs.Refusals.{numberOf}
 use Rattle.format.specs.declared.Reason.{Reason}
 use Rattle.format.specs.declared.Reason.the-variants.{LeftOver}
@@ -69,3 +70,8 @@ judgedThen (refused n at) f = refused n at
 abbrev pub mapJudged : {A B : Type 0} → (A → B) → Judged A → Judged B
 mapJudged f (accepted v) = accepted (f v)
 mapJudged f (refused n at) = refused n at
+
+-- what a judgement accepts
+pub record Accepted {A : Type 0} (judgement : List ℕ → Judged A) (bs : List ℕ) : Type 0 where
+  pub value : A
+  pub judged : judgement bs ≡ accepted value

@@ -1,0 +1,15 @@
+pub mod Outcomes
+pub mod Options
+pub mod Numbers
+pub mod Turns
+pub mod Codecs
+pub mod Tables
+pub mod Groups
+pub mod Names
+pub mod Passing
+pub mod Trimming
+pub mod Answers
+pub mod CanonicalNames
+pub mod CanonicalMetadata
+pub mod Refusals
+pub mod Hints

@@ -1,0 +1,102 @@
+-- Answers: in bytes they are the bytes of the part that is answered; what may not be asked gets none; the document's questions are exactly those that its table allows.
+use Prim.Native.Nat.{ℕ, zero, suc, _≤_, _<_}
+use mathlib.Core.Bool.{Bool, true, false, true≢false}
+use mathlib.Core.List.{List, [], _∷_}
+use mathlib.Core.Option.{Option, none, some}
+use mathlib.Core.Path.{_≡_, refl, sym, ap, _∙_}
+use native.Mathlib.Omega.{arith}
+use borrow.Author.Tests.{ltb-true, ltb-false, eqb-true}
+use lib.Dec.{ltb, eqb}
+use lib.ListN.{length}
+use Rattle.format.specs.Bytes.{Bytes}
+use Rattle.format.specs.Reading.{Outcome, got, Judged, accepted, judge, Accepted}
+use Rattle.format.specs.Numbers.{limit32}
+use Rattle.format.specs.Options.{thenSome, mapSome}
+use Rattle.format.specs.Parts.{Part}
+use Rattle.format.specs.Tables.{Table, nil, row, lookup, mapTable}
+use Rattle.format.specs.Names.{Kind, oneName, nameMap, indirectMap, kept, Content, single, names, namesBy, whole, known, knownKind, subsections, payload, judgeNames}
+use Rattle.format.specs.Questions.{Query, itsName, itsContents, nameOf, nameWithin, answerIn, answer, Allowed, anId, anIndex, twoIndices, anyId, asked, Question, moduleName, functionName, typeName, tagName, localName, fieldName, keptContents, idOf, queryOf, InRange, asTold}
+use Rattle.format.specs.Canonical.{bare}
+use Rattle.format.specs.Laws.Outcomes.{got-value, byTest, judged}
+use Rattle.format.specs.Laws.Options.{not-some, byOption, inThen}
+use Rattle.format.specs.Laws.Turns.{inSubsection}
+use Rattle.format.specs.Laws.Passing.{sized-passes, bytes-step}
+use Rattle.format.specs.Laws.Codecs.{Sorted, RowFine}
+use Rattle.format.specs.Laws.Tables.{lookup-map, lookup-fine}
+use Rattle.format.specs.Laws.Names.{ContentFine, singleFine, namesFine, namesByFine, wholeFine, SubFine, SubsectionsRead, payload-sound}
+
+bare-in : (q : Query) (c : Content Part) → answerIn q (bare c) ≡ mapSome (λ p. p .bytes) (answerIn q c)
+unfolding bare
+bare-in itsName (single x) = refl
+bare-in itsName (names t) = refl
+bare-in itsName (namesBy t) = refl
+bare-in itsName (whole x) = refl
+bare-in itsContents (single x) = refl
+bare-in itsContents (names t) = refl
+bare-in itsContents (namesBy t) = refl
+bare-in itsContents (whole x) = refl
+bare-in (nameOf k) (single x) = refl
+bare-in (nameOf k) (names t) = lookup-map (λ p. p .bytes) k t
+bare-in (nameOf k) (namesBy t) = refl
+bare-in (nameOf k) (whole x) = refl
+bare-in (nameWithin k j) (single x) = refl
+bare-in (nameWithin k j) (names t) = refl
+bare-in (nameWithin k j) (namesBy t) = rw (lookup-map (mapTable (λ p. p .bytes)) k t) (byOption (lookup k t) (λ e. rw e) (λ u e. rw e (lookup-map (λ p. p .bytes) j u)))
+bare-in (nameWithin k j) (whole x) = refl
+
+pub answer-bare : (id : ℕ) (q : Query) (t : Table (Content Part)) → answer id q (mapTable bare t) ≡ mapSome (λ p. p .bytes) (answer id q t)
+unfolding answer
+answer-bare id q t = rw (lookup-map bare id t) (byOption (lookup id t) (λ e. rw e) (λ c e. rw e (bare-in q c)))
+
+-- a number that no row has because it does not fit
+pub too-large : {A : Type 0} {Fine : A → Type 0} {t : Table A} {least : ℕ} (k : ℕ) → Sorted (RowFine Fine) least t → limit32 ≤ k → lookup k t ≡ none
+too-large {t} k s h = byOption (lookup k t) (λ e. e) (λ v e. absurd (omega (arith, lookup-fine k s e .0)))
+
+-- what is asked of a subsection is allowed, or gets none
+asked-or-none {ℓ} : {C : Type ℓ} (kindOf : ℕ → Kind) (id : ℕ) (q : Query) {k : Kind} {c : Content (List ℕ)} → id < 256 → kindOf id ≡ k → ContentFine k c → (Allowed kindOf id q → C) → (answerIn q c ≡ none → C) → C
+asked-or-none kindOf id itsName b e (singleFine h) f g = f (anId e)
+asked-or-none kindOf id itsName b e (namesFine h) f g = g refl
+asked-or-none kindOf id itsName b e (namesByFine h) f g = g refl
+asked-or-none kindOf id itsName b e wholeFine f g = g refl
+asked-or-none kindOf id (nameOf k) b e (singleFine h) f g = g refl
+asked-or-none kindOf id (nameOf k) b e (namesFine h) f g =
+    byTest (ltb k limit32) (λ t. f (anIndex e (ltb-true k limit32 t))) (λ t. g (too-large k (h .sorted) (ltb-false k limit32 t)))
+asked-or-none kindOf id (nameOf k) b e (namesByFine h) f g = g refl
+asked-or-none kindOf id (nameOf k) b e wholeFine f g = g refl
+asked-or-none kindOf id (nameWithin k j) b e (singleFine h) f g = g refl
+asked-or-none kindOf id (nameWithin k j) b e (namesFine h) f g = g refl
+asked-or-none kindOf id (nameWithin k j) b e (namesByFine {t = t} h) f g =
+    byOption (lookup k t)
+    (λ n. g (rw n))
+    (λ u n. byTest (ltb j limit32)
+    (λ s. f (twoIndices e (lookup-fine k (h .sorted) n .0) (ltb-true j limit32 s)))
+    (λ s. g (rw n (too-large j (lookup-fine k (h .sorted) n .1 .sorted) (ltb-false j limit32 s)))))
+asked-or-none kindOf id (nameWithin k j) b e wholeFine f g = g refl
+asked-or-none kindOf id itsContents b e (singleFine h) f g = g refl
+asked-or-none kindOf id itsContents b e (namesFine h) f g = g refl
+asked-or-none kindOf id itsContents b e (namesByFine h) f g = g refl
+asked-or-none kindOf id itsContents b e wholeFine f g = f (anyId b)
+
+module _ (kindOf : ℕ → Kind) where
+  -- the ids of a payload of bytes are bytes
+  subsection-byte : (most least o : ℕ) (bs : List ℕ) {t : Table (Content Part)} {o′ : ℕ} {rest : List ℕ} (id : ℕ) {c : Content Part} → Bytes bs → subsections kindOf most least o bs ≡ got t o′ rest → lookup id t ≡ some c → id < 256
+  unfolding subsections lookup
+  subsection-byte zero least o bs id b e l = absurd (not-some (rw (← got-value e) at l))
+  subsection-byte (suc most) least o [] id b e l = absurd (not-some (rw (← got-value e) at l))
+  subsection-byte (suc most) least o (i ∷ bs) id {c} b e l =
+      inSubsection kindOf most least o i bs e λ p o₁ r₁ c′ o₂ r₂ more above e₁ e₂ e₃ is.
+      let l′ : lookup id (row i c′ more) ≡ some c = rw (← is) at l in
+      byTest (eqb id i)
+      (λ t. omega (arith, eqb-true id i t, b 0))
+      (λ t. subsection-byte most (suc i) o₁ r₁ id (sized-passes (λ _ bs. Bytes bs) bytes-step (suc o) bs p o₁ r₁ (bytes-step o i bs b) e₁) e₃ (rw t at l′))
+
+  -- what is asked of an accepted payload is allowed, or gets none
+  pub allowed-or-none {ℓ} : {C : Type ℓ} {bs : List ℕ} (a : Accepted (judgeNames kindOf 0) bs) → Bytes bs → (id : ℕ) (q : Query) → (Allowed kindOf id q → C) → (answer id q (mapTable bare (a .value)) ≡ none → C) → C
+  unfolding judgeNames answer payload
+  allowed-or-none {bs = bs} a b id q f g =
+      judged (payload kindOf 0 bs) (a .judged) λ o rest r.
+      byOption (lookup id (a .value))
+      (λ n. g (rw (lookup-map bare id (a .value), n)))
+      (λ c n.
+      let is : lookup id (mapTable bare (a .value)) ≡ some (bare c) = rw (lookup-map bare id (a .value), n) in
+      asked-or-none kindOf id q (subsection-byte (length bs) 0 0 bs id b r n) refl (lookup-fine id (payload-sound kindOf 0 bs r .sorted) is .0) f (λ m. g (rw is m)))

@@ -1,0 +1,65 @@
+-- Outcomes and judgements, taken apart: what a reading that went on had read.
+use Prim.Native.Nat.{ℕ}
+use mathlib.Core.Bool.{Bool, true, false}
+use mathlib.Core.List.{List, [], _∷_}
+use mathlib.Core.Path.{_≡_, refl}
+use native.Mathlib.Omega.{arith}
+use Rattle.format.specs.Reading.{Outcome, got, stop, Reader, andThen, _>>_, checked, atEnd, Judged, accepted, refused, judge, mapJudged}
+use Rattle.format.specs.Parts.{goOn}
+use Rattle.format.specs.declared.Reason.{Reason}
+
+module _ {A : Type 0} where
+  pub not-got : {n at o : ℕ} {v : A} {bs : List ℕ} → stop n at ≡ got v o bs → ⊥
+  not-got e = let z : _≡_ {A = ℕ} 0 1 = cc in omega arith
+
+  pub got-value : {v w : A} {o o′ : ℕ} {bs bs′ : List ℕ} → got v o bs ≡ got w o′ bs′ → v ≡ w
+  got-value e = cc
+
+  pub got-next : {v w : A} {o o′ : ℕ} {bs bs′ : List ℕ} → got v o bs ≡ got w o′ bs′ → o ≡ o′
+  got-next e = cc
+
+  pub got-rest : {v w : A} {o o′ : ℕ} {bs bs′ : List ℕ} → got v o bs ≡ got w o′ bs′ → bs ≡ bs′
+  got-rest e = cc
+
+  pub not-accepted : {n at : ℕ} {v : A} → refused n at ≡ accepted v → ⊥
+  not-accepted e = let z : _≡_ {A = ℕ} 0 1 = cc in omega arith
+
+  pub accepted-is : {v w : A} → accepted v ≡ accepted w → v ≡ w
+  accepted-is e = cc
+
+-- by the value of a test
+pub byTest {ℓ} : {C : Type ℓ} (b : Bool) → (b ≡ true → C) → (b ≡ false → C) → C
+byTest true f g = f refl
+byTest false f g = g refl
+
+-- a reading that went on: what its first step got, and that the rest gave the result
+pub inTurn {ℓ} : {A B : Type 0} {C : Type ℓ} (r : Outcome A) (f : A → Reader B) {v : B} {o : ℕ} {bs : List ℕ} → andThen r f ≡ got v o bs → ((a : A) (o₁ : ℕ) (r₁ : List ℕ) → r ≡ got a o₁ r₁ → f a o₁ r₁ ≡ got v o bs → C) → C
+inTurn (got a o bs) f e k = k a o bs refl e
+inTurn (stop n at) f e k = absurd (not-got e)
+
+-- a check that was passed
+pub passed {ℓ} : {B : Type 0} {C : Type ℓ} (b : Bool) (why : Reason) (at : ℕ) (f : Reader B) (o : ℕ) (bs : List ℕ) {v : B} {o′ : ℕ} {rest : List ℕ} → (checked b why at >> f) o bs ≡ got v o′ rest → (b ≡ true → f o bs ≡ got v o′ rest → C) → C
+passed true why at f o bs e k = k refl e
+passed false why at f o bs e k = absurd (not-got e)
+
+-- nothing was left over
+pub ended {ℓ} : {A : Type 0} {C : Type ℓ} (a : A) (o : ℕ) (bs : List ℕ) {v : A} {o′ : ℕ} {rest : List ℕ} → atEnd a o bs ≡ got v o′ rest → (bs ≡ [] → a ≡ v → C) → C
+ended a o [] e k = k refl (got-value e)
+ended a o (b ∷ bs) e k = absurd (not-got e)
+
+-- what was read inside a part
+pub inPart {ℓ} : {A : Type 0} {C : Type ℓ} (r : Outcome A) (o : ℕ) (bs : List ℕ) {v : A} {o′ : ℕ} {rest : List ℕ} → goOn r o bs ≡ got v o′ rest → ((o₁ : ℕ) (r₁ : List ℕ) → r ≡ got v o₁ r₁ → o ≡ o′ → bs ≡ rest → C) → C
+inPart (got a o₁ r₁) o bs e k = k o₁ r₁ (got-is (got-value e)) (got-next e) (got-rest e)
+  where
+    got-is : {A : Type 0} {a v : A} {o₁ : ℕ} {r₁ : List ℕ} → a ≡ v → got a o₁ r₁ ≡ got v o₁ r₁
+    got-is q = cc
+inPart (stop n at) o bs e k = absurd (not-got e)
+
+-- what was accepted was read
+pub judged {ℓ} : {A : Type 0} {C : Type ℓ} (r : Outcome A) {v : A} → judge r ≡ accepted v → ((o : ℕ) (rest : List ℕ) → r ≡ got v o rest → C) → C
+judged (got a o rest) e k = k o rest (let q = accepted-is e in cc)
+judged (stop n at) e k = absurd (not-accepted e)
+
+pub mapped {ℓ} : {A B : Type 0} {C : Type ℓ} (f : A → B) (j : Judged A) {w : B} → mapJudged f j ≡ accepted w → ((v : A) → j ≡ accepted v → f v ≡ w → C) → C
+mapped f (accepted v) e k = k v refl (accepted-is e)
+mapped f (refused n at) e k = absurd (not-accepted e)

@@ -1,0 +1,37 @@
+-- Refusal numbers tell reasons apart.
+use Prim.Native.Nat.{ℕ, pred}
+use mathlib.Core.List.{List, [], _∷_}
+use mathlib.Core.Path.{_≡_, refl, sym, ap, _∙_}
+use lib.ListN.{getD}
+use Rattle.format.specs.Refusals.{numberOf}
+use Rattle.format.specs.declared.Reason.{Reason}
+use Rattle.format.specs.declared.Reason.the-variants.{NoPreamble, PastItsPart, NumberTooLarge, NotText, SectionUnknown, SectionOrder, SectionTwice, SectionTooLate, SubsectionOrder, LeftOver, NotAbove, NotHint, OutputTooShort, ListsDisagree, SubsectionTooLarge, InputTooLarge}
+
+reasons : List Reason
+reasons = NoPreamble ∷ PastItsPart ∷ NumberTooLarge ∷ NotText ∷ SectionUnknown ∷ SectionOrder ∷ SectionTwice ∷ SectionTooLate ∷ SubsectionOrder ∷ LeftOver ∷ NotAbove ∷ NotHint ∷ OutputTooShort ∷ ListsDisagree ∷ SubsectionTooLarge ∷ InputTooLarge ∷ []
+
+-- the reason with a number, counted from 1
+numbered : ℕ → Reason
+numbered n = getD reasons (pred n) NoPreamble
+
+numbered-is : (r : Reason) → numbered (numberOf r) ≡ r
+unfolding numbered reasons
+numbered-is NoPreamble = refl
+numbered-is PastItsPart = refl
+numbered-is NumberTooLarge = refl
+numbered-is NotText = refl
+numbered-is SectionUnknown = refl
+numbered-is SectionOrder = refl
+numbered-is SectionTwice = refl
+numbered-is SectionTooLate = refl
+numbered-is SubsectionOrder = refl
+numbered-is LeftOver = refl
+numbered-is NotAbove = refl
+numbered-is NotHint = refl
+numbered-is OutputTooShort = refl
+numbered-is ListsDisagree = refl
+numbered-is SubsectionTooLarge = refl
+numbered-is InputTooLarge = refl
+
+pub told-apart : (r s : Reason) → numberOf r ≡ numberOf s → r ≡ s
+told-apart r s e = sym (numbered-is r) ∙ ap numbered e ∙ numbered-is s
