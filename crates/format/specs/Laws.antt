@@ -13,3 +13,8 @@ pub mod CanonicalNames
 pub mod CanonicalMetadata
 pub mod Refusals
 pub mod Hints
+pub mod Places
+pub mod Found
+pub mod Holding
+pub mod Lists
+pub mod Questions

@@ -9,6 +9,7 @@ pub mod Tables
 pub mod Walk
 pub mod Names
 pub mod Questions
+pub mod Holding
 pub mod Metadata
 pub mod Through
 pub mod Canonical
@@ -18,3 +19,4 @@ pub mod Listing
 pub mod Examples
 pub mod Cases
 pub mod Laws
+pub mod Demands

@@ -13,6 +13,10 @@ use Rattle.format.specs.declared.Hint.the-variants.{Unlikely, Likely}
 use Rattle.format.specs.declared.Reason.the-variants.{NotHint}
 
 -- for branch hints each size is 1 and the data byte is 0 (unlikely) or 1 (likely)
+unfoldable pub dataOf : Hint → List ℕ
+dataOf Unlikely = 0 ∷ []
+dataOf Likely = 1 ∷ []
+
 unfoldable pub hintOf : List ℕ → Option Hint
 hintOf [] = none
 hintOf (zero ∷ []) = some Unlikely

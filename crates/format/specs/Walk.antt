@@ -7,6 +7,7 @@ use lib.Dec.{ltb, leb, eqb}
 use lib.ListN.{length, getElem?}
 use Rattle.format.specs.Bytes.{ascii, same}
 use Rattle.format.specs.Reading.{Outcome, got, Reader, _>>=_, _>>_, return, refuse, checked, Judged, judge, mapJudged}
+use Rattle.format.specs.Options.{orElse}
 use Rattle.format.specs.Parts.{Part, sized, name, remaining, inside}
 use Rattle.format.specs.declared.Reason.the-variants.{NoPreamble, SectionUnknown, SectionOrder, SectionTwice, SectionTooLate}
 
@@ -121,9 +122,13 @@ sectionCount m = mapJudged length (walk m)
 unfoldable pub sectionAt : ℕ → List ℕ → Judged (Option Section)
 sectionAt position m = mapJudged (λ ss. getElem? ss position) (walk m)
 
+unfoldable pub payloadOf : List ℕ → Option Custom → Option Part
+payloadOf x none = none
+payloadOf x (some c) = cond (same x (c .name .bytes)) (some (c .payload)) none
+
 unfoldable pub payloadIn : List ℕ → List Section → Option Part
 payloadIn x [] = none
-payloadIn x (s ∷ ss) = elim (s .custom) [ none ↦ payloadIn x ss | some c ↦ cond (same x (c .name .bytes)) (some (c .payload)) (payloadIn x ss) ]
+payloadIn x (s ∷ ss) = orElse (payloadOf x (s .custom)) (payloadIn x ss)
 
 unfoldable pub customPayload : List ℕ → List ℕ → Judged (Option Part)
 customPayload x m = mapJudged (payloadIn x) (walk m)

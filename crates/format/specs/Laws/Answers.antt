@@ -2,6 +2,7 @@
 use Prim.Native.Nat.{ℕ, zero, suc, _≤_, _<_}
 use mathlib.Core.Bool.{Bool, true, false, true≢false}
 use mathlib.Core.List.{List, [], _∷_}
+use mathlib.Core.Logic.{_↔_}
 use mathlib.Core.Option.{Option, none, some}
 use mathlib.Core.Path.{_≡_, refl, sym, ap, _∙_}
 use native.Mathlib.Omega.{arith}
@@ -9,7 +10,7 @@ use borrow.Author.Tests.{ltb-true, ltb-false, eqb-true}
 use lib.Dec.{ltb, eqb}
 use lib.ListN.{length}
 use Rattle.format.specs.Bytes.{Bytes}
-use Rattle.format.specs.Reading.{Outcome, got, Judged, accepted, judge, Accepted}
+use Rattle.format.specs.Reading.{Outcome, got, Judged, accepted, refused, judge, Accepted}
 use Rattle.format.specs.Numbers.{limit32}
 use Rattle.format.specs.Options.{thenSome, mapSome}
 use Rattle.format.specs.Parts.{Part}
@@ -17,7 +18,7 @@ use Rattle.format.specs.Tables.{Table, nil, row, lookup, mapTable}
 use Rattle.format.specs.Names.{Kind, oneName, nameMap, indirectMap, kept, Content, single, names, namesBy, whole, known, knownKind, subsections, payload, judgeNames}
 use Rattle.format.specs.Questions.{Query, itsName, itsContents, nameOf, nameWithin, answerIn, answer, Allowed, anId, anIndex, twoIndices, anyId, asked, Question, moduleName, functionName, typeName, tagName, localName, fieldName, keptContents, idOf, queryOf, InRange, asTold}
 use Rattle.format.specs.Canonical.{bare}
-use Rattle.format.specs.Laws.Outcomes.{got-value, byTest, judged}
+use Rattle.format.specs.Laws.Outcomes.{got-value, not-accepted, accepted-is, byTest, judged}
 use Rattle.format.specs.Laws.Options.{not-some, byOption, inThen}
 use Rattle.format.specs.Laws.Turns.{inSubsection}
 use Rattle.format.specs.Laws.Passing.{sized-passes, bytes-step}
@@ -47,6 +48,13 @@ bare-in (nameWithin k j) (whole x) = refl
 pub answer-bare : (id : ℕ) (q : Query) (t : Table (Content Part)) → answer id q (mapTable bare t) ≡ mapSome (λ p. p .bytes) (answer id q t)
 unfolding answer
 answer-bare id q t = rw (lookup-map bare id t) (byOption (lookup id t) (λ e. rw e) (λ c e. rw e (bare-in q c)))
+
+-- an answer without its offset is none exactly where the answer is
+pub told-none : (j : Judged (Option Part)) → (j ≡ accepted none) ↔ (asTold j ≡ accepted none)
+unfolding asTold
+told-none (accepted none) = (λ e. refl, λ e. refl)
+told-none (accepted (some p)) = (λ e. absurd (not-some (sym (accepted-is e))), λ e. absurd (not-some (sym (accepted-is e))))
+told-none (refused n at) = (λ e. absurd (not-accepted e), λ e. absurd (not-accepted e))
 
 -- a number that no row has because it does not fit
 pub too-large : {A : Type 0} {Fine : A → Type 0} {t : Table A} {least : ℕ} (k : ℕ) → Sorted (RowFine Fine) least t → limit32 ≤ k → lookup k t ≡ none

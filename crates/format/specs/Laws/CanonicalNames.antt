@@ -33,7 +33,7 @@ module _ (kindOf : ℕ → Kind) where
   norm-subsection : (id : ℕ) (c d : Content (List ℕ)) → SubFine kindOf id c → trim c ≡ some d → SubNorm id d
   norm-subsection id c d p e = (trim-norm (p .0) e, omega (arith, p .1, trim-shorter (p .0) e))
 
-  norm-sorted : {t : Subsections} {least : ℕ} → Sorted (SubFine kindOf) least t → Sorted SubNorm least (keepRows trim t)
+  pub norm-sorted : {t : Subsections} {least : ℕ} → Sorted (SubFine kindOf) least t → Sorted SubNorm least (keepRows trim t)
   norm-sorted s = sorted-keep trim norm-subsection s
 
   norm-stays : {t : Subsections} {least : ℕ} → Sorted SubNorm least t → keepRows trim t ≡ t
@@ -42,7 +42,7 @@ module _ (kindOf : ℕ → Kind) where
   norm-fines : {t : Subsections} {least : ℕ} → Sorted SubNorm least t → Sorted (SubFine kindOf) least t
   norm-fines s = sorted-imp (λ id c p. (norm-fine (p .0), p .1)) s
 
-  norm-answers : {t : Subsections} → Sorted (SubFine kindOf) 0 t → (id : ℕ) (q : Query) → answer id q (keepRows trim t) ≡ answer id q t
+  pub norm-answers : {t : Subsections} → Sorted (SubFine kindOf) 0 t → (id : ℕ) (q : Query) → answer id q (keepRows trim t) ≡ answer id q t
   unfolding answer
   norm-answers {t} s id q = rw (lookup-keep trim id s) (byOption (lookup id t) (λ e. rw e) (λ c e. rw e (trim-answer (lookup-fine id s e .0) q)))
 

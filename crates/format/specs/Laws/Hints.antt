@@ -12,7 +12,7 @@ use Rattle.format.specs.Options.{thenSome, mapSome, isSome}
 use Rattle.format.specs.Parts.{Part}
 use Rattle.format.specs.Tables.{lookup}
 use Rattle.format.specs.Questions.{asTold}
-use Rattle.format.specs.Metadata.{hintOf, hintItem, judgeMetadata, itemAt, askMetadata, hintIn, askHint}
+use Rattle.format.specs.Metadata.{dataOf, hintOf, hintItem, judgeMetadata, itemAt, askMetadata, hintIn, askHint}
 use Rattle.format.specs.Canonical.{rewriteMetadata, canonicalOf, canonicalHints}
 use Rattle.format.specs.Laws.Outcomes.{accepted-is}
 use Rattle.format.specs.Laws.Options.{not-some, some-is, byOption, inThen}
@@ -25,17 +25,18 @@ use Rattle.format.specs.declared.Hint.{Hint}
 use Rattle.format.specs.declared.Hint.the-variants.{Unlikely, Likely}
 
 -- a hint's data can be had back from the hint
-dataOf : Hint → List ℕ
-dataOf Unlikely = 0 ∷ []
-dataOf Likely = 1 ∷ []
-
-data-is : (x : List ℕ) {h : Hint} → hintOf x ≡ some h → x ≡ dataOf h
+pub data-is : (x : List ℕ) {h : Hint} → hintOf x ≡ some h → x ≡ dataOf h
 unfolding hintOf dataOf
 data-is [] e = absurd (not-some e)
 data-is (zero ∷ []) e = rw (← some-is e)
 data-is (suc zero ∷ []) e = rw (← some-is e)
 data-is (suc (suc b) ∷ []) e = absurd (not-some e)
 data-is (b ∷ c ∷ x) e = absurd (not-some e)
+
+pub hint-is : (h : Hint) → hintOf (dataOf h) ≡ some h
+unfolding hintOf dataOf
+hint-is Unlikely = refl
+hint-is Likely = refl
 
 is-hint : (x : List ℕ) → isSome (hintOf x) ≡ true → (h : Hint) × (hintOf x ≡ some h)
 is-hint x t = byOption (hintOf x) (λ e. absurd (false≢true (rw e at t))) (λ h e. (h, e))
@@ -85,3 +86,19 @@ hints-told a f at =
     let b = items-accepted hint-codec a in
     let one = accepted-is (sym (item-told hint-codec b f at) ∙ items-told hint-codec a f at ∙ item-told hint-codec a f at) in
     hint-told b f at ∙ ap (λ d. accepted (thenSome d hintOf)) one ∙ sym (hint-told a f at)
+
+-- a hint is found exactly where its data are
+pub hint-exactly : {bs : List ℕ} (a : AcceptedItems hint-codec bs) (f : FunctionIndex) (at : CodeOffset) (h : Hint) → (askHint f at 0 bs ≡ accepted (some h)) ↔ (itemAt f at (items hint-codec a) ≡ some (dataOf h))
+hint-exactly a f at h = (
+  λ e. inThen (itemAt f at (items hint-codec a)) hintOf (accepted-is (sym (hint-told a f at) ∙ e)) λ d e₁ e₂. e₁ ∙ ap some (data-is d e₂),
+  λ e. hint-told a f at ∙ ap accepted (rw (e, hint-is h)),
+)
+
+pub no-hint-exactly : {bs : List ℕ} (a : AcceptedItems hint-codec bs) (f : FunctionIndex) (at : CodeOffset) → (askHint f at 0 bs ≡ accepted none) ↔ (itemAt f at (items hint-codec a) ≡ none)
+no-hint-exactly a f at = (
+  λ e. byOption (itemAt f at (items hint-codec a)) (λ n. n) (λ d n.
+      let (h, r) = is-hint d (item-is-hint a f at d n) in
+      let there : thenSome (itemAt f at (items hint-codec a)) hintOf ≡ some h = rw n r in
+      absurd (not-some (sym (accepted-is (sym (hint-told a f at) ∙ e)) ∙ there))),
+  λ e. hint-told a f at ∙ ap accepted (rw e),
+)

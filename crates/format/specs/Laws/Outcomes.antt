@@ -2,9 +2,10 @@
 use Prim.Native.Nat.{ℕ}
 use mathlib.Core.Bool.{Bool, true, false}
 use mathlib.Core.List.{List, [], _∷_}
-use mathlib.Core.Path.{_≡_, refl}
+use mathlib.Core.Logic.{_↔_}
+use mathlib.Core.Path.{_≡_, refl, sym, ap, _∙_}
 use native.Mathlib.Omega.{arith}
-use Rattle.format.specs.Reading.{Outcome, got, stop, Reader, andThen, _>>_, checked, atEnd, Judged, accepted, refused, judge, mapJudged}
+use Rattle.format.specs.Reading.{Outcome, got, stop, Reader, andThen, _>>_, checked, atEnd, Judged, accepted, refused, judge, judgedThen, mapJudged}
 use Rattle.format.specs.Parts.{goOn}
 use Rattle.format.specs.declared.Reason.{Reason}
 
@@ -63,3 +64,19 @@ judged (stop n at) e k = absurd (not-accepted e)
 pub mapped {ℓ} : {A B : Type 0} {C : Type ℓ} (f : A → B) (j : Judged A) {w : B} → mapJudged f j ≡ accepted w → ((v : A) → j ≡ accepted v → f v ≡ w → C) → C
 mapped f (accepted v) e k = k v refl (accepted-is e)
 mapped f (refused n at) e k = absurd (not-accepted e)
+
+pub followed {ℓ} : {A B : Type 0} {C : Type ℓ} (j : Judged A) (f : A → Judged B) {w : B} → judgedThen j f ≡ accepted w → ((v : A) → j ≡ accepted v → f v ≡ accepted w → C) → C
+followed (accepted v) f e k = k v refl e
+followed (refused n at) f e k = absurd (not-accepted e)
+
+-- what is known to be accepted with one value is accepted with another exactly where the two are equal
+pub accepted-exactly : {A : Type 0} {j : Judged A} {v w : A} → j ≡ accepted v → (j ≡ accepted w) ↔ (v ≡ w)
+accepted-exactly h = (λ e. accepted-is (sym h ∙ e), λ e. h ∙ ap accepted e)
+
+-- what follows from a judgement is refused exactly as the judgement is
+pub refused-exactly : {A B : Type 0} (f : A → B) (j : Judged A) {n at : ℕ} → (mapJudged f j ≡ refused n at) ↔ (j ≡ refused n at)
+refused-exactly f (accepted v) = (λ e. absurd (not-accepted (sym e)), λ e. absurd (not-accepted (sym e)))
+refused-exactly f (refused n at) = (again, again)
+  where
+    again : {A B : Type 0} {n m at at′ : ℕ} → _≡_ {A = Judged A} (refused n at) (refused m at′) → _≡_ {A = Judged B} (refused n at) (refused m at′)
+    again e = cc

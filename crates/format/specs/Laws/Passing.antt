@@ -67,3 +67,13 @@ module _ (Holds : ℕ → List ℕ → Type 0) (step : (o b : ℕ) (bs : List �
 -- bytes are followed by bytes
 pub bytes-step : (o b : ℕ) (bs : List ℕ) → Bytes (b ∷ bs) → Bytes bs
 bytes-step o b bs h i = h (suc i)
+
+-- what was read is as long as the way that was gone
+abbrev pub Reaches : ℕ → ℕ → List ℕ → Type 0
+Reaches end o bs = o + length bs ≡ end
+
+pub reach : {A : Type 0} {read : Reader A} → ((end : ℕ) → Passes (Reaches end) read) → (o : ℕ) (bs : List ℕ) {v : A} {o′ : ℕ} {rest : List ℕ} → read o bs ≡ got v o′ rest → o′ + length rest ≡ o + length bs
+reach passes o bs e = passes (o + length bs) o bs _ _ _ refl e
+
+pub reach-step : (end o b : ℕ) (bs : List ℕ) → Reaches end o (b ∷ bs) → Reaches end (suc o) bs
+reach-step end o b bs h = omega arith

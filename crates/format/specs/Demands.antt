@@ -1,0 +1,242 @@
+-- THE FRONT DOOR. What users of the library demand, as types, each under the sentence that it comes from; below each stands its proof, by the laws that it rests on. Here they are said of the definitions; the crates above say them again of their calls.
+use Prim.Native.Nat.{ℕ, _+_, _≤_, _<_}
+use mathlib.Core.List.{List, [], _++_}
+use mathlib.Core.Logic.{_↔_, Iff·trans}
+use mathlib.Core.Option.{Option, none, some}
+use mathlib.Core.Path.{_≡_, refl, sym, ap, _∙_}
+use native.Mathlib.Omega.{arith}
+use lib.ListN.{length, take, drop, length-append}
+use Rattle.format.specs.Bytes.{Bytes, ascii, same}
+use Rattle.format.specs.Reading.{Outcome, got, Reader, Judged, accepted, refused, mapJudged, Accepted}
+use Rattle.format.specs.Numbers.{number, shortest, limit32}
+use Rattle.format.specs.Parts.{Part}
+use Rattle.format.specs.Tables.{Table, mapTable}
+use Rattle.format.specs.Names.{Kind, Content, knownKind, judgeNames}
+use Rattle.format.specs.Questions.{Query, answer, Allowed, asked, Question, functionName, idOf, queryOf, InRange, askAt, ask, asTold}
+use Rattle.format.specs.Holding.{HasWithin, Holds, Lists}
+use Rattle.format.specs.Walk.{walk, nameSection, hintSection, customPayload}
+use Rattle.format.specs.Metadata.{dataOf, anyItem, hintItem, judgeMetadata, itemAt, askMetadata, hintIn, askHint}
+use Rattle.format.specs.Through.{through, askThrough, metadataSection, itemOf, askMetadataThrough, askHintThrough}
+use Rattle.format.specs.Canonical.{bare, rewriteNames, canonical, canonicalNames, rewriteMetadata, canonicalOf, canonicalMetadata, canonicalHints, writePart}
+use Rattle.format.specs.Lists.{functionNames}
+use Rattle.format.specs.Laws.Outcomes.{accepted-exactly, refused-exactly}
+use Rattle.format.specs.Laws.Codecs.{Codec, number-sound, number-back, any-codec, hint-codec}
+use Rattle.format.specs.Laws.Passing.{number-passes, Reaches, reach, reach-step}
+use Rattle.format.specs.Laws.Places.{PartIn, Located, any-located, hint-located, lies-there, lies-inside, lies-all}
+use Rattle.format.specs.Laws.Found.{name-lies, item-lies, name-lies-through, item-lies-through, through-map}
+use Rattle.format.specs.Laws.Holding.{none-exactly, within-exactly, answer-exactly}
+use Rattle.format.specs.Laws.Answers.{told-none}
+use Rattle.format.specs.Laws.Questions.{question-allowed, allowed-posed, posed-told}
+use Rattle.format.specs.Laws.CanonicalNames.{told-is, canonical-is, canonical-accepted, canonical-stays, rewriting-canonical, rewriting-told, rewriting-shorter, same-rewriting}
+use Rattle.format.specs.Laws.CanonicalMetadata.{bareItems, items-whole, item-told, items-canonical-is, items-accepted, items-told, items-again, items-shorter, same-items}
+use Rattle.format.specs.Laws.Hints.{hint-exactly, no-hint-exactly, same-hints, hints-told}
+use Rattle.format.specs.Laws.Lists.{Indices, written, listed-told, other-told, lists-stay}
+use Rattle.format.specs.declared.FunctionIndex.{FunctionIndex}
+use Rattle.format.specs.declared.CodeOffset.{CodeOffset}
+use Rattle.format.specs.declared.Hint.{Hint}
+
+-- Numbers. "Each number in its fewest bytes": they read back, and nothing shorter does.
+pub record Shortest : Type 0 where
+  pub reads-back : (v o : ℕ) (rest : List ℕ) → v < limit32 → number o (shortest v ++ rest) ≡ got v (o + length (shortest v)) rest
+  pub nothing-shorter : (o : ℕ) (bs : List ℕ) {v o′ : ℕ} {rest : List ℕ} → number o bs ≡ got v o′ rest → length (shortest v) + length rest ≤ length bs
+
+-- Demand 2. "A lookup gives the mapped name as the very bytes of the section, or none exactly when the index has no name."
+pub record VeryBytes (lent : List ℕ) (x : Part) : Type 0 where
+  pub inside : x .at + length (x .bytes) ≤ length lent
+  pub bytes : take (length (x .bytes)) (drop (x .at) lent) ≡ x .bytes
+
+module _ {A Q : Type 0} (judgement : List ℕ → Judged A) (answer : Q → List ℕ → Judged (Option Part)) (Held : A → Q → List ℕ → Type 0) where
+  pub record Answers : Type 0 where
+    -- what is found lies in what was lent, and is those very bytes
+    pub very-bytes : (q : Q) (p : List ℕ) {x : Part} → answer q p ≡ accepted (some x) → VeryBytes p x
+    -- of an accepted payload exactly what it holds is found, an empty name too
+    pub found : {p : List ℕ} (a : Accepted judgement p) (q : Q) (x : List ℕ) → (asTold (answer q p) ≡ accepted (some x)) ↔ Held (a .value) q x
+    -- and none exactly where it holds nothing: no such index, or no such map, group or subsection
+    pub none-found : {p : List ℕ} (a : Accepted judgement p) (q : Q) → (answer q p ≡ accepted none) ↔ ((x : List ℕ) → Held (a .value) q x → ⊥)
+    -- a refusal is the judgement's, whatever was asked
+    pub refuses : (q : Q) (p : List ℕ) (n at : ℕ) → (answer q p ≡ refused n at) ↔ (judgement p ≡ refused n at)
+
+-- Demand 3. "Canonical rewritings of two accepted payloads are equal byte by byte exactly when every allowed question gets the same answer from both. A rewriting is accepted, answers as its original, is never longer, and rewriting it again changes nothing."
+module _ {A Q R : Type 0} (judgement : List ℕ → Judged A) (rewriting : List ℕ → Judged (List ℕ)) (answer : Q → List ℕ → R) (Allows : Q → Type 0) where
+  pub record Rewritten (p x : List ℕ) : Type 0 where
+    pub is-accepted : Accepted judgement x
+    pub answers-alike : (q : Q) → answer q x ≡ answer q p
+    pub never-longer : length x ≤ length p
+    pub comes-to-rest : rewriting x ≡ accepted x
+
+  pub record Rewrites : Type 0 where
+    pub same-exactly : {x y : List ℕ} → Bytes x → Bytes y → Accepted judgement x → Accepted judgement y → (rewriting x ≡ rewriting y) ↔ ((q : Q) → Allows q → answer q x ≡ answer q y)
+    pub accepts : {p : List ℕ} → Accepted judgement p → (x : List ℕ) × (rewriting p ≡ accepted x)
+    pub rewritten : {p : List ℕ} (a : Accepted judgement p) (x : List ℕ) → rewriting p ≡ accepted x → Rewritten p x
+
+-- Demand 2 for hints. "For hints it is none, likely, unlikely or a refusal."
+pub record AnswersHints : Type 0 where
+  pub found : {p : List ℕ} (a : Accepted (judgeMetadata hintItem 0) p) (f : FunctionIndex) (at : CodeOffset) (h : Hint) → (askHint f at 0 p ≡ accepted (some h)) ↔ HasWithin (f .0) (at .0) (dataOf h) (bareItems (a .value))
+  pub none-found : {p : List ℕ} (a : Accepted (judgeMetadata hintItem 0) p) (f : FunctionIndex) (at : CodeOffset) → (askHint f at 0 p ≡ accepted none) ↔ ((x : List ℕ) → HasWithin (f .0) (at .0) x (bareItems (a .value)) → ⊥)
+  pub refuses : (f : FunctionIndex) (at : CodeOffset) (p : List ℕ) (n o : ℕ) → (askHint f at 0 p ≡ refused n o) ↔ (judgeMetadata hintItem 0 p ≡ refused n o)
+
+-- Demand 2 through a module. "Asked through an accepted module without the section, each gets none." "A payload asked through its module is judged after the walk and counts from the module's start."
+module _ {Q : Type 0} (section : Q → List ℕ) (answer : Q → List ℕ → Judged (Option Part)) where
+  pub record AnswersThrough : Type 0 where
+    pub very-bytes : (q : Q) (m : List ℕ) {x : Part} → answer q m ≡ accepted (some x) → VeryBytes m x
+    pub without : (q : Q) (m : List ℕ) → customPayload (section q) m ≡ accepted none → answer q m ≡ accepted none
+    pub walk-first : (q : Q) (m : List ℕ) {n at : ℕ} → walk m ≡ refused n at → answer q m ≡ refused n at
+
+-- Demand 2 for lists. "The payload written is canonical: each listed index then gives its own text, every other question gets none."
+module _ (is ns text bs : List ℕ) where
+  pub record WritesLists : Type 0 where
+    pub is-canonical : canonicalNames bs ≡ accepted bs
+    pub own-text : (k : FunctionIndex) (x : List ℕ) → Lists (k .0) x is ns text → asTold (ask (functionName k) bs) ≡ accepted (some x)
+    pub others-none : (q : Question) → ((k : FunctionIndex) (x : List ℕ) → q ≡ functionName k → Lists (k .0) x is ns text → ⊥) → asTold (ask q bs) ≡ accepted none
+
+-- THE PROOFS
+
+pub numbers-shortest : Shortest
+numbers-shortest = record {
+  reads-back = λ v o rest h.
+      let (o′, e) = number-back v o rest h in
+      let far = reach (λ end. number-passes (Reaches end) (reach-step end)) o (shortest v ++ rest) e in
+      let there : o′ ≡ o + length (shortest v) = omega (arith, far, length-append (shortest v) rest) in
+      rw there at e;
+  nothing-shorter = λ o bs e. number-sound o bs e .shorter;
+}
+
+very : {lent : List ℕ} {x : Part} → PartIn lent x → VeryBytes lent x
+very l = record { inside = lies-inside l; bytes = lies-there l }
+
+-- Names, over any table of ids; what is asked is an id and a query
+module _ (kindOf : ℕ → Kind) where
+  pub names-answered : Answers {Q = ℕ × Query} (judgeNames kindOf 0) (λ q p. asked kindOf (q .0) (q .1) 0 p) (λ t q x. Holds (q .0) (q .1) (mapTable bare t) x)
+  unfolding asked
+  names-answered = record {
+    very-bytes = λ q p e. very (name-lies kindOf (q .0) (q .1) p 0 p (lies-all p) e);
+    found = λ a q x. Iff·trans (accepted-exactly (told-is kindOf a (q .0) (q .1))) (answer-exactly kindOf a (q .0) (q .1) x);
+    none-found = λ a q. Iff·trans (told-none _) (Iff·trans (accepted-exactly (told-is kindOf a (q .0) (q .1))) (none-exactly _ (answer-exactly kindOf a (q .0) (q .1))));
+    refuses = λ q p n at. refused-exactly (answer (q .0) (q .1)) (judgeNames kindOf 0 p);
+  }
+
+  pub names-rewritten : Rewrites {Q = ℕ × Query} (judgeNames kindOf 0) (canonical kindOf) (λ q p. asTold (asked kindOf (q .0) (q .1) 0 p)) (λ q. Allowed kindOf (q .0) (q .1))
+  names-rewritten = record {
+    same-exactly = λ bx by a b. let h = same-rewriting kindOf bx by a b in (λ e q l. h .0 e (q .0) (q .1) l, λ k. h .1 (λ id q l. k (id, q) l));
+    accepts = λ a. (rewriteNames (a .value), canonical-is kindOf a);
+    rewritten = λ a x e. let is = accepted-exactly (canonical-is kindOf a) .0 e in
+        let c = rewriting-canonical kindOf a in
+        rw (← is) (record {
+          is-accepted = canonical-accepted kindOf c;
+          answers-alike = λ q. rewriting-told kindOf a (q .0) (q .1);
+          never-longer = rewriting-shorter kindOf a;
+          comes-to-rest = canonical-stays kindOf c;
+        });
+  }
+
+-- Names, as the document's questions ask for them
+pub document-names-answered : Answers (judgeNames knownKind 0) ask (λ t q x. Holds (idOf q) (queryOf q) (mapTable bare t) x)
+unfolding ask askAt
+document-names-answered = let any = names-answered knownKind in record {
+  very-bytes = λ q p e. any .very-bytes (idOf q, queryOf q) p e;
+  found = λ a q x. any .found a (idOf q, queryOf q) x;
+  none-found = λ a q. any .none-found a (idOf q, queryOf q);
+  refuses = λ q p n at. any .refuses (idOf q, queryOf q) p n at;
+}
+
+pub document-names-rewritten : Rewrites (judgeNames knownKind 0) canonicalNames (λ q p. asTold (ask q p)) InRange
+unfolding ask askAt canonicalNames
+document-names-rewritten = let any = names-rewritten knownKind in record {
+  same-exactly = λ {x} {y} bx by a b. let h = any .same-exactly bx by a b in (
+    λ e q l. h .0 e (idOf q, queryOf q) (question-allowed q l),
+    λ k. h .1 (λ q l. posed-told (allowed-posed l) x y k),
+  );
+  accepts = λ a. any .accepts a;
+  rewritten = λ a x e. let r = any .rewritten a x e in record {
+    is-accepted = r .is-accepted;
+    answers-alike = λ q. r .answers-alike (idOf q, queryOf q);
+    never-longer = r .never-longer;
+    comes-to-rest = r .comes-to-rest;
+  };
+}
+
+-- Code metadata, over any item; what is asked is a function and an offset
+module _ {item : Reader Part} {Fine : List ℕ → Type 0} (codec : Codec item (λ p. p .bytes) writePart Fine) where
+  items-exactly : {p : List ℕ} (a : Accepted (judgeMetadata item 0) p) (f : FunctionIndex) (at : CodeOffset) (x : List ℕ) → (itemAt f at (bareItems (a .value)) ≡ some x) ↔ HasWithin (f .0) (at .0) x (bareItems (a .value))
+  unfolding itemAt
+  items-exactly a f at x = within-exactly (λ _ u p. p .1 .sorted) (f .0) (at .0) (items-whole codec a .fine .sorted) x
+
+  pub metadata-answered : Located item PartIn → Answers {Q = FunctionIndex × CodeOffset} (judgeMetadata item 0) (λ q p. askMetadata item (q .0) (q .1) 0 p) (λ t q x. HasWithin (q .0 .0) (q .1 .0) x (bareItems t))
+  unfolding askMetadata
+  metadata-answered located = record {
+    very-bytes = λ q p e. very (item-lies located (q .0) (q .1) p 0 p (lies-all p) e);
+    found = λ a q x. Iff·trans (accepted-exactly (item-told codec a (q .0) (q .1))) (items-exactly a (q .0) (q .1) x);
+    none-found = λ a q. Iff·trans (told-none _) (Iff·trans (accepted-exactly (item-told codec a (q .0) (q .1))) (none-exactly _ (items-exactly a (q .0) (q .1))));
+    refuses = λ q p n at. refused-exactly (itemAt (q .0) (q .1)) (judgeMetadata item 0 p);
+  }
+
+  pub metadata-rewritten : Rewrites {Q = FunctionIndex × CodeOffset} (judgeMetadata item 0) (canonicalOf item) (λ q p. asTold (askMetadata item (q .0) (q .1) 0 p)) (λ q. (q .0 .0 < limit32) × (q .1 .0 < limit32))
+  metadata-rewritten = record {
+    same-exactly = λ bx by a b. let h = same-items codec a b in (λ e q l. h .0 e (q .0) (q .1) (l .0) (l .1), λ k. h .1 (λ f at l m. k (f, at) (l, m)));
+    accepts = λ a. (rewriteMetadata (a .value), items-canonical-is codec a);
+    rewritten = λ a x e. let is = accepted-exactly (items-canonical-is codec a) .0 e in
+        rw (← is) (record {
+          is-accepted = items-accepted codec a;
+          answers-alike = λ q. items-told codec a (q .0) (q .1);
+          never-longer = items-shorter codec a;
+          comes-to-rest = items-again codec a;
+        });
+  }
+
+pub any-metadata-answered : Answers {Q = FunctionIndex × CodeOffset} (judgeMetadata anyItem 0) (λ q p. askMetadata anyItem (q .0) (q .1) 0 p) (λ t q x. HasWithin (q .0 .0) (q .1 .0) x (bareItems t))
+any-metadata-answered = metadata-answered any-codec any-located
+
+pub any-metadata-rewritten : Rewrites {Q = FunctionIndex × CodeOffset} (judgeMetadata anyItem 0) canonicalMetadata (λ q p. asTold (askMetadata anyItem (q .0) (q .1) 0 p)) (λ q. (q .0 .0 < limit32) × (q .1 .0 < limit32))
+unfolding canonicalMetadata
+any-metadata-rewritten = metadata-rewritten any-codec
+
+-- Hints: by their data as any metadata, and by likelihood
+pub hint-data-answered : Answers {Q = FunctionIndex × CodeOffset} (judgeMetadata hintItem 0) (λ q p. askMetadata hintItem (q .0) (q .1) 0 p) (λ t q x. HasWithin (q .0 .0) (q .1 .0) x (bareItems t))
+hint-data-answered = metadata-answered hint-codec hint-located
+
+pub hints-answered : AnswersHints
+unfolding askHint askMetadata
+hints-answered = record {
+  found = λ a f at h. Iff·trans (hint-exactly a f at h) (items-exactly hint-codec a f at (dataOf h));
+  none-found = λ a f at. Iff·trans (no-hint-exactly a f at) (none-exactly _ (items-exactly hint-codec a f at));
+  refuses = λ f at p n o. Iff·trans (refused-exactly hintIn (askMetadata hintItem f at 0 p)) (refused-exactly (itemAt f at) (judgeMetadata hintItem 0 p));
+}
+
+pub hints-rewritten : Rewrites {Q = FunctionIndex × CodeOffset} (judgeMetadata hintItem 0) canonicalHints (λ q p. askHint (q .0) (q .1) 0 p) (λ q. (q .0 .0 < limit32) × (q .1 .0 < limit32))
+unfolding canonicalHints
+hints-rewritten = let any = metadata-rewritten hint-codec in record {
+  same-exactly = λ bx by a b. let h = same-hints a b in (λ e q l. h .0 e (q .0) (q .1) (l .0) (l .1), λ k. h .1 (λ f at l m. k (f, at) (l, m)));
+  accepts = λ a. any .accepts a;
+  rewritten = λ a x e. let r = any .rewritten a x e in record {
+    is-accepted = r .is-accepted;
+    answers-alike = λ q. rw (← accepted-exactly (items-canonical-is hint-codec a) .0 e) (hints-told a (q .0) (q .1));
+    never-longer = r .never-longer;
+    comes-to-rest = r .comes-to-rest;
+  };
+}
+
+-- Through a module; for metadata what is asked is a format, a function and an offset
+pub names-through : AnswersThrough (λ _. nameSection) askThrough
+unfolding askThrough through customPayload
+names-through = record {
+  very-bytes = λ q m e. very (name-lies-through q m e);
+  without = λ q m e. rw e;
+  walk-first = λ q m e. rw e;
+}
+
+pub metadata-through : AnswersThrough {Q = List ℕ × FunctionIndex × CodeOffset} (λ q. metadataSection (q .0)) (λ q m. askMetadataThrough (q .0) (q .1) (q .2) m)
+unfolding askMetadataThrough through customPayload
+metadata-through = record {
+  very-bytes = λ q m e. very (item-lies-through (q .0) (q .1) (q .2) m e);
+  without = λ q m e. rw e;
+  walk-first = λ q m e. rw e;
+}
+
+-- hints through a module are the data of `metadata.code.branch_hint`, seen as hints
+pub hints-through : (f : FunctionIndex) (at : CodeOffset) (m : List ℕ) → askHintThrough f at m ≡ mapJudged hintIn (askMetadataThrough (ascii "branch_hint") f at m)
+unfolding askHintThrough askMetadataThrough metadataSection itemOf hintSection ascii same askHint hintIn
+hints-through f at m = through-map hintSection hintIn (askMetadata hintItem f at) m refl
+
+-- Lists
+pub lists-written : (is ns text bs : List ℕ) → Indices is → functionNames is ns text ≡ accepted bs → WritesLists is ns text bs
+lists-written is ns text bs h e = let w = written is ns text h e in record { is-canonical = lists-stay w; own-text = listed-told w; others-none = other-told w }

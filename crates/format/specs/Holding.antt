@@ -1,0 +1,31 @@
+-- What a payload holds, said without any search: the answers are compared with it. Assumes nothing.
+use Prim.Native.Nat.{ℕ}
+use mathlib.Core.List.{List, _∷_}
+use mathlib.Core.Path.{_≡_}
+use lib.ListN.{take, drop}
+use Rattle.format.specs.Tables.{Table, row}
+use Rattle.format.specs.Names.{Content, single, names, namesBy, whole}
+use Rattle.format.specs.Questions.{Query, itsName, itsContents, nameOf, nameWithin}
+
+-- a table has a value under a number
+pub data Has {A : Type 0} (k : ℕ) (v : A) : Table A → Type 0 where
+  first : {t : Table A} → Has k v (row k v t)
+  later : {i : ℕ} {w : A} {t : Table A} → Has k v t → Has k v (row i w t)
+
+-- a table of tables has a value under two numbers
+pub record HasWithin {A : Type 0} (k j : ℕ) (v : A) (t : Table (Table A)) : Type 0 where
+  pub group : Table A
+  pub outer : Has k group t
+  pub inner : Has j v group
+
+-- the subsection with an id holds what is asked
+pub data Holds {X : Type 0} : ℕ → Query → Table (Content X) → X → Type 0 where
+  theName : {id : ℕ} {t : Table (Content X)} {x : X} → Has id (single x) t → Holds id itsName t x
+  theEntry : {id k : ℕ} {t : Table (Content X)} {m : Table X} {x : X} → Has id (names m) t → Has k x m → Holds id (nameOf k) t x
+  theInner : {id k j : ℕ} {t : Table (Content X)} {m : Table (Table X)} {x : X} → Has id (namesBy m) t → HasWithin k j x m → Holds id (nameWithin k j) t x
+  theContents : {id : ℕ} {t : Table (Content X)} {x : X} → Has id (whole x) t → Holds id itsContents t x
+
+-- three lists give an index a text: its own stretch of the joined text
+pub data Lists (k : ℕ) (x : List ℕ) : (indices lengths text : List ℕ) → Type 0 where
+  firstListed : {is ns text : List ℕ} {n : ℕ} → take n text ≡ x → Lists k x (k ∷ is) (n ∷ ns) text
+  laterListed : {is ns text : List ℕ} {i n : ℕ} → Lists k x is ns (drop n text) → Lists k x (i ∷ is) (n ∷ ns) text
