@@ -13,8 +13,8 @@ use Rattle.format.specs.Parts.{Part}
 use Rattle.format.specs.Tables.{Table, mapTable}
 use Rattle.format.specs.Names.{Kind, Content, knownKind, judgeNames}
 use Rattle.format.specs.Questions.{Query, answer, Allowed, asked, Question, functionName, idOf, queryOf, InRange, askAt, ask, asTold}
-use Rattle.format.specs.Holding.{HasWithin, Holds, Lists}
-use Rattle.format.specs.Walk.{walk, nameSection, hintSection, customPayload}
+use Rattle.format.specs.Holding.{HasWithin, Holds, Lists, Covers}
+use Rattle.format.specs.Walk.{preamble, Section, walk, nameSection, hintSection, customPayload}
 use Rattle.format.specs.Metadata.{dataOf, anyItem, hintItem, judgeMetadata, itemAt, askMetadata, hintIn, askHint}
 use Rattle.format.specs.Through.{through, askThrough, metadataSection, itemOf, askMetadataThrough, askHintThrough}
 use Rattle.format.specs.Canonical.{bare, rewriteNames, canonical, canonicalNames, rewriteMetadata, canonicalOf, canonicalMetadata, canonicalHints, writePart}
@@ -22,6 +22,7 @@ use Rattle.format.specs.Lists.{functionNames}
 use Rattle.format.specs.Laws.Outcomes.{accepted-exactly, refused-exactly}
 use Rattle.format.specs.Laws.Codecs.{Codec, number-sound, number-back, any-codec, hint-codec}
 use Rattle.format.specs.Laws.Passing.{number-passes, Reaches, reach, reach-step}
+use Rattle.format.specs.Laws.Walk.{walk-covers}
 use Rattle.format.specs.Laws.Places.{PartIn, Located, any-located, hint-located, lies-there, lies-inside, lies-all}
 use Rattle.format.specs.Laws.Found.{name-lies, item-lies, name-lies-through, item-lies-through, through-map}
 use Rattle.format.specs.Laws.Holding.{none-exactly, within-exactly, answer-exactly}
@@ -39,6 +40,10 @@ use Rattle.format.specs.declared.Hint.{Hint}
 pub record Shortest : Type 0 where
   pub reads-back : (v o : ℕ) (rest : List ℕ) → v < limit32 → number o (shortest v ++ rest) ≡ got v (o + length (shortest v)) rest
   pub nothing-shorter : (o : ℕ) (bs : List ℕ) {v o′ : ℕ} {rest : List ℕ} → number o bs ≡ got v o′ rest → length (shortest v) + length rest ≤ length bs
+
+-- Demand 2 for the walk. "Then sections to the end: id byte, size number, that many bytes of contents." The count of sections and every length come from the bytes.
+abbrev pub WalksWhole : Type 0
+WalksWhole = (m : List ℕ) (ss : List Section) → walk m ≡ accepted ss → Covers m (length preamble) ss
 
 -- Demand 2. "A lookup gives the mapped name as the very bytes of the section, or none exactly when the index has no name."
 pub record VeryBytes (lent : List ℕ) (x : Part) : Type 0 where
@@ -100,6 +105,9 @@ numbers-shortest = record {
       rw there at e;
   nothing-shorter = λ o bs e. number-sound o bs e .shorter;
 }
+
+pub sections-cover : WalksWhole
+sections-cover m ss e = walk-covers m e
 
 very : {lent : List ℕ} {x : Part} → PartIn lent x → VeryBytes lent x
 very l = record { inside = lies-inside l; bytes = lies-there l }

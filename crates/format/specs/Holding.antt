@@ -1,9 +1,12 @@
 -- What a payload holds, said without any search: the answers are compared with it. Assumes nothing.
-use Prim.Native.Nat.{ℕ}
-use mathlib.Core.List.{List, _∷_}
+use Prim.Native.Nat.{ℕ, suc, _+_, _≤_}
+use mathlib.Core.List.{List, [], _∷_}
 use mathlib.Core.Path.{_≡_}
-use lib.ListN.{take, drop}
+use lib.ListN.{length, take, drop}
+use Rattle.format.specs.Reading.{Outcome, got}
+use Rattle.format.specs.Numbers.{number}
 use Rattle.format.specs.Tables.{Table, row}
+use Rattle.format.specs.Walk.{Section}
 use Rattle.format.specs.Names.{Content, single, names, namesBy, whole}
 use Rattle.format.specs.Questions.{Query, itsName, itsContents, nameOf, nameWithin}
 
@@ -29,3 +32,14 @@ pub data Holds {X : Type 0} : ℕ → Query → Table (Content X) → X → Type
 pub data Lists (k : ℕ) (x : List ℕ) : (indices lengths text : List ℕ) → Type 0 where
   firstListed : {is ns text : List ℕ} {n : ℕ} → take n text ≡ x → Lists k x (k ∷ is) (n ∷ ns) text
   laterListed : {is ns text : List ℕ} {i n : ℕ} → Lists k x is ns (drop n text) → Lists k x (i ∷ is) (n ∷ ns) text
+
+-- Sections cover a module from an offset to its end: there stands the id byte, then the size number, which is the length of the contents, then the contents; and the next section begins where they end
+pub record Framed (m : List ℕ) (s : Section) : Type 0 where
+  pub id-byte : take 1 (drop (s .at) m) ≡ s .id ∷ []
+  pub size-number : number (suc (s .at)) (drop (suc (s .at)) m) ≡ got (length (s .contents .bytes)) (s .contents .at) (drop (s .contents .at) m)
+  pub contents : take (length (s .contents .bytes)) (drop (s .contents .at) m) ≡ s .contents .bytes
+  pub inside : s .contents .at + length (s .contents .bytes) ≤ length m
+
+pub data Covers (m : List ℕ) : ℕ → List Section → Type 0 where
+  atTheEnd : Covers m (length m) []
+  aSection : {s : Section} {ss : List Section} → Framed m s → Covers m (s .contents .at + length (s .contents .bytes)) ss → Covers m (s .at) (s ∷ ss)

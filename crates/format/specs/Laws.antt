@@ -18,3 +18,5 @@ pub mod Found
 pub mod Holding
 pub mod Lists
 pub mod Questions
+pub mod Walk
+pub mod Listing

@@ -16,11 +16,11 @@ use Rattle.format.specs.Questions.{Query, itsName, itsContents, nameOf, 
 use Rattle.format.specs.Metadata.{anyItem, hintItem, metadata, judgeMetadata, itemAt, askMetadata}
 use Rattle.format.specs.Walk.{preamble, begins, Custom, custom, Section, Seen, nothing, seeing, sections, framing, walk, payloadOf, payloadIn, nameSection, customPayload}
 use Rattle.format.specs.Through.{orNone, through, askThrough, metadataSection, itemOf, askMetadataThrough}
-use Rattle.format.specs.Laws.Outcomes.{not-got, got-value, got-next, got-rest, not-accepted, accepted-is, byTest, inTurn, judged, mapped, followed}
+use Rattle.format.specs.Laws.Outcomes.{got-value, accepted-is, byTest, inTurn, judged, mapped, followed}
 use Rattle.format.specs.Laws.Options.{not-some, some-is, byOption, inThen}
 use Rattle.format.specs.Laws.Turns.{inSubsection, inSection}
-use Rattle.format.specs.Laws.Passing.{Passes}
 use Rattle.format.specs.Laws.Places.{Lies, lies-all, lies-step, PartIn, Located, sized-located, name-located, any-located, hint-located, remaining-in, Rows, noRows, oneRow, rows-found, table-located, filling-in}
+use Rattle.format.specs.Laws.Walk.{begins-passes}
 use Rattle.format.specs.declared.FunctionIndex.{FunctionIndex}
 use Rattle.format.specs.declared.CodeOffset.{CodeOffset}
 
@@ -109,21 +109,12 @@ sections-in (suc most) seen all o (id ∷ bs) l e =
     (record { contents = c; payload = λ q. custom-in id all (s .contents .at) (s .contents .bytes) c e₂ q })
     (sections-in most (seeing seen s) all o₁ r₁ (sized-located .after all (suc o) bs (s .contents) o₁ r₁ l₁ e₁) e₃))
 
-begins-passes : (all xs : List ℕ) → Passes (Lies all) (begins xs)
-unfolding begins
-begins-passes all [] o bs v o′ rest l e = rw (← got-next e, ← got-rest e) l
-begins-passes all (x ∷ xs) o [] v o′ rest l e = absurd (not-got e)
-begins-passes all (x ∷ xs) o (b ∷ bs) v o′ rest l e =
-    byTest (eqb x b)
-    (λ t. begins-passes all xs (suc o) bs v o′ rest (lies-step all o b bs l) (rw t at e))
-    (λ t. absurd (not-got (rw t at e)))
-
 -- every section of an accepted module lies in it
 pub walk-in : (m : List ℕ) {ss : List Section} → walk m ≡ accepted ss → Each (SectionIn m) ss
 unfolding walk framing
 walk-in m e =
     judged (framing 0 m) e λ o rest e₁. inTurn (begins preamble 0 m) _ e₁ λ v o₁ r₁ e₂ e₃.
-    sections-in (length m) nothing m o₁ r₁ (begins-passes m preamble 0 m v o₁ r₁ (lies-all m) e₂) e₃
+    sections-in (length m) nothing m o₁ r₁ (begins-passes (Lies m) (lies-step m) preamble 0 m v o₁ r₁ (lies-all m) e₂) e₃
 
 payload-is : (x : List ℕ) (c : Option Custom) {p : Part} → payloadOf x c ≡ some p → (d : Custom) × (c ≡ some d) × (d .payload ≡ p)
 unfolding payloadOf
