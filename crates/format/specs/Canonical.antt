@@ -70,8 +70,11 @@ unfoldable pub canonicalNames : List ℕ → Judged (List ℕ)
 canonicalNames bs = canonical knownKind bs
 
 -- The rewriting of a metadata payload, over any item; with nothing left it is the one byte 00
+abbrev pub bareItems : Table (Table Part) → Table (Table (List ℕ))
+bareItems t = mapTable (mapTable (λ x. x .bytes)) t
+
 unfoldable pub rewriteMetadata : Table (Table Part) → List ℕ
-rewriteMetadata t = writeTable (writeTable writePart) (keepRows unlessEmpty (mapTable (mapTable (λ x. x .bytes)) t))
+rewriteMetadata t = writeTable (writeTable writePart) (keepRows unlessEmpty (bareItems t))
 
 unfoldable pub canonicalOf : Reader Part → List ℕ → Judged (List ℕ)
 canonicalOf item bs = mapJudged rewriteMetadata (judgeMetadata item 0 bs)

@@ -6,10 +6,10 @@ use mathlib.Core.Option.{Option, none, some}
 use mathlib.Core.Path.{_≡_, refl}
 use lib.ListN.{length, replicate}
 use Rattle.format.specs.Bytes.{ascii, same}
-use Rattle.format.specs.Reading.{Judged, accepted, refused}
+use Rattle.format.specs.Reading.{refused}
 use Rattle.format.specs.Numbers.{number, groups, shortest, fewest}
 use Rattle.format.specs.Text.{utf8, continues, following, wellFormed}
-use Rattle.format.specs.Parts.{Part, sized, name, remaining}
+use Rattle.format.specs.Parts.{sized, name, remaining}
 use Rattle.format.specs.Tables.{lookup, size, mapTable, rows, table}
 use Rattle.format.specs.Walk.{Section, preamble, begins, greatestId, isCustom, isCode, isData, rank, custom, isCalled, nameSection, hintSection, nothing, seeing, section, sections, framing, walk, sectionCount, sectionAt, payloadOf, payloadIn, customPayload}
 use Rattle.format.specs.Names.{known, knownKind, contents, subsections, payload, judgeNames}
@@ -20,7 +20,7 @@ use Rattle.format.specs.Outputs.{fitting, writeAnswer, outputAfter}
 use Rattle.format.specs.Lists.{sum, listed, unsortedAt, badTextAt, subsection, functionNames}
 use Rattle.format.specs.Through.{through, askThrough, metadataSection, itemOf, askMetadataThrough, askHintThrough}
 use Rattle.format.specs.Listing.{digits, decimal, piece, line, sectionLines, payloadLine, printed, greatestInput, listing}
-use Rattle.format.specs.Examples.{digit, hex, Result, value, isAccepted, isNone, isLikely, isUnlikely, found, bytes, refusal, ofOutcome, of, place, likelihood, numberIs, namesAre, answerIs, canonicalIs, hintIs, function, localIn, P, Example, _gives_, computed, stated}
+use Rattle.format.specs.Examples.{digit, hex, Result, value, isNone, isLikely, isUnlikely, found, bytes, refusal, ofOutcome, of, place, likelihood, numberIs, namesAre, answerIs, canonicalIs, hintIs, function, localIn, P, Example, _gives_, computed, stated}
 
 nameIs : String → Result
 nameIs s = ofOutcome (λ p _. place (some p)) (name 0 (hex s))
@@ -156,14 +156,6 @@ listingOf ss = bytes (listing (preamble ++ ss))
 
 pub modules : List Example
 modules =
-    -- the 36-byte module's listing; an empty payload; a refusal alone; 65,536 bytes are read and one more is refused
-    bytes (listing (hex "00 61 73 6D 01 00 00 00 00 1A 04 6E 61 6D 65" ++ hex P)) gives bytes (ascii "sections 1\n0 8 26\nname 15 21\nhints none\n") ∷
-    listingOf (customSection "name" "") gives bytes (ascii "sections 1\n0 8 5\nname 15 0\nhints none\n") ∷
-    listingOf (ordinary 1 "00" ++ theHints "01 02") gives bytes (ascii "sections 2\n1 8 1\n0 11 28\nname none\nhints 39 2\n") ∷
-    listingOf (ordinary 13 "") gives bytes (ascii "refused 5 8\n") ∷
-    bytes (listing []) gives bytes (ascii "refused 1 0\n") ∷
-    bytes (listing (replicate 65_537 0)) gives bytes (ascii "refused 16 65536\n") ∷
-    bytes (listing (replicate 65_536 0)) gives bytes (ascii "refused 1 0\n") ∷
     -- ids from 1 to 12 once and in order, custom sections anywhere; 6 before the size
     walkIs (ordinary 1 "" ++ customSection "x" "" ++ ordinary 12 "") gives value 3 0 ∷
     walkIs (ordinary 3 "" ++ (3 ∷ 0xFF ∷ [])) gives refusal 6 10 ∷
@@ -204,5 +196,22 @@ modules =
     []
 
 pub modules-hold : map computed modules ≡ map stated modules
-unfolding modules computed stated ordinary customSection theHints walkIs sectionIs payloadIs answerThrough metadataThrough hintThrough listingOf function localIn tag P hex digit of place likelihood ascii same number groups shortest fewest utf8 continues following wellFormed sized name remaining lookup rows table preamble begins greatestId isCustom isCode isData rank custom isCalled nameSection hintSection nothing seeing section sections framing walk sectionCount sectionAt payloadOf payloadIn customPayload known knownKind contents subsections payload judgeNames answer asked idOf queryOf askAt ask hintOf anyItem hintItem metadata judgeMetadata itemAt askMetadata hintIn askHint writePart through askThrough metadataSection itemOf askMetadataThrough askHintThrough digits decimal piece line sectionLines payloadLine printed greatestInput listing
+unfolding modules computed stated ordinary customSection theHints walkIs sectionIs payloadIs answerThrough metadataThrough hintThrough function localIn tag P hex digit of place likelihood ascii same number groups shortest fewest utf8 continues following wellFormed sized name remaining lookup rows table preamble begins greatestId isCustom isCode isData rank custom isCalled nameSection hintSection nothing seeing section sections framing walk sectionCount sectionAt payloadOf payloadIn customPayload known knownKind contents subsections payload judgeNames answer asked idOf queryOf askAt ask hintOf anyItem hintItem metadata judgeMetadata itemAt askMetadata hintIn askHint writePart through askThrough metadataSection itemOf askMetadataThrough askHintThrough
 modules-hold = refl
+
+-- The listing
+pub listings : List Example
+listings =
+    -- the 36-byte module's listing; an empty payload; a refusal alone; 65,536 bytes are read and one more is refused
+    bytes (listing (hex "00 61 73 6D 01 00 00 00 00 1A 04 6E 61 6D 65" ++ hex P)) gives bytes (ascii "sections 1\n0 8 26\nname 15 21\nhints none\n") ∷
+    listingOf (customSection "name" "") gives bytes (ascii "sections 1\n0 8 5\nname 15 0\nhints none\n") ∷
+    listingOf (ordinary 1 "00" ++ theHints "01 02") gives bytes (ascii "sections 2\n1 8 1\n0 11 28\nname none\nhints 39 2\n") ∷
+    listingOf (ordinary 13 "") gives bytes (ascii "refused 5 8\n") ∷
+    bytes (listing []) gives bytes (ascii "refused 1 0\n") ∷
+    bytes (listing (replicate 65_537 0)) gives bytes (ascii "refused 16 65536\n") ∷
+    bytes (listing (replicate 65_536 0)) gives bytes (ascii "refused 1 0\n") ∷
+    []
+
+pub listings-hold : map computed listings ≡ map stated listings
+unfolding listings computed stated ordinary customSection theHints listingOf P hex digit ascii same number groups shortest fewest utf8 continues following wellFormed sized name remaining preamble begins greatestId isCustom isCode isData rank custom isCalled nameSection hintSection nothing seeing section sections framing walk payloadOf payloadIn writePart digits decimal piece line sectionLines payloadLine printed greatestInput listing
+listings-hold = refl

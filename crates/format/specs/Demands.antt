@@ -1,24 +1,24 @@
 -- THE FRONT DOOR. What users of the library demand, as types, each under the sentence that it comes from; below each stands its proof, by the laws that it rests on. Here they are said of the definitions; the crates above say them again of their calls.
 use Prim.Native.Nat.{ℕ, _+_, _≤_, _<_}
-use mathlib.Core.List.{List, [], _++_}
+use mathlib.Core.List.{List, _++_}
 use mathlib.Core.Logic.{_↔_, Iff·trans}
 use mathlib.Core.Option.{Option, none, some}
-use mathlib.Core.Path.{_≡_, refl, sym, ap, _∙_}
+use mathlib.Core.Path.{_≡_, refl}
 use native.Mathlib.Omega.{arith}
 use lib.ListN.{length, take, drop, length-append}
 use Rattle.format.specs.Bytes.{Bytes, ascii, same}
-use Rattle.format.specs.Reading.{Outcome, got, Reader, Judged, accepted, refused, mapJudged, Accepted}
+use Rattle.format.specs.Reading.{got, Reader, Judged, accepted, refused, mapJudged, Accepted}
 use Rattle.format.specs.Numbers.{number, shortest, limit32}
 use Rattle.format.specs.Parts.{Part}
-use Rattle.format.specs.Tables.{Table, mapTable}
-use Rattle.format.specs.Names.{Kind, Content, knownKind, judgeNames}
+use Rattle.format.specs.Tables.{mapTable}
+use Rattle.format.specs.Names.{Kind, knownKind, judgeNames}
 use Rattle.format.specs.Questions.{Query, answer, Allowed, asked, Question, functionName, idOf, queryOf, InRange, askAt, ask, asTold}
 use Rattle.format.specs.Holding.{HasWithin, Holds, Lists, Covers}
 use Rattle.format.specs.Walk.{preamble, Section, walk, nameSection, hintSection, customPayload}
 use Rattle.format.specs.Metadata.{dataOf, anyItem, hintItem, judgeMetadata, itemAt, askMetadata, hintIn, askHint}
 use Rattle.format.specs.Through.{through, askThrough, metadataSection, itemOf, askMetadataThrough, askHintThrough}
-use Rattle.format.specs.Canonical.{bare, rewriteNames, canonical, canonicalNames, rewriteMetadata, canonicalOf, canonicalMetadata, canonicalHints, writePart}
-use Rattle.format.specs.Lists.{functionNames}
+use Rattle.format.specs.Canonical.{bare, bareItems, rewriteNames, canonical, canonicalNames, rewriteMetadata, canonicalOf, canonicalMetadata, canonicalHints, writePart}
+use Rattle.format.specs.Lists.{Indices, functionNames}
 use Rattle.format.specs.Laws.Outcomes.{accepted-exactly, refused-exactly}
 use Rattle.format.specs.Laws.Codecs.{Codec, number-sound, number-back, any-codec, hint-codec}
 use Rattle.format.specs.Laws.Passing.{number-passes, Reaches, reach, reach-step}
@@ -29,9 +29,9 @@ use Rattle.format.specs.Laws.Holding.{none-exactly, within-exactly, answ
 use Rattle.format.specs.Laws.Answers.{told-none}
 use Rattle.format.specs.Laws.Questions.{question-allowed, allowed-posed, posed-told}
 use Rattle.format.specs.Laws.CanonicalNames.{told-is, canonical-is, canonical-accepted, canonical-stays, rewriting-canonical, rewriting-told, rewriting-shorter, same-rewriting}
-use Rattle.format.specs.Laws.CanonicalMetadata.{bareItems, items-whole, item-told, items-canonical-is, items-accepted, items-told, items-again, items-shorter, same-items}
+use Rattle.format.specs.Laws.CanonicalMetadata.{items-whole, item-told, items-canonical-is, items-accepted, items-told, items-again, items-shorter, same-items}
 use Rattle.format.specs.Laws.Hints.{hint-exactly, no-hint-exactly, same-hints, hints-told}
-use Rattle.format.specs.Laws.Lists.{Indices, written, listed-told, other-told, lists-stay}
+use Rattle.format.specs.Laws.Lists.{written, listed-told, other-told, lists-stay}
 use Rattle.format.specs.declared.FunctionIndex.{FunctionIndex}
 use Rattle.format.specs.declared.CodeOffset.{CodeOffset}
 use Rattle.format.specs.declared.Hint.{Hint}
@@ -164,12 +164,27 @@ document-names-rewritten = let any = names-rewritten knownKind in record {
 }
 
 -- Code metadata, over any item; what is asked is a function and an offset
+abbrev pub ItemQuestion : Type 0
+ItemQuestion = FunctionIndex × CodeOffset
+
+abbrev pub ItemInRange : ItemQuestion → Type 0
+ItemInRange q = (q .0 .0 < limit32) × (q .1 .0 < limit32)
+
+abbrev pub itemTold : Reader Part → ItemQuestion → List ℕ → Judged (Option (List ℕ))
+itemTold item q p = asTold (askMetadata item (q .0) (q .1) 0 p)
+
+abbrev pub hintTold : ItemQuestion → List ℕ → Judged (Option Hint)
+hintTold q p = askHint (q .0) (q .1) 0 p
+
+abbrev pub AnswersItems : Reader Part → Type 0
+AnswersItems item = Answers {Q = ItemQuestion} (judgeMetadata item 0) (λ q p. askMetadata item (q .0) (q .1) 0 p) (λ t q x. HasWithin (q .0 .0) (q .1 .0) x (bareItems t))
+
 module _ {item : Reader Part} {Fine : List ℕ → Type 0} (codec : Codec item (λ p. p .bytes) writePart Fine) where
   items-exactly : {p : List ℕ} (a : Accepted (judgeMetadata item 0) p) (f : FunctionIndex) (at : CodeOffset) (x : List ℕ) → (itemAt f at (bareItems (a .value)) ≡ some x) ↔ HasWithin (f .0) (at .0) x (bareItems (a .value))
   unfolding itemAt
   items-exactly a f at x = within-exactly (λ _ u p. p .1 .sorted) (f .0) (at .0) (items-whole codec a .fine .sorted) x
 
-  pub metadata-answered : Located item PartIn → Answers {Q = FunctionIndex × CodeOffset} (judgeMetadata item 0) (λ q p. askMetadata item (q .0) (q .1) 0 p) (λ t q x. HasWithin (q .0 .0) (q .1 .0) x (bareItems t))
+  pub metadata-answered : Located item PartIn → AnswersItems item
   unfolding askMetadata
   metadata-answered located = record {
     very-bytes = λ q p e. very (item-lies located (q .0) (q .1) p 0 p (lies-all p) e);
@@ -178,7 +193,7 @@ module _ {item : Reader Part} {Fine : List ℕ → Type 0} (codec : Codec item (
     refuses = λ q p n at. refused-exactly (itemAt (q .0) (q .1)) (judgeMetadata item 0 p);
   }
 
-  pub metadata-rewritten : Rewrites {Q = FunctionIndex × CodeOffset} (judgeMetadata item 0) (canonicalOf item) (λ q p. asTold (askMetadata item (q .0) (q .1) 0 p)) (λ q. (q .0 .0 < limit32) × (q .1 .0 < limit32))
+  pub metadata-rewritten : Rewrites (judgeMetadata item 0) (canonicalOf item) (itemTold item) ItemInRange
   metadata-rewritten = record {
     same-exactly = λ bx by a b. let h = same-items codec a b in (λ e q l. h .0 e (q .0) (q .1) (l .0) (l .1), λ k. h .1 (λ f at l m. k (f, at) (l, m)));
     accepts = λ a. (rewriteMetadata (a .value), items-canonical-is codec a);
@@ -191,15 +206,15 @@ module _ {item : Reader Part} {Fine : List ℕ → Type 0} (codec : Codec item (
         });
   }
 
-pub any-metadata-answered : Answers {Q = FunctionIndex × CodeOffset} (judgeMetadata anyItem 0) (λ q p. askMetadata anyItem (q .0) (q .1) 0 p) (λ t q x. HasWithin (q .0 .0) (q .1 .0) x (bareItems t))
+pub any-metadata-answered : AnswersItems anyItem
 any-metadata-answered = metadata-answered any-codec any-located
 
-pub any-metadata-rewritten : Rewrites {Q = FunctionIndex × CodeOffset} (judgeMetadata anyItem 0) canonicalMetadata (λ q p. asTold (askMetadata anyItem (q .0) (q .1) 0 p)) (λ q. (q .0 .0 < limit32) × (q .1 .0 < limit32))
+pub any-metadata-rewritten : Rewrites (judgeMetadata anyItem 0) canonicalMetadata (itemTold anyItem) ItemInRange
 unfolding canonicalMetadata
 any-metadata-rewritten = metadata-rewritten any-codec
 
 -- Hints: by their data as any metadata, and by likelihood
-pub hint-data-answered : Answers {Q = FunctionIndex × CodeOffset} (judgeMetadata hintItem 0) (λ q p. askMetadata hintItem (q .0) (q .1) 0 p) (λ t q x. HasWithin (q .0 .0) (q .1 .0) x (bareItems t))
+pub hint-data-answered : AnswersItems hintItem
 hint-data-answered = metadata-answered hint-codec hint-located
 
 pub hints-answered : AnswersHints
@@ -210,7 +225,7 @@ hints-answered = record {
   refuses = λ f at p n o. Iff·trans (refused-exactly hintIn (askMetadata hintItem f at 0 p)) (refused-exactly (itemAt f at) (judgeMetadata hintItem 0 p));
 }
 
-pub hints-rewritten : Rewrites {Q = FunctionIndex × CodeOffset} (judgeMetadata hintItem 0) canonicalHints (λ q p. askHint (q .0) (q .1) 0 p) (λ q. (q .0 .0 < limit32) × (q .1 .0 < limit32))
+pub hints-rewritten : Rewrites (judgeMetadata hintItem 0) canonicalHints hintTold ItemInRange
 unfolding canonicalHints
 hints-rewritten = let any = metadata-rewritten hint-codec in record {
   same-exactly = λ bx by a b. let h = same-hints a b in (λ e q l. h .0 e (q .0) (q .1) (l .0) (l .1), λ k. h .1 (λ f at l m. k (f, at) (l, m)));

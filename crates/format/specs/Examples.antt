@@ -1,30 +1,22 @@
 -- The sixteen examples, one table under one statement that the checker computes. Assumes nothing.
-use Prim.Native.Nat.{ℕ, suc, _+_, _*_, _-_}
+use Prim.Native.Nat.{ℕ, _+_, _*_, _-_}
 use Prim.Native.Char.{code}
 use Prim.Native.String.{String}
-use mathlib.Core.Bool.{cond, true, false}
-use mathlib.Core.List.{List, [], _∷_, _++_, map}
+use mathlib.Core.Bool.{cond}
+use mathlib.Core.List.{List, [], _∷_, map}
 use mathlib.Core.Option.{Option, none, some}
 use mathlib.Core.Path.{_≡_, refl}
-use lib.Dec.{leb, eqb}
-use lib.ListN.{length, replicate}
-use Rattle.format.specs.Bytes.{ascii, same}
-use Rattle.format.specs.Reading.{Outcome, got, stop, Judged, accepted, refused, judge}
+use lib.Dec.{leb}
+use lib.ListN.{length}
+use Rattle.format.specs.Reading.{Outcome, got, stop, Judged, accepted, refused}
 use Rattle.format.specs.Numbers.{number, groups, shortest, fewest}
 use Rattle.format.specs.Text.{utf8, continues, following, wellFormed}
 use Rattle.format.specs.Parts.{Part, sized, name, remaining}
-use Rattle.format.specs.Tables.{Table, lookup, size, mapTable, rows, table}
-use Rattle.format.specs.Walk.{Section, preamble, begins, greatestId, isCustom, isCode, isData, rank, custom, isCalled, nameSection, hintSection, nothing, seeing, section, sections, framing, walk, sectionCount, sectionAt, payloadIn, customPayload}
+use Rattle.format.specs.Tables.{lookup, size, mapTable, rows, table}
 use Rattle.format.specs.Names.{known, knownKind, contents, subsections, payload, judgeNames}
-use Rattle.format.specs.Questions.{Question, moduleName, functionName, typeName, tagName, localName, fieldName, keptContents, answer, asked, idOf, queryOf, askAt, ask}
-use Rattle.format.specs.Metadata.{hintOf, anyItem, hintItem, metadata, judgeMetadata, itemAt, askMetadata, hintIn, askHint}
-use Rattle.format.specs.Canonical.{writePart, writeRows, writeTable, unlessEmpty, keepRows, bare, writeContent, writeSubsections, rewriteNames, canonical, canonicalNames, rewriteMetadata, canonicalOf, canonicalMetadata, canonicalHints}
-use Rattle.format.specs.Lists.{sum, listed, unsortedAt, badTextAt, subsection, functionNames}
-use Rattle.format.specs.Through.{through, askThrough, metadataSection, itemOf, askMetadataThrough, askHintThrough}
-use Rattle.format.specs.Listing.{digits, decimal, piece, line, sectionLines, payloadLine, printed, greatestInput, listing}
-use Rattle.format.specs.declared.FunctionIndex.{FunctionIndex}
-use Rattle.format.specs.declared.LocalIndex.{LocalIndex}
-use Rattle.format.specs.declared.CodeOffset.{CodeOffset}
+use Rattle.format.specs.Questions.{Question, moduleName, functionName, localName, keptContents, answer, asked, idOf, queryOf, askAt, ask}
+use Rattle.format.specs.Metadata.{hintOf, hintItem, metadata, judgeMetadata, itemAt, askMetadata, hintIn, askHint}
+use Rattle.format.specs.Canonical.{writePart, writeRows, writeTable, unlessEmpty, keepRows, bare, writeContent, writeSubsections, rewriteNames, canonical, canonicalNames}
 use Rattle.format.specs.declared.Hint.{Hint}
 use Rattle.format.specs.declared.Hint.the-variants.{Unlikely, Likely}
 

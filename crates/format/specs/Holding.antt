@@ -3,7 +3,7 @@ use Prim.Native.Nat.{ℕ, suc, _+_, _≤_}
 use mathlib.Core.List.{List, [], _∷_}
 use mathlib.Core.Path.{_≡_}
 use lib.ListN.{length, take, drop}
-use Rattle.format.specs.Reading.{Outcome, got}
+use Rattle.format.specs.Reading.{got}
 use Rattle.format.specs.Numbers.{number}
 use Rattle.format.specs.Tables.{Table, row}
 use Rattle.format.specs.Walk.{Section}

@@ -1,10 +1,10 @@
 -- Function names written from three lent lists: indices, name lengths in bytes, and the text of all names joined. Refusals in this order: 14, all of 11, all of 4, 15; 13 comes after them, with the output. Assumes nothing.
-use Prim.Native.Nat.{ℕ, suc, _+_}
+use Prim.Native.Nat.{ℕ, suc, _+_, _<_}
 use mathlib.Core.Bool.{Bool, true, false, cond, _&&_}
 use mathlib.Core.List.{List, [], _∷_}
 use mathlib.Core.Option.{Option, none, some}
 use lib.Dec.{ltb, leb, eqb}
-use lib.ListN.{length, take, drop}
+use lib.ListN.{length, take, drop, getD}
 use Rattle.format.specs.Refusals.{numberOf}
 use Rattle.format.specs.Reading.{Judged, accepted, refused}
 use Rattle.format.specs.Numbers.{limit32}
@@ -14,6 +14,10 @@ use Rattle.format.specs.Names.{Content, names}
 use Rattle.format.specs.Canonical.{keepRows, trim, writeContent, writeSubsections}
 use Rattle.format.specs.declared.Reason.{Reason}
 use Rattle.format.specs.declared.Reason.the-variants.{ListsDisagree, NotAbove, NotText, SubsectionTooLarge}
+
+-- every element of the list of indices has 32 bits
+abbrev pub Indices : List ℕ → Type 0
+Indices is = (i : ℕ) → getD is i 0 < limit32
 
 -- lengths are added exactly
 unfoldable pub sum : List ℕ → ℕ

@@ -2,7 +2,7 @@
 use Prim.Native.Nat.{ℕ, zero, suc}
 use mathlib.Core.List.{List, [], _∷_}
 use mathlib.Core.Option.{Option, none, some}
-use Rattle.format.specs.Reading.{Reader, _>>=_, _>>_, return, here, checked, filling, Judged, judge, mapJudged}
+use Rattle.format.specs.Reading.{_>>=_, _>>_, Reader, return, here, checked, filling, Judged, judge, mapJudged}
 use Rattle.format.specs.Parts.{Part, sized}
 use Rattle.format.specs.Tables.{Table, lookup, table}
 use Rattle.format.specs.Options.{thenSome, isSome}

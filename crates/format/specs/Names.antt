@@ -4,7 +4,7 @@ use mathlib.Core.List.{List, [], _∷_}
 use mathlib.Core.Option.{Option, none, some}
 use lib.Dec.{leb}
 use lib.ListN.{length}
-use Rattle.format.specs.Reading.{Outcome, got, Reader, _>>=_, _>>_, return, checked, filling, Judged, judge}
+use Rattle.format.specs.Reading.{got, Reader, _>>=_, _>>_, return, checked, filling, Judged, judge}
 use Rattle.format.specs.Parts.{Part, sized, name, remaining, inside}
 use Rattle.format.specs.Tables.{Table, nil, row, lookup, table}
 use Rattle.format.specs.declared.Reason.the-variants.{SubsectionOrder}

@@ -3,7 +3,7 @@ use Prim.Native.Nat.{ℕ, zero, suc, _+_, _*_, _%_, _/_}
 use mathlib.Core.Bool.{cond}
 use mathlib.Core.List.{List, [], _∷_}
 use lib.Dec.{ltb, leb}
-use Rattle.format.specs.Reading.{Outcome, got, Reader, andThen, return, refuse}
+use Rattle.format.specs.Reading.{got, Reader, andThen, return, refuse}
 use Rattle.format.specs.declared.Reason.the-variants.{PastItsPart, NumberTooLarge}
 
 -- a number's groups of seven bits, of which `more` may follow the next one; refusals 2 and 3 give the number's first byte

@@ -3,7 +3,7 @@ use Prim.Native.Nat.{ℕ, _+_}
 use mathlib.Core.List.{List, []}
 use lib.Dec.{leb}
 use lib.ListN.{length, take, drop}
-use Rattle.format.specs.Reading.{Outcome, got, stop, Reader, _>>=_, _>>_, return, here, checked}
+use Rattle.format.specs.Reading.{_>>=_, _>>_, Outcome, got, stop, Reader, return, here, checked}
 use Rattle.format.specs.Numbers.{number}
 use Rattle.format.specs.Text.{utf8}
 use Rattle.format.specs.declared.Reason.the-variants.{PastItsPart, NotText}

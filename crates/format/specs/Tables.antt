@@ -3,7 +3,7 @@ use Prim.Native.Nat.{ℕ, zero, suc}
 use mathlib.Core.Bool.{cond}
 use mathlib.Core.Option.{Option, none, some}
 use lib.Dec.{leb, eqb}
-use Rattle.format.specs.Reading.{Reader, _>>=_, _>>_, return, here, checked}
+use Rattle.format.specs.Reading.{_>>=_, _>>_, Reader, return, here, checked}
 use Rattle.format.specs.Numbers.{number}
 use Rattle.format.specs.declared.Reason.the-variants.{NotAbove}
 

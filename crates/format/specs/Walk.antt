@@ -1,12 +1,12 @@
 -- The framing of a module. The first 8 bytes are 00 61 73 6D 01 00 00 00. Then sections to the end: id byte, size number, that many bytes of contents. Assumes nothing.
 use Prim.Native.Nat.{ℕ, zero, suc}
-use mathlib.Core.Bool.{Bool, true, false, not, cond, _&&_, _||_}
+use mathlib.Core.Bool.{Bool, false, not, cond, _&&_, _||_}
 use mathlib.Core.List.{List, [], _∷_}
 use mathlib.Core.Option.{Option, none, some}
 use lib.Dec.{ltb, leb, eqb}
 use lib.ListN.{length, getElem?}
 use Rattle.format.specs.Bytes.{ascii, same}
-use Rattle.format.specs.Reading.{Outcome, got, Reader, _>>=_, _>>_, return, refuse, checked, Judged, judge, mapJudged}
+use Rattle.format.specs.Reading.{_>>=_, _>>_, got, Reader, return, refuse, checked, Judged, judge, mapJudged}
 use Rattle.format.specs.Options.{orElse}
 use Rattle.format.specs.Parts.{Part, sized, name, remaining, inside}
 use Rattle.format.specs.declared.Reason.the-variants.{NoPreamble, SectionUnknown, SectionOrder, SectionTwice, SectionTooLate}

@@ -1,30 +1,29 @@
 -- Answers: in bytes they are the bytes of the part that is answered; what may not be asked gets none; the document's questions are exactly those that its table allows.
 use Prim.Native.Nat.{ℕ, zero, suc, _≤_, _<_}
-use mathlib.Core.Bool.{Bool, true, false, true≢false}
 use mathlib.Core.List.{List, [], _∷_}
 use mathlib.Core.Logic.{_↔_}
 use mathlib.Core.Option.{Option, none, some}
-use mathlib.Core.Path.{_≡_, refl, sym, ap, _∙_}
+use mathlib.Core.Path.{_≡_, refl, sym}
 use native.Mathlib.Omega.{arith}
 use borrow.Author.Tests.{ltb-true, ltb-false, eqb-true}
 use lib.Dec.{ltb, eqb}
 use lib.ListN.{length}
 use Rattle.format.specs.Bytes.{Bytes}
-use Rattle.format.specs.Reading.{Outcome, got, Judged, accepted, refused, judge, Accepted}
+use Rattle.format.specs.Reading.{got, Judged, accepted, refused, Accepted}
 use Rattle.format.specs.Numbers.{limit32}
-use Rattle.format.specs.Options.{thenSome, mapSome}
+use Rattle.format.specs.Options.{mapSome}
 use Rattle.format.specs.Parts.{Part}
-use Rattle.format.specs.Tables.{Table, nil, row, lookup, mapTable}
-use Rattle.format.specs.Names.{Kind, oneName, nameMap, indirectMap, kept, Content, single, names, namesBy, whole, known, knownKind, subsections, payload, judgeNames}
-use Rattle.format.specs.Questions.{Query, itsName, itsContents, nameOf, nameWithin, answerIn, answer, Allowed, anId, anIndex, twoIndices, anyId, asked, Question, moduleName, functionName, typeName, tagName, localName, fieldName, keptContents, idOf, queryOf, InRange, asTold}
+use Rattle.format.specs.Tables.{Table, row, lookup, mapTable}
+use Rattle.format.specs.Names.{Kind, Content, single, names, namesBy, whole, subsections, payload, judgeNames}
+use Rattle.format.specs.Questions.{Query, itsName, itsContents, nameOf, nameWithin, answerIn, answer, Allowed, anId, anIndex, twoIndices, anyId, asTold}
 use Rattle.format.specs.Canonical.{bare}
 use Rattle.format.specs.Laws.Outcomes.{got-value, not-accepted, accepted-is, byTest, judged}
-use Rattle.format.specs.Laws.Options.{not-some, byOption, inThen}
+use Rattle.format.specs.Laws.Options.{not-some, byOption}
 use Rattle.format.specs.Laws.Turns.{inSubsection}
 use Rattle.format.specs.Laws.Passing.{sized-passes, bytes-step}
 use Rattle.format.specs.Laws.Codecs.{Sorted, RowFine}
 use Rattle.format.specs.Laws.Tables.{lookup-map, lookup-fine}
-use Rattle.format.specs.Laws.Names.{ContentFine, singleFine, namesFine, namesByFine, wholeFine, SubFine, SubsectionsRead, payload-sound}
+use Rattle.format.specs.Laws.Names.{ContentFine, singleFine, namesFine, namesByFine, wholeFine, payload-sound}
 
 bare-in : (q : Query) (c : Content Part) → answerIn q (bare c) ≡ mapSome (λ p. p .bytes) (answerIn q c)
 unfolding bare

@@ -1,21 +1,21 @@
 -- The canonical rewriting of code metadata, over any item: one set of laws for data of any format and for hints.
-use Prim.Native.Nat.{ℕ, _+_, _≤_, _<_}
+use Prim.Native.Nat.{ℕ, _≤_, _<_}
 use mathlib.Core.List.{List, []}
 use mathlib.Core.Logic.{_↔_}
-use mathlib.Core.Option.{Option, none, some}
-use mathlib.Core.Path.{_≡_, refl, sym, ap, _∙_}
+use mathlib.Core.Option.{none}
+use mathlib.Core.Path.{_≡_, sym, ap, _∙_}
 use native.Mathlib.Omega.{arith}
 use borrow.Author.Tests.{ltb-true, ltb-false}
 use lib.Dec.{ltb}
 use lib.ListN.{length}
-use Rattle.format.specs.Reading.{Outcome, got, Reader, Judged, accepted, judge, Accepted}
+use Rattle.format.specs.Reading.{Reader, accepted, Accepted}
 use Rattle.format.specs.Numbers.{limit32}
 use Rattle.format.specs.Options.{thenSome, mapSome}
 use Rattle.format.specs.Parts.{Part}
 use Rattle.format.specs.Tables.{Table, lookup, mapTable}
 use Rattle.format.specs.Questions.{asTold}
 use Rattle.format.specs.Metadata.{metadata, judgeMetadata, itemAt, askMetadata}
-use Rattle.format.specs.Canonical.{unlessEmpty, keepRows, writePart, writeTable, rewriteMetadata, canonicalOf}
+use Rattle.format.specs.Canonical.{bareItems, unlessEmpty, keepRows, writePart, writeTable, rewriteMetadata, canonicalOf}
 use Rattle.format.specs.Laws.Outcomes.{accepted-is, byTest, judged}
 use Rattle.format.specs.Laws.Options.{byOption}
 use Rattle.format.specs.Laws.Codecs.{Codec, Sound, TableFine, table-codec, fill-sound, fill-back}
@@ -24,10 +24,6 @@ use Rattle.format.specs.Laws.Groups.{groups-answer, groups-shorter, grou
 use Rattle.format.specs.Laws.Answers.{too-large}
 use Rattle.format.specs.declared.FunctionIndex.{FunctionIndex}
 use Rattle.format.specs.declared.CodeOffset.{CodeOffset}
-
--- the functions' items in bytes
-abbrev pub bareItems : Table (Table Part) → Table (Table (List ℕ))
-bareItems t = mapTable (mapTable (λ x. x .bytes)) t
 
 pub item-bare : (f : FunctionIndex) (at : CodeOffset) (t : Table (Table Part)) → itemAt f at (bareItems t) ≡ mapSome (λ p. p .bytes) (itemAt f at t)
 unfolding itemAt

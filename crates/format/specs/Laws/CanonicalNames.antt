@@ -1,19 +1,17 @@
 -- The canonical rewriting of name payloads, over any table of ids: it is accepted, keeps every answer, is never longer and comes to rest; and two payloads have one rewriting exactly where all allowed questions get the same answers.
-use Prim.Native.Nat.{ℕ, zero, suc, _+_, _≤_, _<_}
-use mathlib.Core.List.{List, [], _∷_, _++_}
+use Prim.Native.Nat.{ℕ, _≤_}
+use mathlib.Core.List.{List, []}
 use mathlib.Core.Logic.{_↔_}
-use mathlib.Core.Option.{Option, none, some}
+use mathlib.Core.Option.{some}
 use mathlib.Core.Path.{_≡_, refl, sym, ap, _∙_}
 use native.Mathlib.Omega.{arith}
 use lib.ListN.{length, length-append}
 use Rattle.format.specs.Bytes.{Bytes}
-use Rattle.format.specs.Reading.{Outcome, got, Judged, accepted, judge, mapJudged, Accepted}
-use Rattle.format.specs.Options.{thenSome, mapSome}
-use Rattle.format.specs.Parts.{Part}
+use Rattle.format.specs.Reading.{accepted, Accepted}
 use Rattle.format.specs.Tables.{Table, lookup, mapTable}
 use Rattle.format.specs.Names.{Kind, Content, payload, judgeNames}
 use Rattle.format.specs.Questions.{Query, answerIn, answer, Allowed, asked, asTold}
-use Rattle.format.specs.Canonical.{keepRows, trim, bare, writePart, writeContent, writeSubsections, rewriteNames, canonical}
+use Rattle.format.specs.Canonical.{keepRows, trim, bare, writeContent, writeSubsections, rewriteNames, canonical}
 use Rattle.format.specs.Laws.Outcomes.{accepted-is, judged}
 use Rattle.format.specs.Laws.Options.{byOption}
 use Rattle.format.specs.Laws.Codecs.{Fits32, Sorted, end, next, writePart-mono}

@@ -1,14 +1,13 @@
 -- A reader and a way of writing that fit one another: what is read is well formed and its writing no longer, and what is well formed reads back from its writing. One law for sized parts, names, hints, and lists of any of these.
 use Prim.Native.Nat.{ℕ, zero, suc, _+_, _≤_, _<_}
-use mathlib.Core.Bool.{Bool, true, false}
-use mathlib.Core.List.{List, [], _∷_, _++_, append-assoc, append-nil}
+use mathlib.Core.Bool.{Bool, true}
+use mathlib.Core.List.{List, [], _++_, append-assoc, append-nil}
 use mathlib.Core.Path.{_≡_, refl, ap, ap₂}
 use native.Mathlib.Omega.{arith}
-use borrow.Author.Tests.{leb-true, le-leb}
-use lib.Dec.{leb}
+use borrow.Author.Tests.{le-leb}
 use lib.ListN.{length, length-append, length-drop}
 use lib.Seq.{length-take-le, take-append-seam, drop-append-seam}
-use Rattle.format.specs.Reading.{Outcome, got, Reader, andThen, _>>_, return, checked, filling}
+use Rattle.format.specs.Reading.{got, Reader, filling}
 use Rattle.format.specs.Numbers.{number, shortest, limit32}
 use Rattle.format.specs.Options.{isSome}
 use Rattle.format.specs.Parts.{Part, sized, name}

@@ -1,19 +1,16 @@
 -- What is found lies where the answer says, in the payload that was asked or in the module it was asked through.
 use Prim.Native.Nat.{ℕ, zero, suc}
-use mathlib.Core.Bool.{Bool, true, false, cond}
 use mathlib.Core.List.{List, [], _∷_}
 use mathlib.Core.Option.{Option, none, some}
 use mathlib.Core.Path.{_≡_, refl, sym, ap, _∙_}
-use lib.Dec.{eqb}
 use lib.ListN.{length}
 use Rattle.format.specs.Bytes.{ascii, same}
-use Rattle.format.specs.Reading.{Outcome, got, stop, Reader, filling, Judged, accepted, refused, judge, judgedThen, mapJudged}
-use Rattle.format.specs.Options.{thenSome, orElse}
-use Rattle.format.specs.Parts.{Part, sized, name, remaining}
+use Rattle.format.specs.Reading.{got, Reader, filling, Judged, accepted, refused, judgedThen, mapJudged}
+use Rattle.format.specs.Parts.{Part, name, remaining}
 use Rattle.format.specs.Tables.{Table, lookup, table}
 use Rattle.format.specs.Names.{Kind, oneName, nameMap, indirectMap, kept, Content, single, names, namesBy, whole, knownKind, contents, subsections, payload, judgeNames}
 use Rattle.format.specs.Questions.{Query, itsName, itsContents, nameOf, nameWithin, answerIn, answer, asked, Question, idOf, queryOf, askAt}
-use Rattle.format.specs.Metadata.{anyItem, hintItem, metadata, judgeMetadata, itemAt, askMetadata}
+use Rattle.format.specs.Metadata.{metadata, judgeMetadata, itemAt, askMetadata}
 use Rattle.format.specs.Walk.{preamble, begins, Custom, custom, Section, Seen, nothing, seeing, sections, framing, walk, payloadOf, payloadIn, nameSection, customPayload}
 use Rattle.format.specs.Through.{orNone, through, askThrough, metadataSection, itemOf, askMetadataThrough}
 use Rattle.format.specs.Laws.Outcomes.{got-value, accepted-is, byTest, inTurn, judged, mapped, followed}

@@ -1,17 +1,17 @@
 -- Tables of tables, as an indirect map and code metadata are: leaving out what has no rows.
-use Prim.Native.Nat.{ℕ, _+_, _≤_, _<_}
-use mathlib.Core.List.{List, [], _∷_, _++_}
-use mathlib.Core.Option.{Option, none, some}
-use mathlib.Core.Path.{_≡_, refl}
+use Prim.Native.Nat.{ℕ, _≤_}
+use mathlib.Core.List.{List}
+use mathlib.Core.Option.{Option, some}
+use mathlib.Core.Path.{_≡_}
 use native.Mathlib.Omega.{arith}
 use lib.ListN.{length, length-append}
 use Rattle.format.specs.Options.{thenSome}
-use Rattle.format.specs.Tables.{Table, nil, row, size, lookup}
-use Rattle.format.specs.Canonical.{unlessEmpty, keepRows, writeRows, writeTable}
+use Rattle.format.specs.Tables.{Table, size, lookup}
+use Rattle.format.specs.Canonical.{unlessEmpty, keepRows, writeTable}
 use Rattle.format.specs.Laws.Numbers.{shortest-mono}
 use Rattle.format.specs.Laws.Options.{byOption}
-use Rattle.format.specs.Laws.Codecs.{Fits32, Sorted, end, next, RowFine, TableFine}
-use Rattle.format.specs.Laws.Tables.{lookup-keep, sorted-keep, size-keep, keep-all, sorted-imp, same-lookups, NonEmpty, aRow, kept-rows, keep-rows, lookup-kept, row-found, table-sure, table-loud, rows-shorter}
+use Rattle.format.specs.Laws.Codecs.{Sorted, RowFine, TableFine}
+use Rattle.format.specs.Laws.Tables.{lookup-keep, sorted-keep, size-keep, keep-all, sorted-imp, same-lookups, NonEmpty, kept-rows, keep-rows, lookup-kept, row-found, table-sure, table-loud, rows-shorter}
 
 -- every answer is kept
 pub groups-answer : {B : Type 0} {P : ℕ → Table B → Type 0} {t : Table (Table B)} {lo : ℕ} → Sorted P lo t → (k j : ℕ) → thenSome (lookup k (keepRows unlessEmpty t)) (lookup j) ≡ thenSome (lookup k t) (lookup j)

@@ -5,14 +5,12 @@ use mathlib.Core.List.{List, [], _∷_}
 use mathlib.Core.Logic.{_↔_}
 use mathlib.Core.Option.{Option, none, some}
 use mathlib.Core.Path.{_≡_, refl, sym, ap, _∙_}
-use native.Mathlib.Omega.{arith}
-use Rattle.format.specs.Reading.{Judged, accepted, mapJudged, Accepted}
+use Rattle.format.specs.Reading.{accepted}
 use Rattle.format.specs.Numbers.{limit32}
 use Rattle.format.specs.Options.{thenSome, mapSome, isSome}
 use Rattle.format.specs.Parts.{Part}
 use Rattle.format.specs.Tables.{lookup}
-use Rattle.format.specs.Questions.{asTold}
-use Rattle.format.specs.Metadata.{dataOf, hintOf, hintItem, judgeMetadata, itemAt, askMetadata, hintIn, askHint}
+use Rattle.format.specs.Metadata.{dataOf, hintOf, hintItem, itemAt, askMetadata, hintIn, askHint}
 use Rattle.format.specs.Canonical.{rewriteMetadata, canonicalOf, canonicalHints}
 use Rattle.format.specs.Laws.Outcomes.{accepted-is}
 use Rattle.format.specs.Laws.Options.{not-some, some-is, byOption, inThen}

@@ -1,20 +1,20 @@
 -- A lookup finds exactly what its table has, and none exactly where it has nothing.
-use Prim.Native.Nat.{ℕ, suc, _≤_, _<_}
+use Prim.Native.Nat.{ℕ, _≤_}
 use mathlib.Core.List.{List}
 use mathlib.Core.Logic.{_↔_}
 use mathlib.Core.Option.{Option, none, some}
-use mathlib.Core.Path.{_≡_, refl, sym, _∙_}
+use mathlib.Core.Path.{_≡_, sym, _∙_}
 use native.Mathlib.Omega.{arith}
 use borrow.Author.Tests.{eqb-true}
 use lib.Dec.{eqb}
 use Rattle.format.specs.Options.{thenSome}
-use Rattle.format.specs.Tables.{Table, nil, row, lookup, mapTable}
+use Rattle.format.specs.Tables.{Table, nil, row, lookup}
 use Rattle.format.specs.Names.{Kind, Content, single, names, namesBy, whole}
 use Rattle.format.specs.Questions.{Query, itsName, itsContents, nameOf, nameWithin, answerIn, answer}
 use Rattle.format.specs.Holding.{Has, first, later, HasWithin, Holds, theName, theEntry, theInner, theContents}
 use Rattle.format.specs.Laws.Outcomes.{byTest}
 use Rattle.format.specs.Laws.Options.{not-some, some-is, byOption, inThen}
-use Rattle.format.specs.Laws.Codecs.{Sorted, end, next, TableFine}
+use Rattle.format.specs.Laws.Codecs.{Sorted, next, TableFine}
 use Rattle.format.specs.Laws.Tables.{lookup-here, lookup-there, lookup-fine}
 use Rattle.format.specs.Laws.Names.{NameFine, ContentFine, namesFine, namesByFine, SubFine}
 use Rattle.format.specs.Laws.CanonicalNames.{AcceptedNames, held, read-whole}

@@ -1,7 +1,7 @@
 -- A number's digits: the bound on their count is never met.
 use Prim.Native.Nat.{ℕ, zero, suc, _/_, _%_, _+_, _<_}
 use mathlib.Core.List.{List, _∷_}
-use mathlib.Core.Path.{_≡_, refl}
+use mathlib.Core.Path.{_≡_}
 use native.Mathlib.Omega.{arith}
 use borrow.Author.Tests.{ltb-false}
 use lib.Dec.{ltb}

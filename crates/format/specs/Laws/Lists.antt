@@ -1,37 +1,32 @@
 -- Function names from three lists: what is written is canonical, each listed index gives its own text, and every other question gets none.
-use Prim.Native.Nat.{ℕ, zero, suc, _+_, _≤_, _<_}
+use Prim.Native.Nat.{ℕ, suc, _+_, _≤_, _<_}
 use mathlib.Core.Bool.{Bool, true, false, _&&_}
-use mathlib.Core.List.{List, [], _∷_, _++_}
+use mathlib.Core.List.{List, [], _∷_}
 use mathlib.Core.Logic.{_↔_}
 use mathlib.Core.Option.{Option, none, some}
 use mathlib.Core.Path.{_≡_, refl, sym, ap, _∙_}
 use native.Mathlib.Omega.{arith}
 use borrow.Author.Tests.{ltb-true, leb-true, eqb-true}
 use lib.Dec.{ltb, leb, eqb}
-use lib.ListN.{length, take, drop, getD, length-append}
-use Rattle.format.specs.Reading.{Judged, accepted, refused}
+use lib.ListN.{length, take, drop, length-append}
+use Rattle.format.specs.Reading.{Judged, accepted}
 use Rattle.format.specs.Numbers.{shortest, limit32}
 use Rattle.format.specs.Text.{utf8}
-use Rattle.format.specs.Options.{thenSome}
 use Rattle.format.specs.Tables.{Table, nil, row, size, lookup}
-use Rattle.format.specs.Names.{Kind, nameMap, Content, names, known, knownKind}
-use Rattle.format.specs.Questions.{Query, nameOf, answer, asked, Question, moduleName, functionName, typeName, tagName, localName, fieldName, keptContents, idOf, queryOf, askAt, ask, asTold}
+use Rattle.format.specs.Names.{Kind, nameMap, names, known, knownKind}
+use Rattle.format.specs.Questions.{Query, answer, asked, Question, moduleName, functionName, typeName, tagName, localName, fieldName, keptContents, idOf, queryOf, askAt, ask, asTold}
 use Rattle.format.specs.Holding.{Has, first, later, Lists, firstListed, laterListed}
-use Rattle.format.specs.Canonical.{unlessEmpty, keepRows, trim, writePart, writeRows, writeTable, writeContent, writeSubsections, canonicalNames}
-use Rattle.format.specs.Lists.{sum, listed, unsortedAt, badTextAt, unless, provided, subsection, functionNames}
+use Rattle.format.specs.Canonical.{writePart, writeRows, writeTable, writeContent, writeSubsections, canonicalNames}
+use Rattle.format.specs.Lists.{Indices, sum, listed, unsortedAt, badTextAt, unless, provided, subsection, functionNames}
 use Rattle.format.specs.Laws.Outcomes.{not-accepted, accepted-is, byTest}
 use Rattle.format.specs.Laws.Options.{not-some, some-is}
 use Rattle.format.specs.Laws.Numbers.{shortest-positive}
-use Rattle.format.specs.Laws.Codecs.{Fits32, Sorted, end, next, RowFine, TableFine}
+use Rattle.format.specs.Laws.Codecs.{Sorted, end, next, RowFine, TableFine}
 use Rattle.format.specs.Laws.Names.{NameFine, namesFine, SubFine}
 use Rattle.format.specs.Laws.CanonicalNames.{norm-sorted, norm-answers, Canonical, canonical-accepted, canonical-held, canonical-stays, told-is}
 use Rattle.format.specs.Laws.Holding.{has-lookup, none-exactly}
 use Rattle.format.specs.declared.FunctionIndex.{FunctionIndex}
 use Rattle.format.specs.declared.Reason.{Reason}
-
--- the elements of a lent list of indices have 32 bits
-abbrev pub Indices : List ℕ → Type 0
-Indices is = (i : ℕ) → getD is i 0 < limit32
 
 part-longer : (x : List ℕ) → length x < length (writePart x)
 unfolding writePart

@@ -1,18 +1,17 @@
 -- The name payload: what is read is well formed and no shorter than its shortest writing; what is well formed is read back from its writing; an accepted payload is read to its end.
-use Prim.Native.Nat.{ℕ, zero, suc, _+_, _≤_, _<_}
-use mathlib.Core.Bool.{Bool, true, false}
-use mathlib.Core.List.{List, [], _∷_, _++_}
-use mathlib.Core.Path.{_≡_, refl, sym, ap, ap₂, _∙_}
+use Prim.Native.Nat.{ℕ, zero, suc, _+_, _≤_}
+use mathlib.Core.Bool.{true}
+use mathlib.Core.List.{List, [], _∷_}
+use mathlib.Core.Path.{_≡_, refl, sym, ap, ap₂}
 use native.Mathlib.Omega.{arith}
-use borrow.Author.Tests.{leb-true, le-leb}
-use lib.Dec.{leb}
+use borrow.Author.Tests.{le-leb}
 use lib.ListN.{length, length-append}
-use Rattle.format.specs.Reading.{Outcome, got, Reader, filling}
-use Rattle.format.specs.Parts.{Part, sized, name, remaining, inside}
+use Rattle.format.specs.Reading.{got, filling}
+use Rattle.format.specs.Parts.{Part, name, remaining}
 use Rattle.format.specs.Text.{utf8}
 use Rattle.format.specs.Tables.{Table, nil, row, size, mapTable, table}
 use Rattle.format.specs.Names.{Kind, oneName, nameMap, indirectMap, kept, Content, single, names, namesBy, whole, contents, subsections, payload}
-use Rattle.format.specs.Canonical.{writePart, writeTable, bare, writeContent, writeSubsections}
+use Rattle.format.specs.Canonical.{bare, writeContent, writeSubsections}
 use Rattle.format.specs.Laws.Outcomes.{got-value, got-rest, inTurn}
 use Rattle.format.specs.Laws.Turns.{inSubsection}
 use Rattle.format.specs.Laws.Codecs.{Fits32, sized-codec, name-codec, Sorted, end, next, TableFine, table-codec, writePart-mono, fill-sound, fill-back}

@@ -1,13 +1,12 @@
 -- Numbers: what is read has 32 bits and is no shorter than its fewest bytes; the fewest bytes read back; a smaller number takes no more bytes.
 use Prim.Native.Nat.{ℕ, zero, suc, _+_, _*_, _%_, _/_, _≤_, _<_}
-use mathlib.Core.Bool.{Bool, true, false}
 use mathlib.Core.List.{List, [], _∷_, _++_}
 use mathlib.Core.Path.{_≡_, ap}
 use native.Mathlib.Omega.{arith}
 use borrow.Author.Tests.{ltb-true, ltb-false, leb-true, le-ltb, le-leb}
 use lib.Dec.{ltb, leb}
 use lib.ListN.{length}
-use Rattle.format.specs.Reading.{Outcome, got, Reader, return}
+use Rattle.format.specs.Reading.{got, return}
 use Rattle.format.specs.Numbers.{groups, fewest, shortest}
 use Rattle.format.specs.Laws.Outcomes.{not-got, got-value, got-rest, byTest, inTurn}
 

@@ -3,7 +3,7 @@ use Prim.Native.Nat.{ℕ}
 use mathlib.Core.Option.{Option, none, some}
 use mathlib.Core.Path.{_≡_, refl}
 use native.Mathlib.Omega.{arith}
-use Rattle.format.specs.Options.{thenSome, mapSome}
+use Rattle.format.specs.Options.{thenSome}
 
 pub not-some : {A : Type 0} {a : A} → none ≡ some a → ⊥
 not-some e = let z : _≡_ {A = ℕ} 0 1 = cc in omega arith

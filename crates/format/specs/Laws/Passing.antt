@@ -1,17 +1,17 @@
 -- What holds of an offset and the bytes left there, and goes on holding one byte further, holds after every reading. So a part's place, the bytes' range and the count of bytes need one law each, and not one for each reader.
-use Prim.Native.Nat.{ℕ, zero, suc, _+_, _*_, _%_, _≤_, _<_}
-use mathlib.Core.Bool.{Bool, true, false}
+use Prim.Native.Nat.{ℕ, zero, suc, _+_, _*_, _%_, _≤_}
+use mathlib.Core.Bool.{Bool}
 use mathlib.Core.List.{List, [], _∷_}
-use mathlib.Core.Path.{_≡_, refl, sym, _∙_}
+use mathlib.Core.Path.{_≡_, refl}
 use native.Mathlib.Nat.{add-zero}
 use native.Mathlib.Omega.{arith}
 use lib.Dec.{ltb, leb}
 use lib.ListN.{length, drop}
 use Rattle.format.specs.Bytes.{Bytes}
-use Rattle.format.specs.Reading.{Outcome, got, Reader, return}
+use Rattle.format.specs.Reading.{got, Reader, return}
 use Rattle.format.specs.Numbers.{groups, number}
 use Rattle.format.specs.Parts.{Part, sized}
-use Rattle.format.specs.Tables.{Table, rows, table}
+use Rattle.format.specs.Tables.{rows, table}
 use Rattle.format.specs.Laws.Outcomes.{not-got, got-next, got-rest, byTest, inTurn}
 use Rattle.format.specs.Laws.Turns.{inSized, tested, inTested, inRow, inTable}
 use Rattle.format.specs.declared.Reason.{Reason}

@@ -2,14 +2,13 @@
 use Prim.Native.Nat.{ℕ, zero, suc, _+_, _≤_}
 use mathlib.Core.Bool.{Bool}
 use mathlib.Core.List.{List, [], _∷_, _++_, append-assoc, append-nil}
-use mathlib.Core.Option.{Option, none, some}
+use mathlib.Core.Option.{some}
 use mathlib.Core.Path.{_≡_, refl, sym}
 use native.Mathlib.Omega.{arith}
 use lib.Dec.{eqb}
 use lib.ListN.{length, take, drop, length-append, take-append-drop}
 use lib.Seq.{take-at, drop-at}
-use Rattle.format.specs.Reading.{Outcome, got, Reader, filling}
-use Rattle.format.specs.Numbers.{number}
+use Rattle.format.specs.Reading.{got, Reader, filling}
 use Rattle.format.specs.Text.{utf8}
 use Rattle.format.specs.Options.{isSome}
 use Rattle.format.specs.Parts.{Part, sized, name, remaining}

@@ -1,16 +1,15 @@
 -- The document's questions are exactly those that its table of ids allows.
 use Prim.Native.Nat.{ℕ, _<_}
-use mathlib.Core.Bool.{true, false}
 use mathlib.Core.List.{List}
-use mathlib.Core.Option.{Option, none, some}
+use mathlib.Core.Option.{some}
 use mathlib.Core.Path.{_≡_, refl, sym}
 use native.Mathlib.Omega.{arith}
 use borrow.Author.Tests.{eqb-true}
 use lib.Dec.{eqb}
 use Rattle.format.specs.Numbers.{limit32}
-use Rattle.format.specs.Tables.{Table, nil, row, lookup}
+use Rattle.format.specs.Tables.{lookup}
 use Rattle.format.specs.Names.{Kind, oneName, nameMap, indirectMap, kept, known, knownKind}
-use Rattle.format.specs.Questions.{Query, itsName, itsContents, nameOf, nameWithin, Allowed, anId, anIndex, twoIndices, anyId, Question, moduleName, functionName, typeName, tagName, localName, fieldName, keptContents, idOf, queryOf, InRange, asked, askAt, ask, asTold}
+use Rattle.format.specs.Questions.{Query, itsName, nameOf, nameWithin, Allowed, anId, anIndex, twoIndices, anyId, Question, moduleName, functionName, typeName, tagName, localName, fieldName, keptContents, idOf, queryOf, InRange, asked, askAt, ask, asTold}
 use Rattle.format.specs.Laws.Outcomes.{byTest}
 use Rattle.format.specs.Laws.Options.{not-some, some-is, byOption}
 

@@ -1,16 +1,15 @@
 -- Readings that went well, taken apart once for all laws: a sized part, one that passes a test, a row and those after it, a subsection and those after it, a section and those after it.
-use Prim.Native.Nat.{ℕ, zero, suc, _+_, _≤_}
-use mathlib.Core.Bool.{Bool, true, false, not, _&&_, _||_}
-use mathlib.Core.List.{List, [], _∷_}
-use mathlib.Core.Option.{Option}
+use Prim.Native.Nat.{ℕ, suc, _+_, _≤_}
+use mathlib.Core.Bool.{Bool, true, not, _&&_, _||_}
+use mathlib.Core.List.{List, _∷_}
 use mathlib.Core.Path.{_≡_}
 use borrow.Author.Tests.{leb-true}
 use lib.Dec.{ltb, leb}
 use lib.ListN.{length, take, drop}
-use Rattle.format.specs.Reading.{Outcome, got, Reader, andThen, _>>_, return, checked}
+use Rattle.format.specs.Reading.{got, Reader, andThen, _>>_, return, checked}
 use Rattle.format.specs.Numbers.{number}
 use Rattle.format.specs.Parts.{Part, sized, inside}
-use Rattle.format.specs.Tables.{Table, nil, row, rows, table}
+use Rattle.format.specs.Tables.{Table, row, rows, table}
 use Rattle.format.specs.Names.{Kind, Content, contents, subsections}
 use Rattle.format.specs.Walk.{greatestId, isCustom, isData, rank, custom, isCalled, nameSection, hintSection, Section, Seen, seeing, section, sections}
 use Rattle.format.specs.Laws.Outcomes.{got-value, got-next, got-rest, inTurn, passed, inPart}

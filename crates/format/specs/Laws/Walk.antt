@@ -1,13 +1,13 @@
 -- The walk reads a module to its end, and its sections follow one another with nothing between them.
 use Prim.Native.Nat.{ℕ, zero, suc, _+_, _≤_}
-use mathlib.Core.List.{List, [], _∷_, _++_}
-use mathlib.Core.Path.{_≡_, refl, sym, ap, _∙_}
+use mathlib.Core.List.{List, [], _∷_}
+use mathlib.Core.Path.{_≡_, refl, ap, _∙_}
 use native.Mathlib.Numerals.{add-one}
 use native.Mathlib.Omega.{arith}
 use lib.Dec.{eqb}
-use lib.ListN.{length, take, drop, length-drop}
+use lib.ListN.{length, drop, length-drop}
 use lib.Seq.{length-take-le, drop-drop}
-use Rattle.format.specs.Reading.{Outcome, got, Judged, accepted}
+use Rattle.format.specs.Reading.{got, accepted}
 use Rattle.format.specs.Parts.{Part, sized}
 use Rattle.format.specs.Walk.{preamble, begins, Section, Seen, nothing, seeing, sections, framing, walk}
 use Rattle.format.specs.Holding.{Framed, Covers, atTheEnd, aSection}
