@@ -11,7 +11,7 @@ use Rattle.format.specs.Numbers.{number, groups, shortest, fewest}
 use Rattle.format.specs.Text.{utf8, continues, following, wellFormed}
 use Rattle.format.specs.Parts.{sized, name, remaining}
 use Rattle.format.specs.Tables.{lookup, size, mapTable, rows, table}
-use Rattle.format.specs.Walk.{Section, preamble, begins, greatestId, isCustom, isCode, isData, rank, custom, isCalled, nameSection, hintSection, nothing, seeing, section, sections, framing, walk, sectionCount, sectionAt, payloadOf, payloadIn, customPayload}
+use Rattle.format.specs.Walk.{Section, preamble, begins, greatestId, isCustom, isCode, isData, rank, custom, isCalled, nameSection, hintSection, nothing, seeing, idRules, nameRules, section, sections, framing, walk, sectionCount, sectionAt, payloadOf, payloadIn, customPayload}
 use Rattle.format.specs.Names.{known, knownKind, contents, subsections, payload, judgeNames}
 use Rattle.format.specs.Questions.{Question, moduleName, tagName, keptContents, answer, asked, idOf, queryOf, askAt, ask}
 use Rattle.format.specs.Metadata.{hintOf, anyItem, hintItem, metadata, judgeMetadata, itemAt, askMetadata, hintIn, askHint}
@@ -196,7 +196,7 @@ modules =
     []
 
 pub modules-hold : map computed modules ≡ map stated modules
-unfolding modules computed stated ordinary customSection theHints walkIs sectionIs payloadIs answerThrough metadataThrough hintThrough function localIn tag P hex digit of place likelihood ascii same number groups shortest fewest utf8 continues following wellFormed sized name remaining lookup rows table preamble begins greatestId isCustom isCode isData rank custom isCalled nameSection hintSection nothing seeing section sections framing walk sectionCount sectionAt payloadOf payloadIn customPayload known knownKind contents subsections payload judgeNames answer asked idOf queryOf askAt ask hintOf anyItem hintItem metadata judgeMetadata itemAt askMetadata hintIn askHint writePart through askThrough metadataSection itemOf askMetadataThrough askHintThrough
+unfolding modules computed stated ordinary customSection theHints walkIs sectionIs payloadIs answerThrough metadataThrough hintThrough function localIn tag P hex digit of place likelihood ascii same number groups shortest fewest utf8 continues following wellFormed sized name remaining lookup rows table preamble begins greatestId isCustom isCode isData rank custom isCalled nameSection hintSection nothing seeing idRules nameRules section sections framing walk sectionCount sectionAt payloadOf payloadIn customPayload known knownKind contents subsections payload judgeNames answer asked idOf queryOf askAt ask hintOf anyItem hintItem metadata judgeMetadata itemAt askMetadata hintIn askHint writePart through askThrough metadataSection itemOf askMetadataThrough askHintThrough
 modules-hold = refl
 
 -- The listing
@@ -213,5 +213,5 @@ listings =
     []
 
 pub listings-hold : map computed listings ≡ map stated listings
-unfolding listings computed stated ordinary customSection theHints listingOf P hex digit ascii same number groups shortest fewest utf8 continues following wellFormed sized name remaining preamble begins greatestId isCustom isCode isData rank custom isCalled nameSection hintSection nothing seeing section sections framing walk payloadOf payloadIn writePart digits decimal piece line sectionLines payloadLine printed greatestInput listing
+unfolding listings computed stated ordinary customSection theHints listingOf P hex digit ascii same number groups shortest fewest utf8 continues following wellFormed sized name remaining preamble begins greatestId isCustom isCode isData rank custom isCalled nameSection hintSection nothing seeing idRules nameRules section sections framing walk payloadOf payloadIn writePart digits decimal piece line sectionLines payloadLine printed greatestInput listing
 listings-hold = refl

@@ -6,6 +6,7 @@ use lib.ListN.{length, take, drop}
 use Rattle.format.specs.Reading.{_>>=_, _>>_, Outcome, got, stop, Reader, return, here, checked}
 use Rattle.format.specs.Numbers.{number}
 use Rattle.format.specs.Text.{utf8}
+use Rattle.format.specs.declared.Place.{Place}
 use Rattle.format.specs.declared.Reason.the-variants.{PastItsPart, NotText}
 
 -- a part of what was lent: where it begins, and its bytes
@@ -13,13 +14,9 @@ pub record Part : Type 0 where
   pub at : ℕ
   pub bytes : List ℕ
 
--- where a part lies, as an answer gives it
-pub record Place : Type 0 where
-  pub offset : ℕ
-  pub length : ℕ
-
+-- where it lies, as an answer gives it
 abbrev pub placeOf : Part → Place
-placeOf p = record { offset = p .at; length = length (p .bytes) }
+placeOf p = record { offset = record { 0 = p .at }; length = length (p .bytes) }
 
 abbrev pub fits : ℕ → ℕ → Reader (Unit {0})
 fits n first o bs = checked (leb n (length bs)) PastItsPart first o bs

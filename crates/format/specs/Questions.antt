@@ -3,12 +3,16 @@ use Prim.Native.Nat.{ℕ, _<_}
 use mathlib.Core.List.{List, []}
 use mathlib.Core.Option.{Option, none, some}
 use mathlib.Core.Path.{_≡_}
+use Rattle.format.specs.Refusals.{numberOf}
 use Rattle.format.specs.Reading.{Judged, accepted, refused, mapJudged}
 use Rattle.format.specs.Numbers.{limit32}
 use Rattle.format.specs.Options.{thenSome, mapSome}
-use Rattle.format.specs.Parts.{Part, Place, placeOf}
+use Rattle.format.specs.Parts.{Part, placeOf}
 use Rattle.format.specs.Tables.{Table, lookup}
 use Rattle.format.specs.Names.{Kind, oneName, nameMap, indirectMap, Content, single, names, namesBy, whole, knownKind, judgeNames}
+use Rattle.format.specs.declared.Answer.{Answer}
+use Rattle.format.specs.declared.Answer.the-variants.{None, Found, Refused}
+use Rattle.format.specs.declared.Place.{Place}
 use Rattle.format.specs.declared.FunctionIndex.{FunctionIndex}
 use Rattle.format.specs.declared.LocalIndex.{LocalIndex}
 use Rattle.format.specs.declared.TypeIndex.{TypeIndex}
@@ -111,3 +115,9 @@ asBytes (refused n at) = []
 
 unfoldable pub asTold : Judged (Option Part) → Judged (Option (List ℕ))
 asTold j = mapJudged (mapSome (λ p. p .bytes)) j
+
+-- What an answer says: none, a place, or a refusal's number and offset
+abbrev pub answered : Answer → Judged (Option Place)
+answered None = accepted none
+answered (Found p) = accepted (some p)
+answered (Refused r) = refused (numberOf (r .reason)) (r .offset .0)

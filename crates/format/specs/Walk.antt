@@ -85,18 +85,33 @@ seeing seen s = record {
   hints = seen .hints || isCalled hintSection (s .custom);
 }
 
--- One section, whose id byte stands at an offset. At most one `name` and at most one `metadata.code.branch_hint`; no data after `name`; no hints after code. Refusals 5 to 8 give the id byte
-unfoldable pub section : Seen → ℕ → ℕ → Reader Section
-section seen at id = do
+-- What the id decides, before the size is read: no data after `name`. Refusals 5, 6 and 8 give the id byte
+unfoldable pub idRules : Seen → ℕ → ℕ → Reader (Unit {0})
+idRules seen at id = do
   checked (leb id greatestId) SectionUnknown at
   checked (isCustom id || ltb (seen .rank) (rank id)) SectionOrder at
   checked (not (isData id && seen .name)) SectionTooLate at
-  part ← sized
-  c ← inside (custom id) part
+
+-- What a custom section's name decides: at most one `name` and at most one `metadata.code.branch_hint`; no hints after code. Refusals 7 and 8 give the id byte
+unfoldable pub nameRules : Seen → ℕ → Option Custom → Reader (Unit {0})
+nameRules seen at c = do
   checked (not (isCalled nameSection c && seen .name)) SectionTwice at
   checked (not (isCalled hintSection c && seen .hints)) SectionTwice at
   checked (not (isCalled hintSection c && seen .code)) SectionTooLate at
+
+-- one section, whose id byte stands at an offset
+unfoldable pub section : Seen → ℕ → ℕ → Reader Section
+section seen at id = do
+  idRules seen at id
+  part ← sized
+  c ← inside (custom id) part
+  nameRules seen at c
   return (record { id = id; at = at; contents = part; custom = c })
+
+-- one step from section to section: none at the end
+unfoldable pub step : Seen → Reader (Option Section)
+step seen o [] = got none o []
+step seen o (id ∷ bs) = (section seen o id >>= λ s. return (some s)) (suc o) bs
 
 -- sections up to the end; `most` bounds their number and is never met
 unfoldable pub sections : (most : ℕ) → Seen → Reader (List Section)

@@ -44,6 +44,19 @@ pub struct Refusal {
     pub offset: Offset,
 }
 
+// Where a part of what was lent lies.
+pub struct Place {
+    pub offset: Offset,
+    pub length: usize,
+}
+
+// The answer to a question.
+pub enum Answer {
+    None,
+    Found(Place),
+    Refused(Refusal),
+}
+
 pub enum Hint {
     Unlikely,
     Likely,

@@ -15,7 +15,7 @@ use Rattle.format.specs.Walk.{preamble, begins, Custom, custom, Section,
 use Rattle.format.specs.Through.{orNone, through, askThrough, metadataSection, itemOf, askMetadataThrough}
 use Rattle.format.specs.Laws.Outcomes.{got-value, accepted-is, byTest, inTurn, judged, mapped, followed}
 use Rattle.format.specs.Laws.Options.{not-some, some-is, byOption, inThen}
-use Rattle.format.specs.Laws.Turns.{inSubsection, inSection}
+use Rattle.format.specs.Laws.Turns.{inSubsection, inSection, inSections}
 use Rattle.format.specs.Laws.Places.{Lies, lies-all, lies-step, PartIn, Located, sized-located, name-located, any-located, hint-located, remaining-in, Rows, noRows, oneRow, rows-found, table-located, filling-in}
 use Rattle.format.specs.Laws.Walk.{begins-passes}
 use Rattle.format.specs.declared.FunctionIndex.{FunctionIndex}
@@ -99,7 +99,7 @@ unfolding sections
 sections-in zero seen all o bs l e = rw (← got-value e) noMore
 sections-in (suc most) seen all o [] l e = rw (← got-value e) noMore
 sections-in (suc most) seen all o (id ∷ bs) l e =
-    inSection most seen o id bs e λ s o₁ r₁ o₂ r₂ more _ _ e₁ e₂ e₃ is.
+    inSections most seen o id bs e λ s o₁ r₁ more e₀ e₃ is. inSection seen o id bs e₀ λ o₂ r₂ _ _ e₁ e₂.
     let l₁ = lies-step all o id bs l in
     let c = sized-located .value all (suc o) bs l₁ e₁ in
     rw (← is) (oneMore

@@ -33,6 +33,11 @@ pub byTest {ℓ} : {C : Type ℓ} (b : Bool) → (b ≡ true → C) → (b ≡ f
 byTest true f g = f refl
 byTest false f g = g refl
 
+-- by what a reading came to
+pub byOutcome {ℓ} : {A : Type 0} {C : Type ℓ} (r : Outcome A) → ((a : A) (o : ℕ) (bs : List ℕ) → r ≡ got a o bs → C) → ((n at : ℕ) → r ≡ stop n at → C) → C
+byOutcome (got a o bs) f g = f a o bs refl
+byOutcome (stop n at) f g = g n at refl
+
 -- a reading that went on: what its first step got, and that the rest gave the result
 pub inTurn {ℓ} : {A B : Type 0} {C : Type ℓ} (r : Outcome A) (f : A → Reader B) {v : B} {o : ℕ} {bs : List ℕ} → andThen r f ≡ got v o bs → ((a : A) (o₁ : ℕ) (r₁ : List ℕ) → r ≡ got a o₁ r₁ → f a o₁ r₁ ≡ got v o bs → C) → C
 inTurn (got a o bs) f e k = k a o bs refl e

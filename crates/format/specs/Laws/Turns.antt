@@ -1,7 +1,8 @@
 -- Readings that went well, taken apart once for all laws: a sized part, one that passes a test, a row and those after it, a subsection and those after it, a section and those after it.
 use Prim.Native.Nat.{ℕ, suc, _+_, _≤_}
-use mathlib.Core.Bool.{Bool, true, not, _&&_, _||_}
+use mathlib.Core.Bool.{Bool, true, false, not, _&&_, _||_}
 use mathlib.Core.List.{List, _∷_}
+use mathlib.Core.Option.{Option}
 use mathlib.Core.Path.{_≡_}
 use borrow.Author.Tests.{leb-true}
 use lib.Dec.{ltb, leb}
@@ -11,8 +12,8 @@ use Rattle.format.specs.Numbers.{number}
 use Rattle.format.specs.Parts.{Part, sized, inside}
 use Rattle.format.specs.Tables.{Table, row, rows, table}
 use Rattle.format.specs.Names.{Kind, Content, contents, subsections}
-use Rattle.format.specs.Walk.{greatestId, isCustom, isData, rank, custom, isCalled, nameSection, hintSection, Section, Seen, seeing, section, sections}
-use Rattle.format.specs.Laws.Outcomes.{got-value, got-next, got-rest, inTurn, passed, inPart}
+use Rattle.format.specs.Walk.{greatestId, isCustom, isData, rank, Custom, custom, isCalled, nameSection, hintSection, Section, Seen, seeing, idRules, nameRules, section, sections}
+use Rattle.format.specs.Laws.Outcomes.{not-got, got-value, got-next, got-rest, inTurn, passed, inPart}
 use Rattle.format.specs.declared.Reason.{Reason}
 
 pub inSized {ℓ} : {C : Type ℓ} (o : ℕ) (bs : List ℕ) {p : Part} {o′ : ℕ} {rest : List ℕ} → sized o bs ≡ got p o′ rest
@@ -57,21 +58,40 @@ inSubsection kindOf most least o id bs e k =
     inTurn (subsections kindOf most (suc id) o₃ r₃) _ e₅ λ more o₅ r₅ e₇ e₈.
     k p o₁ r₁ c o₂ r₂ more (leb-true least id t) e₂ e₆ (rw (← q, ← q′, got-next e₈, got-rest e₈) at e₇) (got-value e₈)
 
--- the section read, with whose contents it stops
-pub inSection {ℓ} : {C : Type ℓ} (most : ℕ) (seen : Seen) (o id : ℕ) (bs : List ℕ) {ss : List Section} {o′ : ℕ} {rest : List ℕ} → sections (suc most) seen o (id ∷ bs) ≡ got ss o′ rest
-    → ((s : Section) (o₁ : ℕ) (r₁ : List ℕ) (o₂ : ℕ) (r₂ : List ℕ) (more : List Section) → s .id ≡ id → s .at ≡ o → sized (suc o) bs ≡ got (s .contents) o₁ r₁ → custom id (s .contents .at) (s .contents .bytes) ≡ got (s .custom) o₂ r₂ → sections most (seeing seen s) o₁ r₁ ≡ got more o′ rest → s ∷ more ≡ ss → C) → C
-unfolding sections section
-inSection most seen o id bs e k =
-    inTurn (section seen o id (suc o) bs) _ e λ s o₃ r₃ e₁ e₂.
-    passed (leb id greatestId) _ _ _ _ _ e₁ λ _ e₃.
-    passed (isCustom id || ltb (seen .rank) (rank id)) _ _ _ _ _ e₃ λ _ e₄.
-    passed (not (isData id && seen .name)) _ _ _ _ _ e₄ λ _ e₅.
-    inTurn (sized (suc o) bs) _ e₅ λ p o₁ r₁ e₆ e₇.
+-- the rules of the walk read nothing
+checked-stays : (b : Bool) (why : Reason) (at o : ℕ) (bs : List ℕ) {v : Unit {0}} {o′ : ℕ} {rest : List ℕ} → checked b why at o bs ≡ got v o′ rest → (o ≡ o′) × (bs ≡ rest)
+checked-stays true why at o bs e = (got-next e, got-rest e)
+checked-stays false why at o bs e = absurd (not-got e)
+
+id-rules-stay : (seen : Seen) (at id o : ℕ) (bs : List ℕ) {v : Unit {0}} {o′ : ℕ} {rest : List ℕ} → idRules seen at id o bs ≡ got v o′ rest → (o ≡ o′) × (bs ≡ rest)
+unfolding idRules
+id-rules-stay seen at id o bs e =
+    passed (leb id greatestId) _ _ _ _ _ e λ _ e₁. passed (isCustom id || ltb (seen .rank) (rank id)) _ _ _ _ _ e₁ λ _ e₂.
+    checked-stays (not (isData id && seen .name)) _ _ _ _ e₂
+
+name-rules-stay : (seen : Seen) (at : ℕ) (c : Option Custom) (o : ℕ) (bs : List ℕ) {v : Unit {0}} {o′ : ℕ} {rest : List ℕ} → nameRules seen at c o bs ≡ got v o′ rest → (o ≡ o′) × (bs ≡ rest)
+unfolding nameRules
+name-rules-stay seen at c o bs e =
+    passed (not (isCalled nameSection c && seen .name)) _ _ _ _ _ e λ _ e₁. passed (not (isCalled hintSection c && seen .hints)) _ _ _ _ _ e₁ λ _ e₂.
+    checked-stays (not (isCalled hintSection c && seen .code)) _ _ _ _ e₂
+
+-- one section
+pub inSection {ℓ} : {C : Type ℓ} (seen : Seen) (o id : ℕ) (bs : List ℕ) {s : Section} {o₁ : ℕ} {r₁ : List ℕ} → section seen o id (suc o) bs ≡ got s o₁ r₁ → ((o₂ : ℕ) (r₂ : List ℕ) → s .id ≡ id → s .at ≡ o → sized (suc o) bs ≡ got (s .contents) o₁ r₁ → custom id (s .contents .at) (s .contents .bytes) ≡ got (s .custom) o₂ r₂ → C) → C
+unfolding section
+inSection seen o id bs {s} e₁ k =
+    inTurn (idRules seen o id (suc o) bs) _ e₁ λ _ o₃ r₃ e₂ e₃.
+    let (a, a′) = id-rules-stay seen o id (suc o) bs e₂ in
+    inTurn (sized o₃ r₃) _ e₃ λ p o₁ r₁ e₆ e₇.
     inTurn (inside (custom id) p o₁ r₁) _ e₇ λ c o₄ r₄ e₈ e₉.
     inPart (custom id (p .at) (p .bytes)) o₁ r₁ e₈ λ o₂ r₂ e₁₀ q q′.
-    passed (not (isCalled nameSection c && seen .name)) _ _ _ _ _ e₉ λ _ e₁₁.
-    passed (not (isCalled hintSection c && seen .hints)) _ _ _ _ _ e₁₁ λ _ e₁₂.
-    passed (not (isCalled hintSection c && seen .code)) _ _ _ _ _ e₁₂ λ _ e₁₃.
-    inTurn (sections most (seeing seen s) o₃ r₃) _ e₂ λ more o₅ r₅ e₁₄ e₁₅.
-    let is = got-value e₁₃ in
-    k s o₁ r₁ o₂ r₂ more (rw (← is)) (rw (← is)) (rw (← is) e₆) (rw (← is) e₁₀) (rw (← got-next e₁₃, ← got-rest e₁₃, ← q, ← q′, got-next e₁₅, got-rest e₁₅) at e₁₄) (got-value e₁₅)
+    inTurn (nameRules seen o c o₄ r₄) _ e₉ λ _ o₅ r₅ e₁₁ e₁₂.
+    let (b, b′) = name-rules-stay seen o c o₄ r₄ e₁₁ in
+    let is = got-value e₁₂ in
+    k o₂ r₂ (rw (← is)) (rw (← is)) (rw (← is, ← got-next e₁₂, ← got-rest e₁₂, ← b, ← b′, ← q, ← q′, a, a′) e₆) (rw (← is) e₁₀)
+
+-- a section and those after it
+pub inSections {ℓ} : {C : Type ℓ} (most : ℕ) (seen : Seen) (o id : ℕ) (bs : List ℕ) {ss : List Section} {o′ : ℕ} {rest : List ℕ} → sections (suc most) seen o (id ∷ bs) ≡ got ss o′ rest → ((s : Section) (o₁ : ℕ) (r₁ : List ℕ) (more : List Section) → section seen o id (suc o) bs ≡ got s o₁ r₁ → sections most (seeing seen s) o₁ r₁ ≡ got more o′ rest → s ∷ more ≡ ss → C) → C
+unfolding sections
+inSections most seen o id bs e k =
+    inTurn (section seen o id (suc o) bs) _ e λ s o₁ r₁ e₁ e₂. inTurn (sections most (seeing seen s) o₁ r₁) _ e₂ λ more o₂ r₂ e₃ e₄.
+    k s o₁ r₁ more e₁ (rw (got-next e₄, got-rest e₄) at e₃) (got-value e₄)

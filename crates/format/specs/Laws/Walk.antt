@@ -1,18 +1,20 @@
 -- The walk reads a module to its end, and its sections follow one another with nothing between them.
 use Prim.Native.Nat.{ℕ, zero, suc, _+_, _≤_}
 use mathlib.Core.List.{List, [], _∷_}
-use mathlib.Core.Path.{_≡_, refl, ap, _∙_}
+use mathlib.Core.Option.{some}
+use mathlib.Core.Path.{_≡_, refl, sym, ap, _∙_}
 use native.Mathlib.Numerals.{add-one}
 use native.Mathlib.Omega.{arith}
 use lib.Dec.{eqb}
 use lib.ListN.{length, drop, length-drop}
 use lib.Seq.{length-take-le, drop-drop}
-use Rattle.format.specs.Reading.{got, accepted}
+use Rattle.format.specs.Reading.{Outcome, got, stop, andThen, return, Judged, accepted, refused, judge, mapJudged}
 use Rattle.format.specs.Parts.{Part, sized}
-use Rattle.format.specs.Walk.{preamble, begins, Section, Seen, nothing, seeing, sections, framing, walk}
+use Rattle.format.specs.Walk.{preamble, begins, Section, Seen, nothing, seeing, section, step, sections, framing, walk}
 use Rattle.format.specs.Holding.{Framed, Covers, atTheEnd, aSection}
-use Rattle.format.specs.Laws.Outcomes.{not-got, got-value, got-next, got-rest, byTest, inTurn, judged}
-use Rattle.format.specs.Laws.Turns.{inSized, inSection}
+use Rattle.format.specs.Laws.Outcomes.{not-got, got-value, got-next, got-rest, byTest, byOutcome, inTurn, judged}
+use Rattle.format.specs.Laws.Options.{not-some, some-is}
+use Rattle.format.specs.Laws.Turns.{inSized, inSection, inSections}
 use Rattle.format.specs.Laws.Passing.{Passes, number-passes, sized-passes, Reaches, reach, reach-step}
 use Rattle.format.specs.Laws.Codecs.{sized-codec}
 
@@ -73,7 +75,7 @@ sections-cover m zero seen o [] f h r e = at-the-end m o (omega arith) (got-valu
 sections-cover m zero seen o (b ∷ bs) f h r e = absurd (omega arith)
 sections-cover m (suc most) seen o [] f h r e = at-the-end m o (omega arith) (got-value e)
 sections-cover m (suc most) seen o (id ∷ bs) f h r e =
-    inSection most seen o id bs e λ s o₁ r₁ o₂ r₂ more is-id is-at e₁ e₂ e₃ is.
+    inSections most seen o id bs e λ s o₁ r₁ more e₀ e₃ is. inSection seen o id bs e₀ λ o₂ r₂ is-id is-at e₁ e₂.
     let next = sized-passes (Onward m) (onward-step m) (suc o) bs (s .contents) o₁ r₁ (onward-step m o id bs h) e₁ in
     let reached = sized-passes (Reaches (length m)) (reach-step (length m)) (suc o) bs (s .contents) o₁ r₁ (reach-step (length m) o id bs r) e₁ in
     let covered = sections-cover m most (seeing seen s) o₁ r₁ (omega (arith, sized-codec .sound (suc o) bs e₁ .shorter)) next reached e₃ in
@@ -88,3 +90,76 @@ walk-covers m {ss} e =
     let next = begins-passes (Onward m) (onward-step m) preamble 0 m v o₁ r₁ refl e₂ in
     let reached = begins-passes (Reaches (length m)) (reach-step (length m)) preamble 0 m v o₁ r₁ (omega arith) e₂ in
     rw far (sections-cover m (length m) nothing o₁ r₁ (omega arith) next reached e₃)
+
+-- The walk as its steps make it: from an offset to the module's end
+unfoldable pub walkFrom : List ℕ → Seen → ℕ → Judged (List Section)
+walkFrom m seen o = judge (sections (length (drop o m)) seen o (drop o m))
+
+judge-row : (s : Section) (r : Outcome (List Section)) → judge (andThen r (λ more. return (s ∷ more))) ≡ mapJudged (λ more. s ∷ more) (judge r)
+judge-row s (got more o bs) = refl
+judge-row s (stop n at) = refl
+
+section-shorter : (seen : Seen) (o id : ℕ) (bs : List ℕ) {s : Section} {o₁ : ℕ} {r₁ : List ℕ} → section seen o id (suc o) bs ≡ got s o₁ r₁ → length r₁ ≤ length bs
+section-shorter seen o id bs e = inSection seen o id bs e λ o₂ r₂ _ _ e₁ _. omega (arith, sized-codec .sound (suc o) bs e₁ .shorter)
+
+-- more than enough is as good as enough
+sections-enough : (most most′ : ℕ) (seen : Seen) (o : ℕ) (bs : List ℕ) → length bs ≤ most → length bs ≤ most′ → sections most seen o bs ≡ sections most′ seen o bs
+unfolding sections
+sections-enough zero zero seen o bs h h′ = refl
+sections-enough zero (suc most′) seen o [] h h′ = refl
+sections-enough zero (suc most′) seen o (b ∷ bs) h h′ = absurd (omega arith)
+sections-enough (suc most) zero seen o [] h h′ = refl
+sections-enough (suc most) zero seen o (b ∷ bs) h h′ = absurd (omega arith)
+sections-enough (suc most) (suc most′) seen o [] h h′ = refl
+sections-enough (suc most) (suc most′) seen o (id ∷ bs) h h′ =
+    byOutcome (section seen o id (suc o) bs)
+    (λ s o₁ r₁ e. let l = section-shorter seen o id bs e in rw (e, sections-enough most most′ (seeing seen s) o₁ r₁ (omega arith) (omega arith)))
+    (λ n at e. rw e)
+
+-- so a walk is its first step and the walk from there
+step-section : (seen : Seen) (o id : ℕ) (bs : List ℕ) {s : Section} {o₁ : ℕ} {r₁ : List ℕ} → step seen o (id ∷ bs) ≡ got (some s) o₁ r₁ → section seen o id (suc o) bs ≡ got s o₁ r₁
+unfolding step
+step-section seen o id bs e =
+    inTurn (section seen o id (suc o) bs) _ e λ s o₁ r₁ e₁ e₂.
+    rw (some-is (got-value e₂), got-next e₂, got-rest e₂) at e₁
+
+step-goes-on : (seen : Seen) (o : ℕ) (bs : List ℕ) {s : Section} {o₁ : ℕ} {r₁ : List ℕ} → step seen o bs ≡ got (some s) o₁ r₁ → judge (sections (length bs) seen o bs) ≡ mapJudged (λ more. s ∷ more) (judge (sections (length r₁) (seeing seen s) o₁ r₁))
+unfolding step sections
+step-goes-on seen o [] e = absurd (not-some (got-value e))
+step-goes-on seen o (id ∷ bs) {s} {o₁} {r₁} e =
+    let e₁ = step-section seen o id bs e in
+    let l = section-shorter seen o id bs e₁ in
+    rw e₁ (judge-row s (sections (length bs) (seeing seen s) o₁ r₁) ∙ ap (λ r. mapJudged (λ more. s ∷ more) (judge r)) (sections-enough (length bs) (length r₁) (seeing seen s) o₁ r₁ l (omega arith)))
+
+stop-refused : {A B : Type 0} {n n′ at at′ : ℕ} → _≡_ {A = Outcome A} (stop n at) (stop n′ at′) → _≡_ {A = Judged B} (refused n at) (refused n′ at′)
+stop-refused e = cc
+
+step-refuses : (seen : Seen) (o : ℕ) (bs : List ℕ) {n at : ℕ} → step seen o bs ≡ stop n at → judge (sections (length bs) seen o bs) ≡ refused n at
+unfolding step sections
+step-refuses seen o [] e = absurd (not-got (sym e))
+step-refuses seen o (id ∷ bs) e =
+    byOutcome (section seen o id (suc o) bs)
+    (λ s o₁ r₁ e₁. absurd (not-got (sym (rw e₁ at e))))
+    (λ n at e₁. rw e₁ (stop-refused (rw e₁ at e)))
+
+module _ (m : List ℕ) (seen : Seen) (o : ℕ) where
+  pub walk-ended : drop o m ≡ [] → walkFrom m seen o ≡ accepted []
+  unfolding walkFrom sections
+  walk-ended e = rw e
+
+  pub walk-stepped : {s : Section} {o₁ : ℕ} → step seen o (drop o m) ≡ got (some s) o₁ (drop o₁ m) → walkFrom m seen o ≡ mapJudged (λ more. s ∷ more) (walkFrom m (seeing seen s) o₁)
+  unfolding walkFrom
+  walk-stepped e = step-goes-on seen o (drop o m) e
+
+  pub walk-refused : {n at : ℕ} → step seen o (drop o m) ≡ stop n at → walkFrom m seen o ≡ refused n at
+  unfolding walkFrom
+  walk-refused e = step-refuses seen o (drop o m) e
+
+-- a module that begins as it must is walked from behind the preamble; any other is refused
+pub walk-begun : (m : List ℕ) {o : ℕ} → begins preamble 0 m ≡ got tt o (drop o m) → walk m ≡ walkFrom m nothing o
+unfolding walk framing walkFrom
+walk-begun m {o} e = rw e (ap judge (sections-enough (length m) (length (drop o m)) nothing o (drop o m) (omega (arith, length-drop o m)) (omega arith)))
+
+pub walk-not-begun : (m : List ℕ) {n at : ℕ} → begins preamble 0 m ≡ stop n at → walk m ≡ refused n at
+unfolding walk framing
+walk-not-begun m e = rw e

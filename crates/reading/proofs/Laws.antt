@@ -1,0 +1,107 @@
+-- Laws for callers: a reading stays inside its part and moves forward, and a part that was read lies where it says. Callers cite these and never open a definition of reading.
+use Prim.Native.Nat.{ℕ, suc, _+_, _-_, _≤_, _<_}
+use mathlib.Core.List.{List, [], _∷_}
+use mathlib.Core.Path.{_≡_, refl, sym, ap, _∙_}
+use native.Mathlib.Omega.{arith}
+use borrow.Author.Tests.{ltb-true, ltb-false}
+use lib.Dec.{ltb}
+use lib.ListN.{length}
+use lib.Seq.{slice, slice-cons, length-slice}
+use Rattle.format.specs.Reading.{got}
+use Rattle.format.specs.Numbers.{number, shortest}
+use Rattle.format.specs.Parts.{Part, sized, name}
+use Rattle.format.specs.Text.{utf8}
+use Rattle.format.specs.Laws.Outcomes.{byTest}
+use Rattle.format.specs.Laws.Numbers.{shortest-positive}
+use Rattle.format.specs.Laws.Codecs.{number-sound}
+use Rattle.format.specs.Laws.Turns.{inSized, inTested}
+use Rattle.format.specs.Laws.Passing.{number-passes, sized-passes}
+use Rattle.format.specs.declared.Reason.the-variants.{NotText}
+use Rattle.reading.specs.Cursors.{Inside, left, NumberReads, PartReads}
+use Rattle.reading.specs.declared.Cursor.{Cursor}
+use Rattle.reading.specs.declared.NumberRead.{NumberRead}
+use Rattle.reading.specs.declared.NumberRead.the-variants.{Value, Refused as NoNumber}
+use Rattle.reading.specs.declared.PartRead.{PartRead}
+use Rattle.reading.specs.declared.PartRead.the-variants.{Part as APart, Refused as NoPart}
+
+-- the bytes left are those of the slice from the offset to the part's end
+record At (s : List ℕ) (end o : ℕ) (bs : List ℕ) : Type 0 where
+  inside : o ≤ end
+  left-there : bs ≡ slice o end s
+
+at-step : (s : List ℕ) (end : ℕ) → end ≤ length s → (o b : ℕ) (bs : List ℕ) → At s end o (b ∷ bs) → At s end (suc o) bs
+at-step s end h o b bs a =
+    byTest (ltb o end)
+    (λ t. record { inside = ltb-true o end t; left-there = let c = slice-cons o end s 0 (ltb-true o end t) h in let l = a .left-there in cc })
+    (λ t. absurd (omega (arith, ltb-false o end t, a .inside, ap length (a .left-there), length-slice o end s h)))
+
+module _ {s : List ℕ} {c : Cursor} where
+  here : Inside s c → At s (c .end) (c .at) (left s c)
+  here i = record { inside = i .ahead; left-there = refl }
+
+  length-left : Inside s c → length (left s c) ≡ c .end - c .at
+  length-left i = length-slice (c .at) (c .end) s (i .within)
+
+-- A number
+module _ {s : List ℕ} {c : Cursor} {x : NumberRead} {v : ℕ} {next : Cursor} where
+  pub number-means : NumberReads s c x → x ≡ Value v next → number (c .at) (left s c) ≡ got v (next .at) (left s next)
+  number-means r e = sym (rw e at (r .means))
+
+  pub number-end : NumberReads s c x → x ≡ Value v next → next .end ≡ c .end
+  number-end r e = rw e at (r .same-part)
+
+  pub number-inside : Inside s c → NumberReads s c x → x ≡ Value v next → Inside s next
+  number-inside i r e =
+      let there = number-passes (At s (c .end)) (at-step s (c .end) (i .within)) (c .at) (left s c) v (next .at) (left s next) (here i) (number-means r e) in
+      let same = number-end r e in
+      record { ahead = omega (arith, there .inside); within = omega (arith, i .within) }
+
+  pub number-ahead : Inside s c → NumberReads s c x → x ≡ Value v next → next .at ≤ next .end
+  number-ahead i r e = number-inside i r e .ahead
+
+  pub number-moves : Inside s c → NumberReads s c x → x ≡ Value v next → c .at < next .at
+  number-moves i r e =
+      let sound = number-sound (c .at) (left s c) (number-means r e) .shorter in
+      let there = number-inside i r e in
+      omega (arith, sound, shortest-positive v, length-left i, length-left there, number-end r e)
+
+-- A sized part, or a name: the part, and the cursor behind it
+pub record Behind (s : List ℕ) (c part next : Cursor) : Type 0 where
+  pub in-part : Inside s part
+  pub in-rest : Inside s next
+  pub forward : c .at < part .at
+  pub ends : part .end ≡ next .at
+  pub same-end : next .end ≡ c .end
+
+module _ {s : List ℕ} {c part next : Cursor} where
+  sized-behind : Inside s c → sized (c .at) (left s c) ≡ got (record { at = part .at; bytes = left s part }) (next .at) (left s next) → part .end ≡ next .at → next .end ≡ c .end → Behind s c part next
+  sized-behind i e ends same =
+      inSized (c .at) (left s c) e λ n o r e₁ fit is far rest.
+      let there = number-passes (At s (c .end)) (at-step s (c .end) (i .within)) (c .at) (left s c) n o r (here i) e₁ in
+      let after = sized-passes (At s (c .end)) (at-step s (c .end) (i .within)) (c .at) (left s c) _ (next .at) (left s next) (here i) e in
+      let sound = number-sound (c .at) (left s c) e₁ .shorter in
+      let o-is : o ≡ part .at = ap (λ p. p .at) is in
+      let far-left : length r ≡ c .end - o = ap length (there .left-there) ∙ length-slice o (c .end) s (i .within) in
+      record {
+        in-part = record { ahead = omega arith; within = omega (arith, after .inside, i .within) };
+        in-rest = record { ahead = omega (arith, after .inside); within = omega (arith, i .within) };
+        forward = omega (arith, sound, shortest-positive n, length-left i, there .inside);
+        ends = ends;
+        same-end = same;
+      }
+
+  module _ {x : PartRead} where
+    pub sized-means : PartReads sized s c x → x ≡ APart part next → sized (c .at) (left s c) ≡ got (record { at = part .at; bytes = left s part }) (next .at) (left s next)
+    sized-means r e = sym (rw e at (r .means))
+
+    pub name-means : PartReads name s c x → x ≡ APart part next → name (c .at) (left s c) ≡ got (record { at = part .at; bytes = left s part }) (next .at) (left s next)
+    name-means r e = sym (rw e at (r .means))
+
+    pub part-behind : Inside s c → PartReads sized s c x → x ≡ APart part next → Behind s c part next
+    part-behind i r e = let same = rw e at (r .same-part) in sized-behind i (sized-means r e) (same .0) (same .1)
+
+    pub name-behind : Inside s c → PartReads name s c x → x ≡ APart part next → Behind s c part next
+    unfolding name
+    name-behind i r e =
+        let same = rw e at (r .same-part) in
+        inTested utf8 NotText (λ o p. p .at) (c .at) (left s c) (name-means r e) λ e₁ t. sized-behind i e₁ (same .0) (same .1)

@@ -1,0 +1,3 @@
+pub mod NumberLoop
+pub mod Laws
+pub mod PartSteps

@@ -1,0 +1,53 @@
+-- What `sized` and `name` do with what they read first.
+use Prim.Native.Nat.{ℕ, zero, suc, _+_, _-_, _≤_, _<_}
+use mathlib.Core.Bool.{Bool, true, false}
+use mathlib.Core.List.{List, [], _∷_}
+use mathlib.Core.Path.{_≡_, refl, sym, ap, _∙_}
+use native.Mathlib.Nat.{zero-add, suc-add}
+use native.Mathlib.Omega.{arith}
+use borrow.Author.Needs.{needs}
+use borrow.Author.Tests.{le-leb, lt-leb}
+use lib.ListN.{length, take, drop}
+use lib.Seq.{slice, length-slice, drop-drop, take-take, take-nil, drop-nil}
+use Rattle.format.specs.Reading.{Outcome, got, stop}
+use Rattle.format.specs.Parts.{Part, sized, name}
+use Rattle.format.specs.declared.Refusal.{Refusal}
+use Rattle.format.specs.declared.Reason.the-variants.{PastItsPart, NotText}
+use Rattle.reading.specs.Cursors.{Inside, left, NumberReads, PartReads}
+use Rattle.reading.specs.declared.Cursor.{Cursor}
+use Rattle.reading.specs.declared.NumberRead.{NumberRead}
+use Rattle.reading.specs.declared.NumberRead.the-variants.{Value, Refused as NoNumber}
+use Rattle.reading.specs.declared.PartRead.the-variants.{Part as APart, Refused as NoPart}
+use Rattle.reading.proofs.Laws.{number-means, number-inside, number-ahead, number-end}
+
+take-drop : (i n : ℕ) (x : List ℕ) → take n (drop i x) ≡ drop i (take (i + n) x)
+take-drop zero n x = rw zero-add
+take-drop (suc i) n [] = rw take-nil (rw (take-nil (suc i + n)))
+take-drop (suc i) n (b ∷ x) = rw suc-add (take-drop i n x)
+
+-- the front of what is left is the slice up to there
+slice-front : (s : List ℕ) (i end n : ℕ) → n ≤ end - i → i ≤ end → take n (slice i end s) ≡ slice i (i + n) s
+slice-front s i end n h k = take-drop i n (take end s) ∙ ap (drop i) (take-take (i + n) end s (omega arith))
+
+module _ {s : List ℕ} {c : Cursor} {x : NumberRead} where
+  pub sized-refused : {r : Refusal} → NumberReads s c x → x ≡ NoNumber r → PartReads sized s c (NoPart r)
+  unfolding sized
+  sized-refused n e = record { means = rw (← rw e at (n .means)); same-part = tt }
+
+  module _ {v : ℕ} {d : Cursor} (i : Inside s c) (n : NumberReads s c x) (e : x ≡ Value v d) where
+    pub sized-long : d .end - d .at < v → PartReads sized s c (NoPart (record { reason = PastItsPart; offset = record { 0 = c .at } }))
+    unfolding sized
+    sized-long h =
+        let l = number-inside i n e in
+        record { means = rw (number-means n e, length-slice (d .at) (d .end) s (l .within), lt-leb v (d .end - d .at) h); same-part = tt }
+
+    pub sized-fits : v ≤ d .end - d .at → PartReads sized s c (APart (record { at = d .at; end = d .at + v }) (record { at = d .at + v; end = d .end }))
+    unfolding sized
+    sized-fits h =
+        let l = number-inside i n e in
+        record {
+          means = rw (number-means n e, length-slice (d .at) (d .end) s (l .within), le-leb v (d .end - d .at) h, slice-front s (d .at) (d .end) v h (l .ahead), drop-drop);
+          same-part = (refl, number-end n e);
+        }
+
+pub ruleset sized-steps = (sized-refused, sized-long, sized-fits, number-ahead, needs)

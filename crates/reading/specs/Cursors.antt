@@ -1,0 +1,57 @@
+-- What a cursor has left to read, and what its readings mean. Assumes nothing.
+use Prim.Native.Nat.{ℕ, _≤_}
+use mathlib.Core.List.{List}
+use mathlib.Core.Path.{_≡_}
+use lib.ListN.{length}
+use lib.Seq.{slice}
+use Rattle.format.specs.Refusals.{numberOf}
+use Rattle.format.specs.Reading.{Outcome, got, stop, Reader}
+use Rattle.format.specs.Numbers.{number}
+use Rattle.format.specs.Parts.{Part}
+use Rattle.format.specs.declared.Refusal.{Refusal}
+use Rattle.reading.specs.declared.Cursor.{Cursor}
+use Rattle.reading.specs.declared.NumberRead.{NumberRead}
+use Rattle.reading.specs.declared.NumberRead.the-variants.{Value, Refused as NoNumber}
+use Rattle.reading.specs.declared.PartRead.{PartRead}
+use Rattle.reading.specs.declared.PartRead.the-variants.{Part as APart, Refused as NoPart}
+
+-- the cursor lies in what was lent
+pub record Inside (s : List ℕ) (c : Cursor) : Type 0 where
+  pub ahead : c .at ≤ c .end
+  pub within : c .end ≤ length s
+
+-- the bytes that it has left
+abbrev pub left : List ℕ → Cursor → List ℕ
+left s c = slice (c .at) (c .end) s
+
+-- a refusal, by its number and offset
+abbrev pub refusalOf : {A : Type 0} → Refusal → Outcome A
+refusalOf r = stop (numberOf (r .reason)) (r .offset .0)
+
+-- what reading a number found
+abbrev pub numberOutcome : List ℕ → NumberRead → Outcome ℕ
+numberOutcome s (Value v next) = got v (next .at) (left s next)
+numberOutcome s (NoNumber r) = refusalOf r
+
+-- the next cursor has the same part around it
+abbrev pub numberEnd : ℕ → NumberRead → Type 0
+numberEnd end (Value v next) = next .end ≡ end
+numberEnd end (NoNumber r) = Unit {0}
+
+pub record NumberReads (s : List ℕ) (c : Cursor) (r : NumberRead) : Type 0 where
+  pub means : numberOutcome s r ≡ number (c .at) (left s c)
+  pub same-part : numberEnd (c .end) r
+
+-- what reading a sized part or a name found
+abbrev pub partOutcome : List ℕ → PartRead → Outcome Part
+partOutcome s (APart part next) = got (record { at = part .at; bytes = left s part }) (next .at) (left s next)
+partOutcome s (NoPart r) = refusalOf r
+
+-- the part ends where the next cursor begins, which has the same part around it
+abbrev pub partEnd : ℕ → PartRead → Type 0
+partEnd end (APart part next) = (part .end ≡ next .at) × (next .end ≡ end)
+partEnd end (NoPart r) = Unit {0}
+
+pub record PartReads (read : Reader Part) (s : List ℕ) (c : Cursor) (r : PartRead) : Type 0 where
+  pub means : partOutcome s r ≡ read (c .at) (left s c)
+  pub same-part : partEnd (c .end) r

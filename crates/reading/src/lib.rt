@@ -1,0 +1,94 @@
+// Reads numbers, sized parts and names out of lent bytes, left to right, from a cursor by value.
+ghost use mathlib.Core.Path.{_≡_};
+ghost use Rattle.format.specs.Parts.{sized, name};
+ghost use Rattle.reading.specs.Cursors.{Inside, NumberReads, PartReads};
+use format::Offset;
+use format::Reason;
+use format::Refusal;
+
+// A place in what was lent, and the end of the innermost part around it.
+pub struct Cursor {
+    pub at: usize,
+    pub end: usize,
+}
+
+// What reading a number finds: its value and the cursor behind it.
+pub enum NumberRead {
+    Value(u32, Cursor),
+    Refused(Refusal),
+}
+
+// What reading a sized part or a name finds: a cursor over the part alone, and the cursor behind it.
+pub enum PartRead {
+    Part(Cursor, Cursor),
+    Refused(Refusal),
+}
+
+fn wide(x: u8) -> u32
+    ensures { λ r. ⌜ r ≡ x ⌝ }
+{
+    x as u32
+}
+
+impl Cursor {
+    // A number: at most 5 bytes, the fifth at most 0x0F.
+    pub fn number(self, s: &[u8]) -> NumberRead
+        requires { ⌜ Inside (now s) self ⌝ }
+        ensures { λ r. ⌜ NumberReads (now (s .entry)) self r ⌝ }
+    {
+        let at = self.at;
+        let end = self.end;
+        let mut value: u32 = 0;
+        let mut weight: u32 = 1;
+        let mut i = at;
+        let mut more: u32 = 4;
+        while i < end {
+            let b = wide(s[i]);
+            let next = Cursor { at: i + 1, end };
+            if more == 0 {
+                if b <= 0x0F {
+                    return NumberRead::Value(value + weight * b, next);
+                }
+                return NumberRead::Refused(Refusal {
+                    reason: Reason::NumberTooLarge,
+                    offset: Offset(at),
+                });
+            }
+            if b < 128 {
+                return NumberRead::Value(value + weight * b, next);
+            }
+            value = value + weight * (b % 128);
+            weight = weight * 128;
+            more = more - 1;
+            i = i + 1;
+        }
+        NumberRead::Refused(Refusal {
+            reason: Reason::PastItsPart,
+            offset: Offset(at),
+        })
+    }
+
+    // A sized part: a number and that many bytes.
+    pub fn sized(self, s: &[u8]) -> PartRead
+        requires { ⌜ Inside (now s) self ⌝ }
+        ensures { λ r. ⌜ PartReads sized (now (s .entry)) self r ⌝ }
+    {
+        let first = self.at;
+        match self.number(s) {
+            NumberRead::Refused(r) => PartRead::Refused(r),
+            NumberRead::Value(n, c) => {
+                let at = c.at;
+                let end = c.end;
+                let size = n as usize;
+                if end - at < size {
+                    return PartRead::Refused(Refusal {
+                        reason: Reason::PastItsPart,
+                        offset: Offset(first),
+                    });
+                }
+                let next = at + size;
+                PartRead::Part(Cursor { at, end: next }, Cursor { at: next, end })
+            }
+        }
+    }
+}
