@@ -1,6 +1,6 @@
 -- Laws for callers: a reading stays inside its part and moves forward, and a part that was read lies where it says. Callers cite these and never open a definition of reading.
-use Prim.Native.Nat.{ℕ, suc, _+_, _-_, _≤_, _<_}
-use mathlib.Core.List.{List, [], _∷_}
+use Prim.Native.Nat.{ℕ, suc, _-_, _≤_, _<_}
+use mathlib.Core.List.{List, _∷_}
 use mathlib.Core.Path.{_≡_, refl, sym, ap, _∙_}
 use native.Mathlib.Omega.{arith}
 use borrow.Author.Tests.{ltb-true, ltb-false}
@@ -8,8 +8,8 @@ use lib.Dec.{ltb}
 use lib.ListN.{length}
 use lib.Seq.{slice, slice-cons, length-slice}
 use Rattle.format.specs.Reading.{got}
-use Rattle.format.specs.Numbers.{number, shortest}
-use Rattle.format.specs.Parts.{Part, sized, name}
+use Rattle.format.specs.Numbers.{number}
+use Rattle.format.specs.Parts.{sized, name}
 use Rattle.format.specs.Text.{utf8}
 use Rattle.format.specs.Laws.Outcomes.{byTest}
 use Rattle.format.specs.Laws.Numbers.{shortest-positive}
@@ -20,9 +20,9 @@ use Rattle.format.specs.declared.Reason.the-variants.{NotText}
 use Rattle.reading.specs.Cursors.{Inside, left, NumberReads, PartReads}
 use Rattle.reading.specs.declared.Cursor.{Cursor}
 use Rattle.reading.specs.declared.NumberRead.{NumberRead}
-use Rattle.reading.specs.declared.NumberRead.the-variants.{Value, Refused as NoNumber}
+use Rattle.reading.specs.declared.NumberRead.the-variants.{Value}
 use Rattle.reading.specs.declared.PartRead.{PartRead}
-use Rattle.reading.specs.declared.PartRead.the-variants.{Part as APart, Refused as NoPart}
+use Rattle.reading.specs.declared.PartRead.the-variants.{Part as APart}
 
 -- the bytes left are those of the slice from the offset to the part's end
 record At (s : List ℕ) (end o : ℕ) (bs : List ℕ) : Type 0 where

@@ -1,3 +1,4 @@
 pub mod NumberLoop
 pub mod Laws
 pub mod PartSteps
+pub mod TextLaws

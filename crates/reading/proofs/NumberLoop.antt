@@ -1,6 +1,6 @@
 -- The loop that reads a number: what was read so far, and what the bytes left will add.
 use Prim.Native.Nat.{ℕ, zero, suc, _+_, _*_, _%_, _-_, _≤_, _<_}
-use mathlib.Core.List.{List, [], _∷_}
+use mathlib.Core.List.{List, _∷_}
 use mathlib.Core.Path.{_≡_, refl, sym, ap, _∙_}
 use native.Mathlib.Nat.{mul-le-mul-left, mod-lt}
 use native.Mathlib.Omega.{arith}
@@ -10,9 +10,9 @@ use lib.ListN.{length, getD}
 use lib.Seq.{slice, slice-cons, slice-empty}
 use Rattle.format.specs.Reading.{Outcome, got, stop, andThen, return}
 use Rattle.format.specs.Numbers.{groups, number, limit32}
-use Rattle.format.specs.Laws.Numbers.{limit, limit-positive}
+use Rattle.format.specs.Laws.Numbers.{limit}
 use Rattle.format.specs.declared.Reason.the-variants.{PastItsPart, NumberTooLarge}
-use Rattle.reading.specs.Cursors.{Inside, left, NumberReads}
+use Rattle.reading.specs.Cursors.{NumberReads}
 use Rattle.reading.specs.declared.Cursor.{Cursor}
 use Rattle.reading.specs.declared.NumberRead.the-variants.{Value, Refused}
 

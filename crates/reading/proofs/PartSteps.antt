@@ -2,23 +2,24 @@
 use Prim.Native.Nat.{ℕ, zero, suc, _+_, _-_, _≤_, _<_}
 use mathlib.Core.Bool.{Bool, true, false}
 use mathlib.Core.List.{List, [], _∷_}
-use mathlib.Core.Path.{_≡_, refl, sym, ap, _∙_}
+use mathlib.Core.Path.{_≡_, refl, ap, _∙_}
 use native.Mathlib.Nat.{zero-add, suc-add}
 use native.Mathlib.Omega.{arith}
 use borrow.Author.Needs.{needs}
 use borrow.Author.Tests.{le-leb, lt-leb}
 use lib.ListN.{length, take, drop}
-use lib.Seq.{slice, length-slice, drop-drop, take-take, take-nil, drop-nil}
-use Rattle.format.specs.Reading.{Outcome, got, stop}
-use Rattle.format.specs.Parts.{Part, sized, name}
+use lib.Seq.{slice, length-slice, drop-drop, take-take, take-nil}
+use Rattle.format.specs.Parts.{sized, name}
+use Rattle.format.specs.Text.{utf8}
 use Rattle.format.specs.declared.Refusal.{Refusal}
 use Rattle.format.specs.declared.Reason.the-variants.{PastItsPart, NotText}
-use Rattle.reading.specs.Cursors.{Inside, left, NumberReads, PartReads}
+use Rattle.reading.specs.Cursors.{Inside, NumberReads, PartReads}
 use Rattle.reading.specs.declared.Cursor.{Cursor}
 use Rattle.reading.specs.declared.NumberRead.{NumberRead}
 use Rattle.reading.specs.declared.NumberRead.the-variants.{Value, Refused as NoNumber}
+use Rattle.reading.specs.declared.PartRead.{PartRead}
 use Rattle.reading.specs.declared.PartRead.the-variants.{Part as APart, Refused as NoPart}
-use Rattle.reading.proofs.Laws.{number-means, number-inside, number-ahead, number-end}
+use Rattle.reading.proofs.Laws.{number-means, number-inside, number-ahead, number-end, sized-means, part-behind}
 
 take-drop : (i n : ℕ) (x : List ℕ) → take n (drop i x) ≡ drop i (take (i + n) x)
 take-drop zero n x = rw zero-add
@@ -51,3 +52,26 @@ module _ {s : List ℕ} {c : Cursor} {x : NumberRead} where
         }
 
 pub ruleset sized-steps = (sized-refused, sized-long, sized-fits, number-ahead, needs)
+
+module _ {s : List ℕ} {c : Cursor} {x : PartRead} where
+  pub name-refused : {r : Refusal} → PartReads sized s c x → x ≡ NoPart r → PartReads name s c (NoPart r)
+  unfolding name
+  name-refused n e = record { means = rw (← rw e at (n .means)); same-part = tt }
+
+  module _ {part next : Cursor} (n : PartReads sized s c x) (e : x ≡ APart part next) where
+    pub name-taken : {b : Bool} → b ≡ utf8 (slice (part .at) (part .end) s) → b ≡ true → PartReads name s c (APart part next)
+    unfolding name
+    name-taken q t = record { means = rw (sized-means n e, ← q, t); same-part = rw e at (n .same-part) }
+
+    pub name-not-text : {b : Bool} → b ≡ utf8 (slice (part .at) (part .end) s) → b ≡ false → PartReads name s c (NoPart (record { reason = NotText; offset = record { 0 = part .at } }))
+    unfolding name
+    name-not-text q t = record { means = rw (sized-means n e, ← q, t); same-part = tt }
+
+  module _ {part next : Cursor} (i : Inside s c) (n : PartReads sized s c x) (e : x ≡ APart part next) where
+    pub part-ahead : part .at ≤ part .end
+    part-ahead = part-behind i n e .in-part .ahead
+
+    pub part-within : part .end ≤ length s
+    part-within = part-behind i n e .in-part .within
+
+pub ruleset name-steps = (name-refused, name-taken, name-not-text, part-ahead, part-within, needs)

@@ -6,6 +6,8 @@ use format::Offset;
 use format::Reason;
 use format::Refusal;
 
+pub mod text;
+
 // A place in what was lent, and the end of the innermost part around it.
 pub struct Cursor {
     pub at: usize,
@@ -88,6 +90,26 @@ impl Cursor {
                 }
                 let next = at + size;
                 PartRead::Part(Cursor { at, end: next }, Cursor { at: next, end })
+            }
+        }
+    }
+
+    // A name: a sized part that is valid UTF-8.
+    pub fn name(self, s: &[u8]) -> PartRead
+        requires { ⌜ Inside (now s) self ⌝ }
+        ensures { λ r. ⌜ PartReads name (now (s .entry)) self r ⌝ }
+    {
+        match self.sized(s) {
+            PartRead::Refused(r) => PartRead::Refused(r),
+            PartRead::Part(part, next) => {
+                let from = part.at;
+                if text::is_text(s, from, part.end) {
+                    return PartRead::Part(part, next);
+                }
+                PartRead::Refused(Refusal {
+                    reason: Reason::NotText,
+                    offset: Offset(from),
+                })
             }
         }
     }

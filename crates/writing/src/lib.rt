@@ -1,0 +1,50 @@
+// Puts bytes into a lent output, one thing after the other: each function returns where the next one starts.
+ghost use mathlib.Core.List.{[], _∷_};
+ghost use Prim.Native.Nat.{_≤_, _<_, _+_};
+ghost use lib.ListN.{length};
+ghost use Rattle.format.specs.Listing.{decimal};
+ghost use Rattle.writing.specs.Wrote.{Wrote};
+
+// As many digits as the greatest 64-bit number has.
+const MOST_DIGITS: usize = 20;
+
+// The digit 0 in ASCII: the others follow it.
+const ZERO: u8 = b'0';
+
+pub fn put_byte(out: &mut [u8], at: usize, b: u8) -> usize
+    requires { ⌜ at < length (now out) ⌝ }
+    ensures { λ r. ⌜ Wrote (now (out .entry)) (now (out .exit)) at r (b ∷ []) ⌝ }
+{
+    out[at] = b;
+    at + 1
+}
+
+pub fn put_bytes(out: &mut [u8], at: usize, bytes: &[u8]) -> usize
+    requires { ⌜ at + length (now bytes) ≤ length (now out) ⌝ }
+    ensures { λ r. ⌜ Wrote (now (out .entry)) (now (out .exit)) at r (now (bytes .entry)) ⌝ }
+{
+    let mut k = 0;
+    while k < bytes.len() {
+        out[at + k] = bytes[k];
+        k += 1;
+    }
+    at + k
+}
+
+pub fn put_decimal(out: &mut [u8], at: usize, n: u64) -> usize
+    requires { ⌜ at + 20 ≤ length (now out) ⌝ }
+    ensures { λ r. ⌜ Wrote (now (out .entry)) (now (out .exit)) at r (decimal n) ⌝ }
+    ensures { λ r. ⌜ r ≤ at + 20 ⌝ }
+{
+    // The last digit is found first, so the digits fill `text` from its end.
+    let mut text = [0u8; MOST_DIGITS];
+    let mut first = MOST_DIGITS - 1;
+    let mut rest = n;
+    while 10 <= rest {
+        text[first] = ZERO + (rest % 10) as u8;
+        rest = rest / 10;
+        first -= 1;
+    }
+    text[first] = ZERO + rest as u8;
+    put_bytes(out, at, &text[first..])
+}
