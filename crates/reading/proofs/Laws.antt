@@ -17,7 +17,7 @@ use Rattle.format.specs.Laws.Codecs.{number-sound}
 use Rattle.format.specs.Laws.Turns.{inSized, inTested}
 use Rattle.format.specs.Laws.Passing.{number-passes, sized-passes}
 use Rattle.format.specs.declared.Reason.the-variants.{NotText}
-use Rattle.reading.specs.Cursors.{Inside, left, NumberReads, PartReads}
+use Rattle.reading.specs.Cursors.{Inside, left, partOf, NumberReads, PartReads}
 use Rattle.reading.specs.declared.Cursor.{Cursor}
 use Rattle.reading.specs.declared.NumberRead.{NumberRead}
 use Rattle.reading.specs.declared.NumberRead.the-variants.{Value}
@@ -74,7 +74,7 @@ pub record Behind (s : List ℕ) (c part next : Cursor) : Type 0 where
   pub same-end : next .end ≡ c .end
 
 module _ {s : List ℕ} {c part next : Cursor} where
-  sized-behind : Inside s c → sized (c .at) (left s c) ≡ got (record { at = part .at; bytes = left s part }) (next .at) (left s next) → part .end ≡ next .at → next .end ≡ c .end → Behind s c part next
+  sized-behind : Inside s c → sized (c .at) (left s c) ≡ got (partOf s part) (next .at) (left s next) → part .end ≡ next .at → next .end ≡ c .end → Behind s c part next
   sized-behind i e ends same =
       inSized (c .at) (left s c) e λ n o r e₁ fit is far rest.
       let there = number-passes (At s (c .end)) (at-step s (c .end) (i .within)) (c .at) (left s c) n o r (here i) e₁ in
@@ -91,10 +91,10 @@ module _ {s : List ℕ} {c part next : Cursor} where
       }
 
   module _ {x : PartRead} where
-    pub sized-means : PartReads sized s c x → x ≡ APart part next → sized (c .at) (left s c) ≡ got (record { at = part .at; bytes = left s part }) (next .at) (left s next)
+    pub sized-means : PartReads sized s c x → x ≡ APart part next → sized (c .at) (left s c) ≡ got (partOf s part) (next .at) (left s next)
     sized-means r e = sym (rw e at (r .means))
 
-    pub name-means : PartReads name s c x → x ≡ APart part next → name (c .at) (left s c) ≡ got (record { at = part .at; bytes = left s part }) (next .at) (left s next)
+    pub name-means : PartReads name s c x → x ≡ APart part next → name (c .at) (left s c) ≡ got (partOf s part) (next .at) (left s next)
     name-means r e = sym (rw e at (r .means))
 
     pub part-behind : Inside s c → PartReads sized s c x → x ≡ APart part next → Behind s c part next

@@ -24,6 +24,10 @@ pub record Inside (s : List ℕ) (c : Cursor) : Type 0 where
 abbrev pub left : List ℕ → Cursor → List ℕ
 left s c = slice (c .at) (c .end) s
 
+-- the part that it stands for
+abbrev pub partOf : List ℕ → Cursor → Part
+partOf s c = record { at = c .at; bytes = left s c }
+
 -- a refusal, by its number and offset
 abbrev pub refusalOf : {A : Type 0} → Refusal → Outcome A
 refusalOf r = stop (numberOf (r .reason)) (r .offset .0)
@@ -44,7 +48,7 @@ pub record NumberReads (s : List ℕ) (c : Cursor) (r : NumberRead) : Type 0 whe
 
 -- what reading a sized part or a name found
 abbrev pub partOutcome : List ℕ → PartRead → Outcome Part
-partOutcome s (APart part next) = got (record { at = part .at; bytes = left s part }) (next .at) (left s next)
+partOutcome s (APart part next) = got (partOf s part) (next .at) (left s next)
 partOutcome s (NoPart r) = refusalOf r
 
 -- the part ends where the next cursor begins, which has the same part around it

@@ -1,0 +1,102 @@
+-- Comparing a name byte by byte.
+use Prim.Native.Nat.{ℕ, zero, suc, _+_, _-_, _≤_, _<_}
+use mathlib.Core.Bool.{Bool, true, false, false≢true}
+use mathlib.Core.List.{List, [], _∷_}
+use mathlib.Core.Path.{_≡_, refl, sym, ap, _∙_}
+use native.Mathlib.Nat.{add-zero}
+use native.Mathlib.Numerals.{add-one}
+use native.Mathlib.Omega.{arith}
+use borrow.Author.Needs.{needs}
+use borrow.Author.Tests.{eq-eqb, ne-eqb, eqb-true}
+use lib.Dec.{eqb}
+use lib.ListN.{length, getD, drop}
+use lib.Seq.{slice, slice-cons, slice-empty, length-slice, drop-cons, drop-length}
+use Rattle.format.specs.Bytes.{ascii, same}
+use Rattle.format.specs.Walk.{nameSection, hintSection}
+use Rattle.format.specs.Laws.Outcomes.{byTest}
+use Rattle.reading.specs.Cursors.{Inside, left}
+use Rattle.reading.specs.declared.Cursor.{Cursor}
+use Rattle.walk.specs.Sections.{Calls}
+use Rattle.walk.specs.declared.rules.Called.the-variants.{Name, Hints, Other}
+
+-- lists of other lengths are not the same
+lengths-differ : (x y : List ℕ) → (length x ≡ length y → ⊥) → same x y ≡ false
+unfolding same
+lengths-differ [] [] n = absurd (n refl)
+lengths-differ [] (b ∷ y) n = refl
+lengths-differ (a ∷ x) [] n = refl
+lengths-differ (a ∷ x) (b ∷ y) n = byTest (eqb a b) (λ t. rw t (lengths-differ x y (λ e. n (ap suc e)))) (λ t. rw t)
+
+-- the loop: up to `k` they are the same, and what follows decides
+pub record Turn (s name : List ℕ) (at k : ℕ) : Type 0 where
+  pub far : k ≤ length name
+  pub fits : at + length name ≤ length s
+  pub rest : same name (slice at (at + length name) s) ≡ same (drop k name) (slice (at + k) (at + length name) s)
+
+there : {s : List ℕ} {part : Cursor} (name : List ℕ) → Inside s part → part .end - part .at ≡ length name → left s part ≡ slice (part .at) (part .at + length name) s
+there {s} {part} name i e = let far : part .end ≡ part .at + length name = omega (arith, i .ahead) in ap (λ n. slice (part .at) n s) far
+
+module _ (s : List ℕ) (part : Cursor) (name : List ℕ) where
+  pub other-length : Inside s part → (part .end - part .at ≡ length name → ⊥) → false ≡ same name (left s part)
+  other-length i n = sym (lengths-differ name (left s part) (λ e. n (sym (e ∙ length-slice (part .at) (part .end) s (i .within)))))
+
+  pub compare : Inside s part → part .end - part .at ≡ length name → Turn s name (part .at) 0
+  compare i e = record { far = omega arith; fits = omega (arith, i .ahead, i .within); rest = rw add-zero }
+
+module _ {s name : List ℕ} {at k : ℕ} (t : Turn s name at k) (h : k < length name) where
+  first-bytes : same (drop k name) (slice (at + k) (at + length name) s) ≡ same (getD name k 0 ∷ drop (suc k) name) (getD s (at + k) 0 ∷ slice (suc (at + k)) (at + length name) s)
+  first-bytes = let f = t .fits in rw (drop-cons name k 0 h, slice-cons (at + k) (at + length name) s 0 (omega arith) f)
+
+  differs : (getD s (at + k) 0 ≡ getD name k 0 → ⊥) → false ≡ same name (slice at (at + length name) s)
+  unfolding same
+  differs n = sym (t .rest ∙ first-bytes ∙ rw (ne-eqb (getD name k 0) (getD s (at + k) 0) (λ e. n (sym e))))
+
+  pub byte-same : getD s (at + k) 0 ≡ getD name k 0 → Turn s name at (k + 1)
+  unfolding same
+  byte-same e =
+      let next : at + (k + 1) ≡ suc (at + k) = omega arith in
+      record { far = omega arith; fits = t .fits; rest = t .rest ∙ first-bytes ∙ rw (eq-eqb (getD name k 0) (getD s (at + k) 0) (sym e), next, add-one) }
+
+module _ {s : List ℕ} {part : Cursor} {name : List ℕ} {k : ℕ} (t : Turn s name (part .at) k) (i : Inside s part) (l : part .end - part .at ≡ length name) where
+  pub byte-differs : k < length name → (getD s (part .at + k) 0 ≡ getD name k 0 → ⊥) → false ≡ same name (left s part)
+  byte-differs h n = rw (there name i l) (differs t h n)
+
+  pub all-same : length name ≤ k → true ≡ same name (left s part)
+  unfolding same
+  all-same h =
+      let end : k ≡ length name = omega (arith, t .far) in
+      rw (there name i l) (sym (t .rest ∙ rw (end, drop-length, slice-empty)))
+
+pub ruleset called-turns = (other-length, compare, byte-differs, byte-same, all-same, needs)
+
+-- The two names that the rules know, as the code has them
+abbrev nameBytes : List ℕ
+nameBytes = 110 ∷ 97 ∷ 109 ∷ 101 ∷ []
+
+abbrev hintBytes : List ℕ
+hintBytes = 109 ∷ 101 ∷ 116 ∷ 97 ∷ 100 ∷ 97 ∷ 116 ∷ 97 ∷ 46 ∷ 99 ∷ 111 ∷ 100 ∷ 101 ∷ 46 ∷ 98 ∷ 114 ∷ 97 ∷ 110 ∷ 99 ∷ 104 ∷ 95 ∷ 104 ∷ 105 ∷ 110 ∷ 116 ∷ []
+
+same-is : (x y : List ℕ) → same x y ≡ true → x ≡ y
+unfolding same
+same-is [] [] e = refl
+same-is [] (b ∷ y) e = absurd (false≢true e)
+same-is (a ∷ x) [] e = absurd (false≢true e)
+same-is (a ∷ x) (b ∷ y) e = byTest (eqb a b) (λ t. let z = same-is x y (rw t at e) in rw (eqb-true a b t, z)) (λ t. absurd (false≢true (rw t at e)))
+
+module _ {x : List ℕ} {r : Bool} where
+  pub calls-name : r ≡ same nameBytes x → r ≡ true → Calls x Name
+  unfolding nameSection hintSection ascii same
+  calls-name e t =
+      let is = same-is nameBytes x (sym e ∙ t) in
+      rw (← is) (record { as-name = refl; as-hints = refl })
+
+  module _ {q : Bool} (e : r ≡ same nameBytes x) (t : r ≡ false) (f : q ≡ same hintBytes x) where
+    pub calls-hints : q ≡ true → Calls x Hints
+    unfolding nameSection hintSection ascii
+    calls-hints u = record { as-name = sym e ∙ t; as-hints = sym f ∙ u }
+
+    pub calls-other : q ≡ false → Calls x Other
+    unfolding nameSection hintSection ascii
+    calls-other u = record { as-name = sym e ∙ t; as-hints = sym f ∙ u }
+
+pub ruleset calls = (calls-name, calls-hints, calls-other, needs)

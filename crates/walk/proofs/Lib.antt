@@ -1,0 +1,3 @@
+pub mod RuleLaws
+pub mod CalledLaws
+pub mod StepLaws

@@ -1,0 +1,161 @@
+-- One step of the walk.
+use Prim.Native.Nat.{ℕ, zero, suc, _+_, _≤_, _<_}
+use mathlib.Core.List.{List, [], _∷_}
+use mathlib.Core.Option.{Option, none, some}
+use mathlib.Core.Path.{_≡_, refl, sym, ap, _∙_}
+use native.Mathlib.Numerals.{add-one}
+use native.Mathlib.Omega.{arith}
+use borrow.Author.Needs.{needs}
+use denote.Enum.Declared.{tagOf}
+use lib.ListN.{length, drop, getD, drop-of-length-le}
+use lib.Seq.{slice, take-length, drop-cons}
+use Rattle.format.specs.Reading.{Outcome, got, stop, Reader, andThen, _>>_, return}
+use Rattle.format.specs.Parts.{sized, name, remaining, goOn, inside}
+use Rattle.format.specs.Walk.{custom, isCalled, seeing, idRules, nameRules, section, step}
+use Rattle.format.specs.Laws.Outcomes.{byOutcome}
+use Rattle.format.specs.declared.Reason.{Reason}
+use Rattle.format.specs.declared.Refusal.{Refusal}
+use Rattle.reading.specs.Cursors.{Inside, left, partOf, PartReads}
+use Rattle.reading.specs.declared.Cursor.{Cursor}
+use Rattle.reading.specs.declared.PartRead.{PartRead}
+use Rattle.reading.specs.declared.PartRead.the-variants.{Part, Refused as NoPart}
+use Rattle.reading.proofs.Laws.{sized-means, name-means, part-behind, name-behind}
+use Rattle.walk.specs.Sections.{seenOf, ruling, IdRuled, NameRuled, Calls, Sees, customOf, CustomReads, CallsCustom, NameInside}
+use Rattle.walk.specs.Steps.{behindSize, AfterSize, Steps}
+use Rattle.walk.specs.declared.rules.Called.{Called}
+use Rattle.walk.specs.declared.rules.Called.the-variants.{Other}
+use Rattle.walk.specs.declared.rules.Seen.{Seen}
+use Rattle.walk.specs.declared.rules.Verdict.{Verdict}
+use Rattle.walk.specs.declared.rules.Verdict.the-variants.{Fine, Against}
+use Rattle.walk.specs.declared.step.Custom.{Custom}
+use Rattle.walk.specs.declared.step.Custom.the-variants.{None, Named}
+use Rattle.walk.specs.declared.step.CustomRead.{CustomRead}
+use Rattle.walk.specs.declared.step.CustomRead.the-variants.{Read, Refused as NoCustom}
+use Rattle.walk.specs.declared.step.Step.{Step}
+use Rattle.walk.specs.declared.step.Step.the-variants.{Section, Done, Refused}
+use Rattle.walk.specs.declared.step.Walk.{Walk}
+use Rattle.walk.proofs.rules.Verdict as verdict-type
+use Rattle.walk.proofs.step.Custom as custom-type
+
+custom-other : (id o : ℕ) (bs : List ℕ) → (id ≡ 0 → ⊥) → custom id o bs ≡ got none o bs
+unfolding custom
+custom-other zero o bs n = absurd (n refl)
+custom-other (suc id) o bs n = refl
+
+read-is : {c d : Custom} → Read c ≡ Read d → c ≡ d
+read-is e = cc
+
+module _ {m : List ℕ} {id : ℕ} {contents : Cursor} where
+  pub not-custom : (id ≡ 0 → ⊥) → CustomReads m id contents (Read None)
+  not-custom n = record { means = λ o bs. rw (custom-other id (contents .at) (left m contents) n); within = λ c e. rw (← read-is e) tt }
+
+  module _ (z : id ≡ 0) {x : PartRead} (p : PartReads name m contents x) where
+    pub custom-refused : {r : Refusal} → x ≡ NoPart r → CustomReads m id contents (NoCustom r)
+    unfolding custom
+    custom-refused e = record { means = λ o bs. rw (z, ← rw e at (p .means)); within = λ c q. absurd (let w : _≡_ {A = ℕ} 0 1 = cc in omega arith) }
+
+    pub custom-read : {part payload : Cursor} → Inside m contents → x ≡ Part part payload → CustomReads m id contents (Read (Named part payload))
+    unfolding custom remaining
+    custom-read i e = record { means = λ o bs. rw (z, name-means p e); within = λ c q. rw (← read-is q) (name-behind i p e .in-part) }
+
+pub ruleset customs = (not-custom, custom-refused, custom-read, needs)
+
+-- the name of a section that has one
+module _ {m : List ℕ} where
+  pub unnamed : {c : Custom} → tagOf custom-type.the-type c ≡ 0 → CallsCustom m c Other
+  unfolding isCalled
+  unnamed {c = None} h = record { as-name = refl; as-hints = refl }
+  unnamed {c = Named n p} h = absurd (omega arith)
+
+  module _ {c : Custom} {part payload : Cursor} (e : c ≡ Named part payload) where
+    pub name-inside : NameInside m c → Inside m part
+    name-inside i = rw e at i
+
+    pub named : {called : Called} → Calls (left m part) called → CallsCustom m c called
+    unfolding isCalled
+    named r = rw e (record { as-name = r .as-name; as-hints = r .as-hints })
+
+pub ruleset namings = (unnamed, name-inside, named, needs)
+
+-- an arm that binds nothing gives the tag alone
+as-fine : (v : Verdict) → tagOf verdict-type.the-type v ≡ 0 → v ≡ Fine
+as-fine Fine h = refl
+as-fine (Against why) h = absurd (omega arith)
+
+-- behind the size
+pub custom-inside : {m : List ℕ} {id : ℕ} {contents : Cursor} {x : CustomRead} {c : Custom} → CustomReads m id contents x → x ≡ Read c → NameInside m c
+custom-inside {c = c} r e = r .within c e
+
+ruled : (m : List ℕ) (w : Walk) (c : Custom) (next : ℕ) {called : Called} {v : Verdict} → CallsCustom m c called → NameRuled (w .seen) called v → ruling v (w .at) next (drop next m) ≡ nameRules (seenOf (w .seen)) (w .at) (customOf m c) next (drop next m)
+ruled m w c next k j = j .says (customOf m c) (k .as-name) (k .as-hints) (w .at) next (drop next m)
+
+module _ {m : List ℕ} {w : Walk} {id : ℕ} {contents : Cursor} {next : ℕ} {x : CustomRead} (r : CustomReads m id contents x) where
+  pub after-refused : {n : Refusal} → x ≡ NoCustom n → AfterSize m w id contents next (Refused n)
+  unfolding behindSize
+  after-refused e = record { means = rw (← r .means next (drop next m), e); seen = tt }
+
+  module _ {c : Custom} {called : Called} {v : Verdict} (e : x ≡ Read c) (k : CallsCustom m c called) (j : NameRuled (w .seen) called v) where
+    pub after-against : {why : Reason} → v ≡ Against why → AfterSize m w id contents next (Refused (record { reason = why; offset = record { 0 = w .at } }))
+    unfolding behindSize
+    after-against a = record { means = rw (← r .means next (drop next m), e, ← ruled m w c next k j, a); seen = tt }
+
+    pub after-fine : {seen : Seen} → tagOf verdict-type.the-type v ≡ 0 → Sees (w .seen) id called seen → AfterSize m w id contents next (Section (record { id = id; at = record { 0 = w .at }; contents = contents; custom = c }) (record { at = next; seen = seen }))
+    unfolding behindSize seeing
+    after-fine a s = record {
+      means = rw (← r .means next (drop next m), e, ← ruled m w c next k j, as-fine v a);
+      seen = rw (s .rank-is, s .code-is, s .name-is, s .hints-is, k .as-name, k .as-hints);
+    }
+
+pub ruleset behind = (after-refused, custom-inside, after-against, after-fine, needs)
+
+-- what is made of a section can be made in the last step
+made-last : {A B : Type 0} (r : Outcome A) (rules : A → Reader (Unit {0})) (make : A → B) → andThen (andThen r (λ c. rules c >> return (make c))) (λ s. return (some s)) ≡ andThen r (λ c. rules c >> return (some (make c)))
+made-last (stop n at) rules make = refl
+made-last (got c o bs) rules make = byOutcome (rules c o bs) (λ _ o₁ r₁ e. rw e) (λ n at e. rw e)
+
+-- The step itself: the id byte, the rules about it, the size, and what is behind it
+abbrev behindId : List ℕ → Walk → Cursor
+behindId m w = record { at = w .at + 1; end = length m }
+
+left-all : (m : List ℕ) (o : ℕ) → slice o (length m) m ≡ drop o m
+left-all m o = ap (drop o) (take-length m)
+
+opened : (m : List ℕ) (w : Walk) → w .at < length m → step (seenOf (w .seen)) (w .at) (drop (w .at) m) ≡ andThen (section (seenOf (w .seen)) (w .at) (getD m (w .at) 0) (suc (w .at)) (drop (suc (w .at)) m)) (λ s. return (some s))
+unfolding step
+opened m w h = rw (drop-cons m (w .at) 0 h)
+
+module _ {m : List ℕ} {w : Walk} where
+  pub step-done : length m ≤ w .at → Steps m w Done
+  unfolding step
+  step-done h = record { means = rw (drop-of-length-le m h); seen = tt }
+
+  module _ {v : Verdict} (h : w .at < length m) (j : IdRuled (w .seen) (getD m (w .at) 0) v) where
+    pub step-against : {why : Reason} → v ≡ Against why → Steps m w (Refused (record { reason = why; offset = record { 0 = w .at } }))
+    unfolding section
+    step-against a = record { means = rw (opened m w h, ← j .says (w .at) (suc (w .at)) (drop (suc (w .at)) m), a); seen = tt }
+
+    module _ {x : PartRead} (a : tagOf verdict-type.the-type v ≡ 0) (p : PartReads sized m (behindId m w) x) where
+      behind-inside : Inside m (behindId m w)
+      behind-inside = record { ahead = omega arith; within = omega arith }
+
+      sized-there : sized (suc (w .at)) (drop (suc (w .at)) m) ≡ sized (w .at + 1) (left m (behindId m w))
+      sized-there = rw (left-all m (w .at + 1), add-one)
+
+      pub step-size-refused : {r : Refusal} → x ≡ NoPart r → Steps m w (Refused r)
+      unfolding section
+      step-size-refused e = record { means = rw (opened m w h, ← j .says (w .at) (suc (w .at)) (drop (suc (w .at)) m), as-fine v a, sized-there, ← rw e at (p .means)); seen = tt }
+
+      module _ {contents next : Cursor} (e : x ≡ Part contents next) where
+        pub contents-inside : Inside m contents
+        contents-inside = part-behind behind-inside p e .in-part
+
+        pub step-after : {r : Step} → AfterSize m w (getD m (w .at) 0) contents (next .at) r → Steps m w r
+        unfolding section behindSize
+        step-after s =
+            let rest : left m next ≡ drop (next .at) m = ap (λ n. slice (next .at) n m) (part-behind behind-inside p e .same-end) ∙ left-all m (next .at) in
+            record {
+              means = s .means ∙ sym (rw (opened m w h, ← j .says (w .at) (suc (w .at)) (drop (suc (w .at)) m), as-fine v a, sized-there, sized-means p e, rest) (made-last (inside (custom (getD m (w .at) 0)) (partOf m contents) (next .at) (drop (next .at) m)) (nameRules (seenOf (w .seen)) (w .at)) _));
+              seen = s .seen;
+            }
+
+pub ruleset steps = (step-done, step-against, step-size-refused, contents-inside, step-after, needs)

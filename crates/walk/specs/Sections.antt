@@ -1,0 +1,87 @@
+-- What the walk's types mean. Assumes nothing.
+use Prim.Native.Nat.{ℕ}
+use mathlib.Core.Bool.{Bool, true, false, cond, _||_}
+use mathlib.Core.List.{List}
+use mathlib.Core.Option.{Option, none, some}
+use mathlib.Core.Path.{_≡_}
+use Rattle.format.specs.Bytes.{same}
+use Rattle.format.specs.Refusals.{numberOf}
+use Rattle.format.specs.Reading.{Outcome, got, stop, Reader}
+use Rattle.format.specs.Parts.{goOn}
+use Rattle.format.specs.Walk.{isCustom, isCode, rank, Custom as CustomSection, custom, Section as AnySection, isCalled, nameSection, hintSection, Seen as SeenBefore, idRules, nameRules}
+use Rattle.reading.specs.Cursors.{Inside, left, partOf, refusalOf}
+use Rattle.reading.specs.declared.Cursor.{Cursor}
+use Rattle.walk.specs.declared.step.Custom.{Custom}
+use Rattle.walk.specs.declared.step.Custom.the-variants.{None, Named}
+use Rattle.walk.specs.declared.step.CustomRead.{CustomRead}
+use Rattle.walk.specs.declared.step.CustomRead.the-variants.{Read, Refused}
+use Rattle.walk.specs.declared.step.Section.{Section}
+use Rattle.walk.specs.declared.rules.Called.{Called}
+use Rattle.walk.specs.declared.rules.Called.the-variants.{Name, Hints, Other}
+use Rattle.walk.specs.declared.rules.Seen.{Seen}
+use Rattle.walk.specs.declared.rules.Verdict.{Verdict}
+use Rattle.walk.specs.declared.rules.Verdict.the-variants.{Fine, Against}
+
+abbrev pub seenOf : Seen → SeenBefore
+seenOf s = record { rank = s .rank; code = s .code; name = s .name; hints = s .hints }
+
+-- a verdict says what rules say that are checked with the id byte at an offset
+abbrev pub ruling : Verdict → ℕ → Reader (Unit {0})
+ruling Fine at o bs = got tt o bs
+ruling (Against why) at o bs = stop (numberOf why) at
+
+-- what the id decides
+pub record IdRuled (seen : Seen) (id : ℕ) (v : Verdict) : Type 0 where
+  pub says : (at o : ℕ) (bs : List ℕ) → ruling v at o bs ≡ idRules (seenOf seen) at id o bs
+
+-- what is called so
+abbrev pub isName : Called → Bool
+isName Name = true
+isName Hints = false
+isName Other = false
+
+abbrev pub isHints : Called → Bool
+isHints Name = false
+isHints Hints = true
+isHints Other = false
+
+pub record Calls (name : List ℕ) (called : Called) : Type 0 where
+  pub as-name : same nameSection name ≡ isName called
+  pub as-hints : same hintSection name ≡ isHints called
+
+-- what a custom section's name decides
+pub record NameRuled (seen : Seen) (called : Called) (v : Verdict) : Type 0 where
+  pub says : (c : Option CustomSection) → isCalled nameSection c ≡ isName called → isCalled hintSection c ≡ isHints called → (at o : ℕ) (bs : List ℕ) → ruling v at o bs ≡ nameRules (seenOf seen) at c o bs
+
+-- what the rules know behind a section
+pub record Sees (seen : Seen) (id : ℕ) (called : Called) (next : Seen) : Type 0 where
+  pub rank-is : next .rank ≡ cond (isCustom id) (seen .rank) (rank id)
+  pub code-is : next .code ≡ (seen .code || isCode id)
+  pub name-is : next .name ≡ (seen .name || isName called)
+  pub hints-is : next .hints ≡ (seen .hints || isHints called)
+
+-- What a section of the code is
+abbrev pub customOf : List ℕ → Custom → Option CustomSection
+customOf m None = none
+customOf m (Named name payload) = some (record { name = partOf m name; payload = partOf m payload })
+
+abbrev pub sectionOf : List ℕ → Section → AnySection
+sectionOf m s = record { id = s .id; at = s .at .0; contents = partOf m (s .contents); custom = customOf m (s .custom) }
+
+-- what reading a custom section's contents found; the reading goes on behind them
+abbrev pub customOutcome : List ℕ → CustomRead → Reader (Option CustomSection)
+customOutcome m (Read c) o bs = got (customOf m c) o bs
+customOutcome m (Refused r) o bs = refusalOf r
+
+-- a name and a payload lie in what was lent
+abbrev pub NameInside : List ℕ → Custom → Type 0
+NameInside m None = Unit {0}
+NameInside m (Named name payload) = Inside m name
+
+pub record CustomReads (m : List ℕ) (id : ℕ) (contents : Cursor) (r : CustomRead) : Type 0 where
+  pub means : (o : ℕ) (bs : List ℕ) → customOutcome m r o bs ≡ goOn (custom id (contents .at) (left m contents)) o bs
+  pub within : (c : Custom) → r ≡ Read c → NameInside m c
+
+pub record CallsCustom (m : List ℕ) (c : Custom) (called : Called) : Type 0 where
+  pub as-name : isCalled nameSection (customOf m c) ≡ isName called
+  pub as-hints : isCalled hintSection (customOf m c) ≡ isHints called

@@ -1,0 +1,40 @@
+// Names of custom sections, compared byte by byte.
+ghost use mathlib.Core.Path.{_≡_};
+ghost use Rattle.format.specs.Bytes.{same};
+ghost use Rattle.reading.specs.Cursors.{Inside, left};
+ghost use Rattle.walk.specs.Sections.{Calls};
+use crate::rules::Called;
+use reading::Cursor;
+
+// Whether a part of `s` is these bytes.
+pub fn is_called(s: &[u8], part: Cursor, name: &[u8]) -> bool
+    requires { ⌜ Inside (now s) part ⌝ }
+    ensures { λ r. ⌜ r ≡ same (now (name .entry)) (left (now (s .entry)) part) ⌝ }
+{
+    let at = part.at;
+    if part.end - at != name.len() {
+        return false;
+    }
+    let mut k = 0;
+    while k < name.len() {
+        if s[at + k] != name[k] {
+            return false;
+        }
+        k += 1;
+    }
+    true
+}
+
+// Which of the names that the rules know a part of `s` is.
+pub fn called(s: &[u8], part: Cursor) -> Called
+    requires { ⌜ Inside (now s) part ⌝ }
+    ensures { λ r. ⌜ Calls (left (now (s .entry)) part) r ⌝ }
+{
+    if is_called(s, part, b"name") {
+        return Called::Name;
+    }
+    if is_called(s, part, b"metadata.code.branch_hint") {
+        return Called::Hints;
+    }
+    Called::Other
+}

@@ -1,0 +1,131 @@
+// A step from section to section.
+ghost use Rattle.reading.specs.Cursors.{Inside};
+ghost use Rattle.walk.specs.Sections.{CustomReads, CallsCustom, NameInside};
+ghost use Rattle.walk.specs.Steps.{AfterSize, Steps};
+use crate::called::called;
+use crate::rules::CUSTOM;
+use crate::rules::Called;
+use crate::rules::Seen;
+use crate::rules::Verdict;
+use crate::rules::judge_id;
+use crate::rules::judge_name;
+use crate::rules::see;
+use format::Offset;
+use format::Refusal;
+use reading::Cursor;
+use reading::PartRead;
+
+// What a section is beyond its id: a custom one has a name and a payload.
+pub enum Custom {
+    None,
+    Named(Cursor, Cursor),
+}
+
+pub struct Section {
+    pub id: u8,
+    pub at: Offset,
+    pub contents: Cursor,
+    pub custom: Custom,
+}
+
+// The walk between two sections: where the next one begins, and what the rules know of those before.
+pub struct Walk {
+    pub at: usize,
+    pub seen: Seen,
+}
+
+pub enum Step {
+    Section(Section, Walk),
+    Done,
+    Refused(Refusal),
+}
+
+enum CustomRead {
+    Read(Custom),
+    Refused(Refusal),
+}
+
+// A custom section's contents begin with a name; the rest is its payload.
+fn read_custom(m: &[u8], id: u8, contents: Cursor) -> CustomRead
+    requires { ⌜ Inside (now m) contents ⌝ }
+    ensures { λ r. ⌜ CustomReads (now (m .entry)) id contents r ⌝ }
+{
+    if id != CUSTOM {
+        return CustomRead::Read(Custom::None);
+    }
+    match contents.name(m) {
+        PartRead::Refused(r) => CustomRead::Refused(r),
+        PartRead::Part(name, payload) => CustomRead::Read(Custom::Named(name, payload)),
+    }
+}
+
+// What the rules care about in a section's name.
+fn called_so(m: &[u8], custom: Custom) -> Called
+    requires { ⌜ NameInside (now m) custom ⌝ }
+    ensures { λ r. ⌜ CallsCustom (now (m .entry)) custom r ⌝ }
+{
+    match custom {
+        Custom::None => Called::Other,
+        Custom::Named(name, _) => called(m, name),
+    }
+}
+
+// Behind the size: the custom name, the rules about it, and what is known then.
+fn after_size(m: &[u8], walk: Walk, id: u8, contents: Cursor, next: usize) -> Step
+    requires { ⌜ Inside (now m) contents ⌝ }
+    ensures { λ r. ⌜ AfterSize (now (m .entry)) walk id contents next r ⌝ }
+{
+    match read_custom(m, id, contents) {
+        CustomRead::Refused(r) => Step::Refused(r),
+        CustomRead::Read(custom) => {
+            let at = walk.at;
+            let seen = walk.seen;
+            let called = called_so(m, custom);
+            match judge_name(seen, called) {
+                Verdict::Against(reason) => Step::Refused(Refusal {
+                    reason,
+                    offset: Offset(at),
+                }),
+                Verdict::Fine => {
+                    let section = Section {
+                        id,
+                        at: Offset(at),
+                        contents,
+                        custom,
+                    };
+                    let seen = see(seen, id, called);
+                    Step::Section(section, Walk { at: next, seen })
+                }
+            }
+        }
+    }
+}
+
+impl Walk {
+    // The section that begins here, and the walk behind it. Any walk may be stepped: one past the end is done.
+    pub fn step(self, m: &[u8]) -> Step
+        ensures { λ r. ⌜ Steps (now (m .entry)) self r ⌝ }
+    {
+        let at = self.at;
+        if m.len() <= at {
+            return Step::Done;
+        }
+        let id = m[at];
+        match judge_id(self.seen, id) {
+            Verdict::Against(reason) => Step::Refused(Refusal {
+                reason,
+                offset: Offset(at),
+            }),
+            Verdict::Fine => {
+                let rest = Cursor {
+                    at: at + 1,
+                    end: m.len(),
+                };
+                match rest.sized(m) {
+                    PartRead::Refused(r) => Step::Refused(r),
+                    PartRead::Part(contents, next) => { after_size(m, self, id, contents, next.at) }
+                }
+            }
+        }
+    }
+}
