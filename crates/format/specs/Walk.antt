@@ -4,7 +4,7 @@ use mathlib.Core.Bool.{Bool, false, not, cond, _&&_, _||_}
 use mathlib.Core.List.{List, [], _∷_}
 use mathlib.Core.Option.{Option, none, some}
 use lib.Dec.{ltb, leb, eqb}
-use lib.ListN.{length, getElem?}
+use lib.ListN.{length, drop, getElem?}
 use Rattle.format.specs.Bytes.{ascii, same}
 use Rattle.format.specs.Reading.{_>>=_, _>>_, got, Reader, return, refuse, checked, Judged, judge, mapJudged}
 use Rattle.format.specs.Options.{orElse}
@@ -129,6 +129,10 @@ framing o bs = (do
 
 unfoldable pub walk : List ℕ → Judged (List Section)
 walk m = judge (framing 0 m)
+
+-- from an offset on to the module's end, with what came before
+unfoldable pub walkFrom : List ℕ → Seen → ℕ → Judged (List Section)
+walkFrom m seen o = judge (sections (length (drop o m)) seen o (drop o m))
 
 -- The walk answers: the count of sections; the section at a position, counted from 0; the payload of the first custom section of a name
 unfoldable pub sectionCount : List ℕ → Judged ℕ

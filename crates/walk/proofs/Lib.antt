@@ -1,3 +1,6 @@
 pub mod RuleLaws
 pub mod CalledLaws
 pub mod StepLaws
+pub mod BeginLaws
+pub mod SurveyLaws
+pub mod AnswerLaws

@@ -1,15 +1,14 @@
 -- The walk's rules by their tests.
 use Prim.Native.Nat.{ℕ, _≤_, _<_}
-use mathlib.Core.Bool.{Bool, true, false, cond, _&&_, _||_}
-use mathlib.Core.Option.{Option}
+use mathlib.Core.Bool.{Bool, true, false, cond, _||_}
 use mathlib.Core.Path.{_≡_, refl}
 use borrow.Author.Needs.{needs}
 use borrow.Author.Tests.{le-leb, lt-leb, lt-ltb, le-ltb, eq-eqb, ne-eqb}
 use denote.Enum.Declared.{tagOf}
 use native.Mathlib.Omega.{arith}
-use lib.Dec.{leb, eqb}
+use lib.Dec.{eqb}
 use Rattle.walk.proofs.rules.Called as called
-use Rattle.format.specs.Walk.{greatestId, isCustom, isCode, isData, rank, Custom, isCalled, nameSection, hintSection, idRules, nameRules}
+use Rattle.format.specs.Walk.{greatestId, isCustom, isCode, isData, rank, idRules, nameRules}
 use Rattle.format.specs.declared.Reason.the-variants.{SectionUnknown, SectionOrder, SectionTwice, SectionTooLate}
 use Rattle.walk.specs.Sections.{IdRuled, NameRuled}
 use Rattle.walk.specs.declared.rules.Seen.{Seen}

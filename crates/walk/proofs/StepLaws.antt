@@ -1,7 +1,7 @@
 -- One step of the walk.
 use Prim.Native.Nat.{ℕ, zero, suc, _+_, _≤_, _<_}
-use mathlib.Core.List.{List, [], _∷_}
-use mathlib.Core.Option.{Option, none, some}
+use mathlib.Core.List.{List}
+use mathlib.Core.Option.{none, some}
 use mathlib.Core.Path.{_≡_, refl, sym, ap, _∙_}
 use native.Mathlib.Numerals.{add-one}
 use native.Mathlib.Omega.{arith}
@@ -10,8 +10,8 @@ use denote.Enum.Declared.{tagOf}
 use lib.ListN.{length, drop, getD, drop-of-length-le}
 use lib.Seq.{slice, take-length, drop-cons}
 use Rattle.format.specs.Reading.{Outcome, got, stop, Reader, andThen, _>>_, return}
-use Rattle.format.specs.Parts.{sized, name, remaining, goOn, inside}
-use Rattle.format.specs.Walk.{custom, isCalled, seeing, idRules, nameRules, section, step}
+use Rattle.format.specs.Parts.{sized, name, remaining, inside}
+use Rattle.format.specs.Walk.{custom, isCalled, seeing, nameRules, section, step}
 use Rattle.format.specs.Laws.Outcomes.{byOutcome}
 use Rattle.format.specs.declared.Reason.{Reason}
 use Rattle.format.specs.declared.Refusal.{Refusal}
@@ -19,8 +19,8 @@ use Rattle.reading.specs.Cursors.{Inside, left, partOf, PartReads}
 use Rattle.reading.specs.declared.Cursor.{Cursor}
 use Rattle.reading.specs.declared.PartRead.{PartRead}
 use Rattle.reading.specs.declared.PartRead.the-variants.{Part, Refused as NoPart}
-use Rattle.reading.proofs.Laws.{sized-means, name-means, part-behind, name-behind}
-use Rattle.walk.specs.Sections.{seenOf, ruling, IdRuled, NameRuled, Calls, Sees, customOf, CustomReads, CallsCustom, NameInside}
+use Rattle.reading.proofs.Laws.{sized-means, name-means, Behind, part-behind, name-behind}
+use Rattle.walk.specs.Sections.{seenOf, ruling, IdRuled, NameRuled, Calls, Sees, customOf, CustomReads, CallsCustom, CustomInside}
 use Rattle.walk.specs.Steps.{behindSize, AfterSize, Steps}
 use Rattle.walk.specs.declared.rules.Called.{Called}
 use Rattle.walk.specs.declared.rules.Called.the-variants.{Other}
@@ -56,7 +56,7 @@ module _ {m : List ℕ} {id : ℕ} {contents : Cursor} where
 
     pub custom-read : {part payload : Cursor} → Inside m contents → x ≡ Part part payload → CustomReads m id contents (Read (Named part payload))
     unfolding custom remaining
-    custom-read i e = record { means = λ o bs. rw (z, name-means p e); within = λ c q. rw (← read-is q) (name-behind i p e .in-part) }
+    custom-read i e = record { means = λ o bs. rw (z, name-means p e); within = λ c q. rw (← read-is q) (let b = name-behind i p e in (b .in-part, b .in-rest)) }
 
 pub ruleset customs = (not-custom, custom-refused, custom-read, needs)
 
@@ -68,8 +68,8 @@ module _ {m : List ℕ} where
   unnamed {c = Named n p} h = absurd (omega arith)
 
   module _ {c : Custom} {part payload : Cursor} (e : c ≡ Named part payload) where
-    pub name-inside : NameInside m c → Inside m part
-    name-inside i = rw e at i
+    pub name-inside : CustomInside m c → Inside m part
+    name-inside i = let both = rw e at i in both .0
 
     pub named : {called : Called} → Calls (left m part) called → CallsCustom m c called
     unfolding isCalled
@@ -83,7 +83,7 @@ as-fine Fine h = refl
 as-fine (Against why) h = absurd (omega arith)
 
 -- behind the size
-pub custom-inside : {m : List ℕ} {id : ℕ} {contents : Cursor} {x : CustomRead} {c : Custom} → CustomReads m id contents x → x ≡ Read c → NameInside m c
+pub custom-inside : {m : List ℕ} {id : ℕ} {contents : Cursor} {x : CustomRead} {c : Custom} → CustomReads m id contents x → x ≡ Read c → CustomInside m c
 custom-inside {c = c} r e = r .within c e
 
 ruled : (m : List ℕ) (w : Walk) (c : Custom) (next : ℕ) {called : Called} {v : Verdict} → CallsCustom m c called → NameRuled (w .seen) called v → ruling v (w .at) next (drop next m) ≡ nameRules (seenOf (w .seen)) (w .at) (customOf m c) next (drop next m)
@@ -92,18 +92,19 @@ ruled m w c next k j = j .says (customOf m c) (k .as-name) (k .as-hints) (w .at)
 module _ {m : List ℕ} {w : Walk} {id : ℕ} {contents : Cursor} {next : ℕ} {x : CustomRead} (r : CustomReads m id contents x) where
   pub after-refused : {n : Refusal} → x ≡ NoCustom n → AfterSize m w id contents next (Refused n)
   unfolding behindSize
-  after-refused e = record { means = rw (← r .means next (drop next m), e); seen = tt }
+  after-refused e = record { means = rw (← r .means next (drop next m), e); seen = tt; forward = tt }
 
   module _ {c : Custom} {called : Called} {v : Verdict} (e : x ≡ Read c) (k : CallsCustom m c called) (j : NameRuled (w .seen) called v) where
     pub after-against : {why : Reason} → v ≡ Against why → AfterSize m w id contents next (Refused (record { reason = why; offset = record { 0 = w .at } }))
     unfolding behindSize
-    after-against a = record { means = rw (← r .means next (drop next m), e, ← ruled m w c next k j, a); seen = tt }
+    after-against a = record { means = rw (← r .means next (drop next m), e, ← ruled m w c next k j, a); seen = tt; forward = tt }
 
-    pub after-fine : {seen : Seen} → tagOf verdict-type.the-type v ≡ 0 → Sees (w .seen) id called seen → AfterSize m w id contents next (Section (record { id = id; at = record { 0 = w .at }; contents = contents; custom = c }) (record { at = next; seen = seen }))
+    pub after-fine : {seen : Seen} → Inside m contents × (w .at < next) × (next ≤ length m) → tagOf verdict-type.the-type v ≡ 0 → Sees (w .seen) id called seen → AfterSize m w id contents next (Section (record { id = id; at = record { 0 = w .at }; contents = contents; custom = c }) (record { at = next; seen = seen }))
     unfolding behindSize seeing
-    after-fine a s = record {
+    after-fine i a s = record {
       means = rw (← r .means next (drop next m), e, ← ruled m w c next k j, as-fine v a);
       seen = rw (s .rank-is, s .code-is, s .name-is, s .hints-is, k .as-name, k .as-hints);
+      forward = record { inside = record { contents = i .0; custom = custom-inside r e }; moves = i .1; within = i .2 };
     }
 
 pub ruleset behind = (after-refused, custom-inside, after-against, after-fine, needs)
@@ -127,12 +128,12 @@ opened m w h = rw (drop-cons m (w .at) 0 h)
 module _ {m : List ℕ} {w : Walk} where
   pub step-done : length m ≤ w .at → Steps m w Done
   unfolding step
-  step-done h = record { means = rw (drop-of-length-le m h); seen = tt }
+  step-done h = record { means = rw (drop-of-length-le m h); seen = tt; forward = tt }
 
   module _ {v : Verdict} (h : w .at < length m) (j : IdRuled (w .seen) (getD m (w .at) 0) v) where
     pub step-against : {why : Reason} → v ≡ Against why → Steps m w (Refused (record { reason = why; offset = record { 0 = w .at } }))
     unfolding section
-    step-against a = record { means = rw (opened m w h, ← j .says (w .at) (suc (w .at)) (drop (suc (w .at)) m), a); seen = tt }
+    step-against a = record { means = rw (opened m w h, ← j .says (w .at) (suc (w .at)) (drop (suc (w .at)) m), a); seen = tt; forward = tt }
 
     module _ {x : PartRead} (a : tagOf verdict-type.the-type v ≡ 0) (p : PartReads sized m (behindId m w) x) where
       behind-inside : Inside m (behindId m w)
@@ -143,19 +144,29 @@ module _ {m : List ℕ} {w : Walk} where
 
       pub step-size-refused : {r : Refusal} → x ≡ NoPart r → Steps m w (Refused r)
       unfolding section
-      step-size-refused e = record { means = rw (opened m w h, ← j .says (w .at) (suc (w .at)) (drop (suc (w .at)) m), as-fine v a, sized-there, ← rw e at (p .means)); seen = tt }
+      step-size-refused e = record { means = rw (opened m w h, ← j .says (w .at) (suc (w .at)) (drop (suc (w .at)) m), as-fine v a, sized-there, ← rw e at (p .means)); seen = tt; forward = tt }
 
       module _ {contents next : Cursor} (e : x ≡ Part contents next) where
+        read-behind : Behind m (behindId m w) contents next
+        read-behind = part-behind behind-inside p e
+
         pub contents-inside : Inside m contents
-        contents-inside = part-behind behind-inside p e .in-part
+        contents-inside = read-behind .in-part
+
+        pub contents-forward : w .at < next .at
+        contents-forward = let b = read-behind in omega (arith, b .forward, b .in-part .ahead, b .ends)
+
+        pub contents-within : next .at ≤ length m
+        contents-within = let b = read-behind in omega (arith, b .in-rest .ahead, b .same-end)
 
         pub step-after : {r : Step} → AfterSize m w (getD m (w .at) 0) contents (next .at) r → Steps m w r
         unfolding section behindSize
         step-after s =
-            let rest : left m next ≡ drop (next .at) m = ap (λ n. slice (next .at) n m) (part-behind behind-inside p e .same-end) ∙ left-all m (next .at) in
+            let rest : left m next ≡ drop (next .at) m = ap (λ n. slice (next .at) n m) (read-behind .same-end) ∙ left-all m (next .at) in
             record {
               means = s .means ∙ sym (rw (opened m w h, ← j .says (w .at) (suc (w .at)) (drop (suc (w .at)) m), as-fine v a, sized-there, sized-means p e, rest) (made-last (inside (custom (getD m (w .at) 0)) (partOf m contents) (next .at) (drop (next .at) m)) (nameRules (seenOf (w .seen)) (w .at)) _));
               seen = s .seen;
+              forward = s .forward;
             }
 
-pub ruleset steps = (step-done, step-against, step-size-refused, contents-inside, step-after, needs)
+pub ruleset steps = (step-done, step-against, step-size-refused, contents-inside, contents-forward, contents-within, step-after, needs)

@@ -6,7 +6,7 @@ use mathlib.Core.Option.{Option, none, some}
 use mathlib.Core.Path.{_≡_}
 use Rattle.format.specs.Bytes.{same}
 use Rattle.format.specs.Refusals.{numberOf}
-use Rattle.format.specs.Reading.{Outcome, got, stop, Reader}
+use Rattle.format.specs.Reading.{got, stop, Reader}
 use Rattle.format.specs.Parts.{goOn}
 use Rattle.format.specs.Walk.{isCustom, isCode, rank, Custom as CustomSection, custom, Section as AnySection, isCalled, nameSection, hintSection, Seen as SeenBefore, idRules, nameRules}
 use Rattle.reading.specs.Cursors.{Inside, left, partOf, refusalOf}
@@ -74,13 +74,17 @@ customOutcome m (Read c) o bs = got (customOf m c) o bs
 customOutcome m (Refused r) o bs = refusalOf r
 
 -- a name and a payload lie in what was lent
-abbrev pub NameInside : List ℕ → Custom → Type 0
-NameInside m None = Unit {0}
-NameInside m (Named name payload) = Inside m name
+abbrev pub CustomInside : List ℕ → Custom → Type 0
+CustomInside m None = Unit {0}
+CustomInside m (Named name payload) = Inside m name × Inside m payload
+
+pub record SectionInside (m : List ℕ) (s : Section) : Type 0 where
+  pub contents : Inside m (s .contents)
+  pub custom : CustomInside m (s .custom)
 
 pub record CustomReads (m : List ℕ) (id : ℕ) (contents : Cursor) (r : CustomRead) : Type 0 where
   pub means : (o : ℕ) (bs : List ℕ) → customOutcome m r o bs ≡ goOn (custom id (contents .at) (left m contents)) o bs
-  pub within : (c : Custom) → r ≡ Read c → NameInside m c
+  pub within : (c : Custom) → r ≡ Read c → CustomInside m c
 
 pub record CallsCustom (m : List ℕ) (c : Custom) (called : Called) : Type 0 where
   pub as-name : isCalled nameSection (customOf m c) ≡ isName called

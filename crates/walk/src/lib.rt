@@ -1,4 +1,51 @@
-// The framing of a module: its sections, one after the other.
+// The framing of a module: its sections, one after the other. Every call takes any bytes.
+ghost use mathlib.Core.Path.{_≡_};
+ghost use Rattle.format.specs.Options.{mapSome};
+ghost use Rattle.format.specs.Questions.{answered, asPlace};
+ghost use Rattle.format.specs.Reading.{mapJudged};
+ghost use Rattle.format.specs.Walk.{sectionCount, sectionAt, customPayload};
+ghost use Rattle.walk.specs.Surveys.{counted, sectionAnswered, sectionPlace};
+use crate::survey::SectionAnswer;
+use crate::survey::Surveyed;
+use format::Answer;
+use format::Refusal;
+
 pub mod called;
 pub mod rules;
 pub mod step;
+pub mod survey;
+
+pub enum Counted {
+    Count(usize),
+    Refused(Refusal),
+}
+
+// Judges a whole module, and counts its sections.
+pub fn count(m: &[u8]) -> Counted
+    ensures { λ r. ⌜ counted r ≡ sectionCount (now (m .entry)) ⌝ }
+{
+    match survey::survey(m, 0, b"") {
+        Surveyed::Refused(r) => Counted::Refused(r),
+        Surveyed::Done(found) => Counted::Count(found.count),
+    }
+}
+
+// The section at a position, counted from 0: none past the last.
+pub fn section_at(m: &[u8], position: u64) -> SectionAnswer
+    ensures { λ r. ⌜ sectionAnswered r ≡ mapJudged (mapSome sectionPlace) (sectionAt position (now (m .entry))) ⌝ }
+{
+    match survey::survey(m, position, b"") {
+        Surveyed::Refused(r) => SectionAnswer::Refused(r),
+        Surveyed::Done(found) => found.section,
+    }
+}
+
+// Where the payload of the first custom section of a name lies.
+pub fn custom(m: &[u8], name: &[u8]) -> Answer
+    ensures { λ r. ⌜ answered r ≡ asPlace (customPayload (now (name .entry)) (now (m .entry))) ⌝ }
+{
+    match survey::survey(m, 0, name) {
+        Surveyed::Refused(r) => Answer::Refused(r),
+        Surveyed::Done(found) => found.payload,
+    }
+}

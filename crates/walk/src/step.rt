@@ -1,8 +1,11 @@
 // A step from section to section.
+ghost use Prim.Native.Nat.{_≤_, _<_};
+ghost use lib.ListN.{length};
 ghost use Rattle.reading.specs.Cursors.{Inside};
-ghost use Rattle.walk.specs.Sections.{CustomReads, CallsCustom, NameInside};
-ghost use Rattle.walk.specs.Steps.{AfterSize, Steps};
+ghost use Rattle.walk.specs.Sections.{CustomReads, CallsCustom, CustomInside};
+ghost use Rattle.walk.specs.Steps.{AfterSize, Begins, Steps};
 use crate::called::called;
+use crate::called::is_called;
 use crate::rules::CUSTOM;
 use crate::rules::Called;
 use crate::rules::Seen;
@@ -11,6 +14,7 @@ use crate::rules::judge_id;
 use crate::rules::judge_name;
 use crate::rules::see;
 use format::Offset;
+use format::Reason;
 use format::Refusal;
 use reading::Cursor;
 use reading::PartRead;
@@ -40,6 +44,11 @@ pub enum Step {
     Refused(Refusal),
 }
 
+pub enum Began {
+    At(Walk),
+    Refused(Refusal),
+}
+
 enum CustomRead {
     Read(Custom),
     Refused(Refusal),
@@ -61,7 +70,7 @@ fn read_custom(m: &[u8], id: u8, contents: Cursor) -> CustomRead
 
 // What the rules care about in a section's name.
 fn called_so(m: &[u8], custom: Custom) -> Called
-    requires { ⌜ NameInside (now m) custom ⌝ }
+    requires { ⌜ CustomInside (now m) custom ⌝ }
     ensures { λ r. ⌜ CallsCustom (now (m .entry)) custom r ⌝ }
 {
     match custom {
@@ -72,7 +81,7 @@ fn called_so(m: &[u8], custom: Custom) -> Called
 
 // Behind the size: the custom name, the rules about it, and what is known then.
 fn after_size(m: &[u8], walk: Walk, id: u8, contents: Cursor, next: usize) -> Step
-    requires { ⌜ Inside (now m) contents ⌝ }
+    requires { ⌜ Inside (now m) contents × (walk .at < next) × (next ≤ length (now m)) ⌝ }
     ensures { λ r. ⌜ AfterSize (now (m .entry)) walk id contents next r ⌝ }
 {
     match read_custom(m, id, contents) {
@@ -101,7 +110,39 @@ fn after_size(m: &[u8], walk: Walk, id: u8, contents: Cursor, next: usize) -> St
     }
 }
 
+const PREAMBLE: [u8; 8] = [0x00, 0x61, 0x73, 0x6D, 0x01, 0x00, 0x00, 0x00];
+
+const NOTHING: Seen = Seen {
+    rank: 0,
+    code: false,
+    name: false,
+    hints: false,
+};
+
 impl Walk {
+    // The walk behind the preamble.
+    pub fn begin(m: &[u8]) -> Began
+        ensures { λ r. ⌜ Begins (now (m .entry)) r ⌝ }
+    {
+        if m.len() < 8 {
+            return Began::Refused(Refusal {
+                reason: Reason::NoPreamble,
+                offset: Offset(0),
+            });
+        }
+        let front = Cursor { at: 0, end: 8 };
+        if is_called(m, front, &PREAMBLE) {
+            return Began::At(Walk {
+                at: 8,
+                seen: NOTHING,
+            });
+        }
+        Began::Refused(Refusal {
+            reason: Reason::NoPreamble,
+            offset: Offset(0),
+        })
+    }
+
     // The section that begins here, and the walk behind it. Any walk may be stepped: one past the end is done.
     pub fn step(self, m: &[u8]) -> Step
         ensures { λ r. ⌜ Steps (now (m .entry)) self r ⌝ }

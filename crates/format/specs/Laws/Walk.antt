@@ -1,7 +1,7 @@
 -- The walk reads a module to its end, and its sections follow one another with nothing between them.
 use Prim.Native.Nat.{ℕ, zero, suc, _+_, _≤_}
 use mathlib.Core.List.{List, [], _∷_}
-use mathlib.Core.Option.{some}
+use mathlib.Core.Option.{none, some}
 use mathlib.Core.Path.{_≡_, refl, sym, ap, _∙_}
 use native.Mathlib.Numerals.{add-one}
 use native.Mathlib.Omega.{arith}
@@ -10,7 +10,7 @@ use lib.ListN.{length, drop, length-drop}
 use lib.Seq.{length-take-le, drop-drop}
 use Rattle.format.specs.Reading.{Outcome, got, stop, andThen, return, Judged, accepted, refused, judge, mapJudged}
 use Rattle.format.specs.Parts.{Part, sized}
-use Rattle.format.specs.Walk.{preamble, begins, Section, Seen, nothing, seeing, section, step, sections, framing, walk}
+use Rattle.format.specs.Walk.{preamble, begins, Section, Seen, nothing, seeing, section, step, sections, framing, walk, walkFrom}
 use Rattle.format.specs.Holding.{Framed, Covers, atTheEnd, aSection}
 use Rattle.format.specs.Laws.Outcomes.{not-got, got-value, got-next, got-rest, byTest, byOutcome, inTurn, judged}
 use Rattle.format.specs.Laws.Options.{not-some, some-is}
@@ -91,10 +91,7 @@ walk-covers m {ss} e =
     let reached = begins-passes (Reaches (length m)) (reach-step (length m)) preamble 0 m v o₁ r₁ (omega arith) e₂ in
     rw far (sections-cover m (length m) nothing o₁ r₁ (omega arith) next reached e₃)
 
--- The walk as its steps make it: from an offset to the module's end
-unfoldable pub walkFrom : List ℕ → Seen → ℕ → Judged (List Section)
-walkFrom m seen o = judge (sections (length (drop o m)) seen o (drop o m))
-
+-- The walk as its steps make it
 judge-row : (s : Section) (r : Outcome (List Section)) → judge (andThen r (λ more. return (s ∷ more))) ≡ mapJudged (λ more. s ∷ more) (judge r)
 judge-row s (got more o bs) = refl
 judge-row s (stop n at) = refl
@@ -142,10 +139,15 @@ step-refuses seen o (id ∷ bs) e =
     (λ s o₁ r₁ e₁. absurd (not-got (sym (rw e₁ at e))))
     (λ n at e₁. rw e₁ (stop-refused (rw e₁ at e)))
 
+step-ends : (seen : Seen) (o : ℕ) (bs : List ℕ) {o₁ : ℕ} {r₁ : List ℕ} → step seen o bs ≡ got none o₁ r₁ → bs ≡ []
+unfolding step
+step-ends seen o [] e = refl
+step-ends seen o (id ∷ bs) e = inTurn (section seen o id (suc o) bs) _ e λ s o₂ r₂ e₁ e₂. absurd (not-some (sym (got-value e₂)))
+
 module _ (m : List ℕ) (seen : Seen) (o : ℕ) where
-  pub walk-ended : drop o m ≡ [] → walkFrom m seen o ≡ accepted []
+  pub walk-ended : {o₁ : ℕ} {r₁ : List ℕ} → step seen o (drop o m) ≡ got none o₁ r₁ → walkFrom m seen o ≡ accepted []
   unfolding walkFrom sections
-  walk-ended e = rw e
+  walk-ended e = rw (step-ends seen o (drop o m) e)
 
   pub walk-stepped : {s : Section} {o₁ : ℕ} → step seen o (drop o m) ≡ got (some s) o₁ (drop o₁ m) → walkFrom m seen o ≡ mapJudged (λ more. s ∷ more) (walkFrom m (seeing seen s) o₁)
   unfolding walkFrom

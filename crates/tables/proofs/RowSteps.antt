@@ -1,0 +1,185 @@
+-- What reading a row does with what it read first: an item, the row's number, and the row.
+use Prim.Native.Nat.{ℕ, zero, suc, _-_, _≤_, _<_}
+use mathlib.Core.Bool.{Bool, true, false}
+use mathlib.Core.List.{List, [], _∷_}
+use mathlib.Core.Option.{Option, some}
+use mathlib.Core.Path.{_≡_, refl, sym, _∙_}
+use native.Mathlib.Omega.{arith}
+use borrow.Author.Needs.{needs}
+use borrow.Author.Tests.{le-leb, lt-leb, le-ltb}
+use lib.Dec.{ltb, leb}
+use lib.ListN.{length, getD}
+use lib.Seq.{slice-cons, slice-empty, length-slice}
+use Rattle.format.specs.Reading.{got, stop, Reader}
+use Rattle.format.specs.Numbers.{number}
+use Rattle.format.specs.Parts.{Part, sized, name}
+use Rattle.format.specs.Tables.{Table, lookup, table}
+use Rattle.format.specs.Metadata.{hintOf, anyItem, hintItem}
+use Rattle.format.specs.Options.{isSome}
+use Rattle.format.specs.Laws.Outcomes.{not-got, got-value, got-next, got-rest, byOutcome, inTurn, passed}
+use Rattle.format.specs.declared.Refusal.{Refusal}
+use Rattle.format.specs.declared.Reason.the-variants.{NotAbove, NotHint}
+use Rattle.reading.specs.Cursors.{Inside, left, NumberReads, PartReads}
+use Rattle.reading.specs.declared.Cursor.{Cursor}
+use Rattle.reading.specs.declared.NumberRead.{NumberRead}
+use Rattle.reading.specs.declared.NumberRead.the-variants.{Value, Refused as NoNumber}
+use Rattle.reading.specs.declared.PartRead.{PartRead}
+use Rattle.reading.specs.declared.PartRead.the-variants.{Part as APart, Refused as NoPart}
+use Rattle.reading.proofs.Laws.{number-means, number-inside, number-end, sized-means, part-behind}
+use Rattle.tables.specs.Seeking.{readerOf, sought, Seeks}
+use Rattle.tables.specs.Steps.{indexFrom, IndexReads, passing, RowReads}
+use Rattle.tables.specs.declared.Item.{Item}
+use Rattle.tables.specs.declared.Item.the-variants.{Name, Data, Hint}
+use Rattle.tables.specs.declared.Seek.{Seek}
+use Rattle.tables.specs.declared.Seek.the-variants.{None, Found, Refused as NoSeek}
+use Rattle.tables.specs.declared.Held.the-variants.{Nothing, Part as Held·Part}
+use Rattle.tables.specs.declared.RowRead.the-variants.{Row, Refused as NoRow}
+use Rattle.tables.proofs.Laws.{same-stop, item-means, item-behind, none-means, none-end, none-inside, found-means, found-inside}
+
+-- A hint
+small-hint : (b : ℕ) → ltb b 2 ≡ isSome (hintOf (b ∷ []))
+unfolding hintOf
+small-hint zero = refl
+small-hint (suc zero) = refl
+small-hint (suc (suc b)) = le-ltb (suc (suc b)) 2 (omega arith)
+
+no-hint : (x : List ℕ) → (length x ≡ 1 → ⊥) → false ≡ isSome (hintOf x)
+unfolding hintOf
+no-hint [] h = refl
+no-hint (b ∷ []) h = absurd (h refl)
+no-hint (b ∷ c ∷ x) h = refl
+
+module _ {s : List ℕ} {part : Cursor} (i : Inside s part) where
+  pub hint-one : part .end - part .at ≡ 1 → ltb (getD s (part .at) 0) 2 ≡ isSome (hintOf (left s part))
+  hint-one h =
+      let q : part .end ≡ suc (part .at) = omega (arith, i .ahead) in
+      let one : left s part ≡ getD s (part .at) 0 ∷ [] = slice-cons (part .at) (part .end) s 0 (omega arith) (i .within) ∙ rw (q, slice-empty) in
+      small-hint (getD s (part .at) 0) ∙ sym (rw one)
+
+  pub hint-other : (part .end - part .at ≡ 1 → ⊥) → false ≡ isSome (hintOf (left s part))
+  hint-other h = no-hint (left s part) (λ e. h (sym (length-slice (part .at) (part .end) s (i .within)) ∙ e))
+
+pub ruleset is-hint-steps = (hint-one, hint-other, needs)
+
+module _ {s : List ℕ} {c : Cursor} {x : PartRead} where
+  pub hint-refused : {r : Refusal} → PartReads sized s c x → x ≡ NoPart r → PartReads hintItem s c (NoPart r)
+  unfolding hintItem
+  hint-refused n e = record { means = rw (← rw e at (n .means)); same-part = tt }
+
+  module _ {part next : Cursor} (n : PartReads sized s c x) (e : x ≡ APart part next) where
+    pub hint-taken : {b : Bool} → b ≡ isSome (hintOf (left s part)) → b ≡ true → PartReads hintItem s c (APart part next)
+    unfolding hintItem
+    hint-taken q t = record { means = rw (sized-means n e, ← q, t); same-part = rw e at (n .same-part) }
+
+    pub hint-not : {b : Bool} → b ≡ isSome (hintOf (left s part)) → b ≡ false → PartReads hintItem s c (NoPart (record { reason = NotHint; offset = record { 0 = c .at } }))
+    unfolding hintItem
+    hint-not q t = record { means = rw (sized-means n e, ← q, t); same-part = tt }
+
+  pub part-inside : {part next : Cursor} → Inside s c → PartReads sized s c x → x ≡ APart part next → Inside s part
+  part-inside i n e = part-behind i n e .in-part
+
+pub ruleset hint-steps = (hint-refused, hint-taken, hint-not, part-inside, needs)
+
+-- An item
+module _ {s : List ℕ} {c : Cursor} {x : PartRead} {item : Item} where
+  pub value-name : item ≡ Name → PartReads name s c x → PartReads (readerOf item) s c x
+  value-name e r = rw e r
+
+  pub value-data : item ≡ Data → PartReads sized s c x → PartReads (readerOf item) s c x
+  unfolding anyItem
+  value-data e r = rw e r
+
+  pub value-hint : item ≡ Hint → PartReads hintItem s c x → PartReads (readerOf item) s c x
+  value-hint e r = rw e r
+
+pub ruleset value-steps = (value-name, value-data, value-hint, needs)
+
+-- A row's number
+module _ {s : List ℕ} {c : Cursor} {x : NumberRead} {least : ℕ} where
+  pub index-refused : {r : Refusal} → NumberReads s c x → x ≡ NoNumber r → IndexReads least s c (NoNumber r)
+  unfolding indexFrom
+  index-refused n e = record { means = rw (← rw e at (n .means)); same-part = tt }
+
+  module _ {k : ℕ} {next : Cursor} (n : NumberReads s c x) (e : x ≡ Value k next) where
+    pub index-low : k < least → IndexReads least s c (NoNumber (record { reason = NotAbove; offset = record { 0 = c .at } }))
+    unfolding indexFrom
+    index-low h = record { means = rw (number-means n e, lt-leb least k h); same-part = tt }
+
+    pub index-taken : least ≤ k → IndexReads least s c (Value k next)
+    unfolding indexFrom
+    index-taken h = record { means = rw (number-means n e, le-leb least k h); same-part = number-end n e }
+
+pub ruleset index-steps = (index-refused, index-low, index-taken, needs)
+
+module _ {s : List ℕ} {c : Cursor} {x : NumberRead} {least k : ℕ} {d : Cursor} where
+  index-means : IndexReads least s c x → x ≡ Value k d → indexFrom least (c .at) (left s c) ≡ got k (d .at) (left s d)
+  index-means n e = sym (rw e at (n .means))
+
+  index-end : IndexReads least s c x → x ≡ Value k d → d .end ≡ c .end
+  index-end n e = rw e at (n .same-part)
+
+  index-number : IndexReads least s c x → x ≡ Value k d → NumberReads s c (Value k d)
+  unfolding indexFrom
+  index-number n e =
+      inTurn (number (c .at) (left s c)) _ (index-means n e) λ k′ o₁ r₁ e₁ e₂. passed (leb least k′) _ _ _ _ _ e₂ λ t e₃.
+      record { means = sym (e₁ ∙ e₃); same-part = index-end n e }
+
+  pub index-inside : Inside s c → IndexReads least s c x → x ≡ Value k d → Inside s d
+  index-inside i n e = number-inside i (index-number n e) refl
+
+-- A row
+module _ {s : List ℕ} {c : Cursor} {x : NumberRead} {least : ℕ} where
+  pub row-no-index : {A : Type 0} {value : Reader A} {answer : A → Option Part} {r : Refusal} → IndexReads least s c x → x ≡ NoNumber r → RowReads value answer least s c (NoRow r)
+  unfolding passing
+  row-no-index n e = record { means = rw (← rw e at (n .means)); same-part = tt }
+
+  module _ {k : ℕ} {d : Cursor} where
+    pub row-no-value : {value : Reader Part} {y : PartRead} {r : Refusal} → IndexReads least s c x → x ≡ Value k d → PartReads value s d y → y ≡ NoPart r → RowReads value some least s c (NoRow r)
+    unfolding passing
+    row-no-value n e v q = record { means = rw (index-means n e, ← rw q at (v .means)); same-part = tt }
+
+    pub row-passed : (item : Item) {y : PartRead} {part next : Cursor} → Inside s c → IndexReads least s c x → x ≡ Value k d → PartReads (readerOf item) s d y → y ≡ APart part next → RowReads (readerOf item) some least s c (Row k (Held·Part part) next)
+    unfolding passing
+    row-passed item i n e v q =
+        let b = item-behind item (index-inside i n e) v q in
+        let far = index-end n e in
+        record {
+          means = rw (index-means n e, item-means v q);
+          same-part = ((b .in-part .ahead, omega (arith, b .ends, b .in-rest .ahead, b .same-end)), omega (arith, b .in-rest .ahead, b .same-end), b .same-end ∙ far);
+        }
+
+-- one whose value is a table: what the table was asked
+inSought : {C : Type 0} (value : Reader Part) (inner o : ℕ) (bs : List ℕ) {found : Option Part} {o′ : ℕ} {rest : List ℕ} → sought value inner o bs ≡ got found o′ rest → ((t : Table Part) → table value o bs ≡ got t o′ rest → lookup inner t ≡ found → C) → C
+unfolding sought
+inSought value inner o bs e k = inTurn (table value o bs) _ e λ t o₁ r₁ e₁ e₂. k t (rw (got-next e₂, got-rest e₂) at e₁) (got-value e₂)
+
+unsought : (value : Reader Part) (inner o : ℕ) (bs : List ℕ) {n at : ℕ} → stop n at ≡ sought value inner o bs → table value o bs ≡ stop n at
+unfolding sought
+unsought value inner o bs e = byOutcome (table value o bs) (λ t o₁ r₁ e₁. absurd (not-got (rw e₁ at e))) (λ n at e₁. let q = same-stop (rw e₁ at e) in e₁ ∙ rw (q .0, q .1))
+
+module _ (value : Reader Part) (inner : ℕ) {s : List ℕ} {c : Cursor} {x : NumberRead} {least k : ℕ} {d : Cursor} {y : Seek} where
+  pub group-refused : {r : Refusal} → IndexReads least s c x → x ≡ Value k d → Seeks (sought value inner) s d y → y ≡ NoSeek r → RowReads (table value) (lookup inner) least s c (NoRow r)
+  unfolding passing
+  group-refused n e v q = record { means = rw (index-means n e, unsought value inner (d .at) (left s d) (rw q at (v .means))); same-part = tt }
+
+  pub group-none : {next : Cursor} → Inside s c → IndexReads least s c x → x ≡ Value k d → Seeks (sought value inner) s d y → y ≡ None next → RowReads (table value) (lookup inner) least s c (Row k Nothing next)
+  unfolding passing
+  group-none i n e v q =
+      inSought value inner (d .at) (left s d) (none-means v q) λ t e₁ is.
+      let b = none-inside (index-inside i n e) v q in
+      let far = none-end v q in
+      let end = index-end n e in
+      record { means = rw (index-means n e, e₁, is); same-part = (tt, omega (arith, b .ahead), far ∙ end) }
+
+  pub group-found : {part next : Cursor} → Inside s c → IndexReads least s c x → x ≡ Value k d → Seeks (sought value inner) s d y → y ≡ Found part next → RowReads (table value) (lookup inner) least s c (Row k (Held·Part part) next)
+  unfolding passing
+  group-found i n e v q =
+      inSought value inner (d .at) (left s d) (found-means v q) λ t e₁ is.
+      let b = found-inside (index-inside i n e) v q in
+      let same = rw q at (v .same-part) in
+      let end = index-end n e in
+      record { means = rw (index-means n e, e₁, is); same-part = ((same .0, omega (arith, same .1)), omega (arith, b .ahead, same .2), same .2 ∙ end) }
+
+pub ruleset row-steps = (row-no-index, row-no-value, row-passed, index-inside, needs)
+
+pub ruleset group-steps = (row-no-index, group-refused, group-none, group-found, index-inside, needs)

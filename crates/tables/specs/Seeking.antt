@@ -1,0 +1,57 @@
+-- What a search of a table finds. The whole table is judged, also behind what is found. Assumes nothing.
+use Prim.Native.Nat.{ℕ, _≤_}
+use mathlib.Core.List.{List}
+use mathlib.Core.Option.{Option, none, some}
+use mathlib.Core.Path.{_≡_}
+use Rattle.format.specs.Reading.{_>>=_, Outcome, got, Reader, return}
+use Rattle.format.specs.Parts.{Part, name}
+use Rattle.format.specs.Tables.{lookup, table}
+use Rattle.format.specs.Metadata.{anyItem, hintItem}
+use Rattle.format.specs.Options.{thenSome}
+use Rattle.reading.specs.Cursors.{left, partOf, refusalOf}
+use Rattle.reading.specs.declared.Cursor.{Cursor}
+use Rattle.tables.specs.declared.Item.{Item}
+use Rattle.tables.specs.declared.Item.the-variants.{Name, Data, Hint}
+use Rattle.tables.specs.declared.Seek.{Seek}
+use Rattle.tables.specs.declared.Seek.the-variants.{None, Found, Refused}
+
+-- how an item is read
+abbrev pub readerOf : Item → Reader Part
+readerOf Name = name
+readerOf Data = anyItem
+readerOf Hint = hintItem
+
+-- what a table has at `key`
+unfoldable pub sought : Reader Part → ℕ → Reader (Option Part)
+sought value key = do
+  t ← table value
+  return (lookup key t)
+
+-- what the table at `key` has at `inner`
+unfoldable pub soughtWithin : Reader Part → ℕ → ℕ → Reader (Option Part)
+soughtWithin value key inner = do
+  t ← table (table value)
+  return (thenSome (lookup key t) (lookup inner))
+
+-- what a search found
+abbrev pub seekOutcome : List ℕ → Seek → Outcome (Option Part)
+seekOutcome s (None next) = got none (next .at) (left s next)
+seekOutcome s (Found part next) = got (some (partOf s part)) (next .at) (left s next)
+seekOutcome s (Refused r) = refusalOf r
+
+-- the next cursor has the same part around it, and what was found lies in that part
+abbrev pub seekEnd : ℕ → Seek → Type 0
+seekEnd end (None next) = next .end ≡ end
+seekEnd end (Found part next) = (part .at ≤ part .end) × (part .end ≤ end) × (next .end ≡ end)
+seekEnd end (Refused r) = Unit {0}
+
+-- the next cursor is not behind that part's end
+abbrev pub seekAhead : ℕ → Seek → Type 0
+seekAhead end (None next) = next .at ≤ end
+seekAhead end (Found part next) = next .at ≤ end
+seekAhead end (Refused r) = Unit {0}
+
+pub record Seeks (read : Reader (Option Part)) (s : List ℕ) (c : Cursor) (r : Seek) : Type 0 where
+  pub means : seekOutcome s r ≡ read (c .at) (left s c)
+  pub same-part : seekEnd (c .end) r
+  pub ahead : seekAhead (c .end) r

@@ -1,0 +1,231 @@
+// Judges and searches, in one pass, lists of (rising number, value) and lists of (rising number, such a list).
+ghost use mathlib.Core.Option.{some};
+ghost use mathlib.Core.Path.{_≡_};
+ghost use Rattle.format.specs.Options.{isSome};
+ghost use Rattle.format.specs.Metadata.{hintOf, hintItem};
+ghost use Rattle.format.specs.Tables.{table, lookup};
+ghost use Rattle.reading.specs.Cursors.{Inside, left, PartReads};
+ghost use Rattle.tables.specs.Seeking.{readerOf, sought, soughtWithin, Seeks};
+ghost use Rattle.tables.specs.Steps.{IndexReads, RowReads, keptOf, seekOf, soughtRows};
+use format::Offset;
+use format::Reason;
+use format::Refusal;
+use reading::Cursor;
+use reading::NumberRead;
+use reading::PartRead;
+
+// What a row's value is: a name, data of any size, or a branch hint.
+pub enum Item {
+    Name,
+    Data,
+    Hint,
+}
+
+// What a search finds: the cursor behind the table, and before it the part that was found.
+pub enum Seek {
+    None(Cursor),
+    Found(Cursor, Cursor),
+    Refused(Refusal),
+}
+
+// The part that was found so far, or that one row answers with.
+enum Held {
+    Nothing,
+    Part(Cursor),
+}
+
+// What reading a row finds: its number, what its value answers, and the cursor behind it.
+enum RowRead {
+    Row(u32, Held, Cursor),
+    Refused(Refusal),
+}
+
+// Whether a part is one byte that is 0 or 1.
+fn is_hint(s: &[u8], part: Cursor) -> bool
+    requires { ⌜ Inside (now s) part ⌝ }
+    ensures { λ r. ⌜ r ≡ isSome (hintOf (left (now (s .entry)) part)) ⌝ }
+{
+    let at = part.at;
+    if part.end - at == 1 {
+        return s[at] < 2;
+    }
+    false
+}
+
+// A branch hint. Its refusal points to the size number.
+fn hint(c: Cursor, s: &[u8]) -> PartRead
+    requires { ⌜ Inside (now s) c ⌝ }
+    ensures { λ r. ⌜ PartReads hintItem (now (s .entry)) c r ⌝ }
+{
+    let size = c.at;
+    match c.sized(s) {
+        PartRead::Refused(r) => PartRead::Refused(r),
+        PartRead::Part(part, next) => {
+            if is_hint(s, part) {
+                return PartRead::Part(part, next);
+            }
+            PartRead::Refused(Refusal {
+                reason: Reason::NotHint,
+                offset: Offset(size),
+            })
+        }
+    }
+}
+
+// A row's value.
+pub fn value(c: Cursor, s: &[u8], item: Item) -> PartRead
+    requires { ⌜ Inside (now s) c ⌝ }
+    ensures { λ r. ⌜ PartReads (readerOf item) (now (s .entry)) c r ⌝ }
+{
+    match item {
+        Item::Name => c.name(s),
+        Item::Data => c.sized(s),
+        Item::Hint => hint(c, s),
+    }
+}
+
+// A row's number, which is at least `least`.
+fn index(c: Cursor, s: &[u8], least: u64) -> NumberRead
+    requires { ⌜ Inside (now s) c ⌝ }
+    ensures { λ r. ⌜ IndexReads least (now (s .entry)) c r ⌝ }
+{
+    let first = c.at;
+    match c.number(s) {
+        NumberRead::Refused(r) => NumberRead::Refused(r),
+        NumberRead::Value(k, next) => {
+            if (k as u64) < least {
+                return NumberRead::Refused(Refusal {
+                    reason: Reason::NotAbove,
+                    offset: Offset(first),
+                });
+            }
+            NumberRead::Value(k, next)
+        }
+    }
+}
+
+// A row whose value is an item, which answers with itself.
+fn row(c: Cursor, s: &[u8], item: Item, least: u64) -> RowRead
+    requires { ⌜ Inside (now s) c ⌝ }
+    ensures { λ r. ⌜ RowReads (readerOf item) some least (now (s .entry)) c r ⌝ }
+{
+    match index(c, s, least) {
+        NumberRead::Refused(r) => RowRead::Refused(r),
+        NumberRead::Value(k, d) => match value(d, s, item) {
+            PartRead::Refused(r) => RowRead::Refused(r),
+            PartRead::Part(part, next) => RowRead::Row(k, Held::Part(part), next),
+        },
+    }
+}
+
+// A row whose value is a table, which answers with what it has at `inner`.
+fn group(c: Cursor, s: &[u8], item: Item, inner: u32, least: u64) -> RowRead
+    requires { ⌜ Inside (now s) c ⌝ }
+    ensures { λ r. ⌜ RowReads (table (readerOf item)) (lookup inner) least (now (s .entry)) c r ⌝ }
+{
+    match index(c, s, least) {
+        NumberRead::Refused(r) => RowRead::Refused(r),
+        NumberRead::Value(k, d) => match table(d, s, item, inner) {
+            Seek::Refused(r) => RowRead::Refused(r),
+            Seek::None(next) => RowRead::Row(k, Held::Nothing, next),
+            Seek::Found(part, next) => RowRead::Row(k, Held::Part(part), next),
+        },
+    }
+}
+
+// What is held once a row was passed: the first answer of a row with the key.
+fn kept(held: Held, key: u32, k: u32, answer: Held) -> Held
+    ensures { λ r. ⌜ r ≡ keptOf held key k answer ⌝ }
+{
+    match held {
+        Held::Part(part) => Held::Part(part),
+        Held::Nothing => {
+            if key == k {
+                return answer;
+            }
+            Held::Nothing
+        }
+    }
+}
+
+// What a search that held this found, behind its last row.
+fn ended(held: Held, next: Cursor) -> Seek
+    ensures { λ r. ⌜ r ≡ seekOf held next ⌝ }
+{
+    match held {
+        Held::Nothing => Seek::None(next),
+        Held::Part(part) => Seek::Found(part, next),
+    }
+}
+
+// So many rows with items.
+fn table_rows(c: Cursor, s: &[u8], item: Item, key: u32, n: u32) -> Seek
+    requires { ⌜ Inside (now s) c ⌝ }
+    ensures { λ r. ⌜ Seeks (soughtRows (readerOf item) some key n) (now (s .entry)) c r ⌝ }
+{
+    let mut next = c;
+    let mut least: u64 = 0;
+    let mut more = n;
+    let mut held = Held::Nothing;
+    while 0 < more {
+        match row(next, s, item, least) {
+            RowRead::Refused(r) => {
+                return Seek::Refused(r);
+            }
+            RowRead::Row(k, answer, after) => {
+                held = kept(held, key, k, answer);
+                next = after;
+                least = (k as u64) + 1;
+                more = more - 1;
+            }
+        }
+    }
+    ended(held, next)
+}
+
+// A list of (rising number, item): what it has at `key`.
+pub fn table(c: Cursor, s: &[u8], item: Item, key: u32) -> Seek
+    requires { ⌜ Inside (now s) c ⌝ }
+    ensures { λ r. ⌜ Seeks (sought (readerOf item) key) (now (s .entry)) c r ⌝ }
+{
+    match c.number(s) {
+        NumberRead::Refused(r) => Seek::Refused(r),
+        NumberRead::Value(n, d) => table_rows(d, s, item, key, n),
+    }
+}
+
+// So many rows with tables.
+fn tables_rows(c: Cursor, s: &[u8], item: Item, key: u32, inner: u32, n: u32) -> Seek
+    requires { ⌜ Inside (now s) c ⌝ }
+    ensures { λ r. ⌜ Seeks (soughtRows (table (readerOf item)) (lookup inner) key n) (now (s .entry)) c r ⌝ }
+{
+    let mut next = c;
+    let mut least: u64 = 0;
+    let mut more = n;
+    let mut held = Held::Nothing;
+    while 0 < more {
+        match group(next, s, item, inner, least) {
+            RowRead::Refused(r) => {
+                return Seek::Refused(r);
+            }
+            RowRead::Row(k, answer, after) => {
+                held = kept(held, key, k, answer);
+                next = after;
+                least = (k as u64) + 1;
+                more = more - 1;
+            }
+        }
+    }
+    ended(held, next)
+}
+
+// A list of (rising number, table): what the table at `key` has at `inner`.
+pub fn tables(c: Cursor, s: &[u8], item: Item, key: u32, inner: u32) -> Seek
+    requires { ⌜ Inside (now s) c ⌝ }
+    ensures { λ r. ⌜ Seeks (soughtWithin (readerOf item) key inner) (now (s .entry)) c r ⌝ }
+{
+    match c.number(s) {
+        NumberRead::Refused(r) => Seek::Refused(r),
+        NumberRead::Value(n, d) => tables_rows(d, s, item, key, inner, n),
+    }
+}

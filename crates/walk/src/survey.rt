@@ -1,0 +1,140 @@
+// One pass over a whole module, on which every question to the walk rests.
+ghost use Prim.Native.Nat.{_≤_, _<_};
+ghost use lib.ListN.{length};
+ghost use Rattle.reading.specs.Cursors.{Inside};
+ghost use Rattle.walk.specs.Sections.{CustomInside, SectionInside};
+ghost use Rattle.walk.specs.Surveys.{SectionKept, PayloadKept, Tallies, SurveysFrom, Surveys};
+use crate::called::is_called;
+use crate::step::Began;
+use crate::step::Custom;
+use crate::step::Section;
+use crate::step::Step;
+use crate::step::Walk;
+use format::Answer;
+use format::Offset;
+use format::Place;
+use format::Refusal;
+
+// A section's id, the offset of its id byte and the length of its contents.
+pub struct SectionPlace {
+    pub id: u8,
+    pub at: Offset,
+    pub length: usize,
+}
+
+pub enum SectionAnswer {
+    None,
+    Found(SectionPlace),
+    Refused(Refusal),
+}
+
+// What a pass has found so far: how many sections, the one at a position, and the first payload of a name.
+pub struct Tally {
+    pub count: usize,
+    pub section: SectionAnswer,
+    pub payload: Answer,
+}
+
+pub enum Surveyed {
+    Done(Tally),
+    Refused(Refusal),
+}
+
+// The section at a position, counted from 0, if it is this one.
+fn keep_section(m: &[u8], before: SectionAnswer, here: bool, s: Section) -> SectionAnswer
+    requires { ⌜ SectionInside (now m) s ⌝ }
+    ensures { λ r. ⌜ SectionKept (now (m .entry)) before here s r ⌝ }
+{
+    match before {
+        SectionAnswer::Found(p) => SectionAnswer::Found(p),
+        SectionAnswer::Refused(r) => SectionAnswer::Refused(r),
+        SectionAnswer::None => {
+            if here {
+                let contents = s.contents;
+                let at = s.at;
+                return SectionAnswer::Found(SectionPlace {
+                    id: s.id,
+                    at,
+                    length: contents.end - contents.at,
+                });
+            }
+            SectionAnswer::None
+        }
+    }
+}
+
+// The payload of the first custom section of a name, if it is this one.
+fn keep_payload(m: &[u8], before: Answer, custom: Custom, name: &[u8]) -> Answer
+    requires { ⌜ CustomInside (now m) custom ⌝ }
+    ensures { λ r. ⌜ PayloadKept (now (m .entry)) before custom (now (name .entry)) r ⌝ }
+{
+    match before {
+        Answer::Found(p) => Answer::Found(p),
+        Answer::Refused(r) => Answer::Refused(r),
+        Answer::None => match custom {
+            Custom::None => Answer::None,
+            Custom::Named(called, payload) => {
+                if is_called(m, called, name) {
+                    return Answer::Found(Place {
+                        offset: Offset(payload.at),
+                        length: payload.end - payload.at,
+                    });
+                }
+                Answer::None
+            }
+        },
+    }
+}
+
+// What is found with one section more.
+fn tallied(m: &[u8], t: Tally, s: Section, position: u64, name: &[u8]) -> Tally
+    requires { ⌜ SectionInside (now m) s × (t .count < length (now m)) ⌝ }
+    ensures { λ r. ⌜ Tallies (now (m .entry)) position (now (name .entry)) t s r ⌝ }
+{
+    let count = t.count;
+    let section = t.section;
+    let payload = t.payload;
+    let custom = s.custom;
+    Tally {
+        count: count + 1,
+        section: keep_section(m, section, count as u64 == position, s),
+        payload: keep_payload(m, payload, custom, name),
+    }
+}
+
+// From a section on to the module's end: all of it is judged, whatever was found.
+fn survey_from(m: &[u8], first: Walk, position: u64, name: &[u8]) -> Surveyed
+    requires { ⌜ first .at ≤ length (now m) ⌝ }
+    ensures { λ r. ⌜ SurveysFrom (now (m .entry)) position (now (name .entry)) first r ⌝ }
+{
+    let mut walk = first;
+    let mut tally = Tally {
+        count: 0,
+        section: SectionAnswer::None,
+        payload: Answer::None,
+    };
+    loop {
+        match walk.step(m) {
+            Step::Refused(r) => {
+                return Surveyed::Refused(r);
+            }
+            Step::Done => {
+                return Surveyed::Done(tally);
+            }
+            Step::Section(s, next) => {
+                tally = tallied(m, tally, s, position, name);
+                walk = next;
+            }
+        }
+    }
+}
+
+// The count of sections, the section at a position, and the payload of the first custom section of a name.
+pub fn survey(m: &[u8], position: u64, name: &[u8]) -> Surveyed
+    ensures { λ r. ⌜ Surveys (now (m .entry)) position (now (name .entry)) r ⌝ }
+{
+    match Walk::begin(m) {
+        Began::Refused(r) => Surveyed::Refused(r),
+        Began::At(first) => survey_from(m, first, position, name),
+    }
+}
