@@ -2,3 +2,4 @@ pub mod NumberLoop
 pub mod Laws
 pub mod PartSteps
 pub mod TextLaws
+pub mod Same

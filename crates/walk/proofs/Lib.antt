@@ -4,3 +4,4 @@ pub mod StepLaws
 pub mod BeginLaws
 pub mod SurveyLaws
 pub mod AnswerLaws
+pub mod Same

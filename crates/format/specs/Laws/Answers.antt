@@ -3,7 +3,7 @@ use Prim.Native.Nat.{ℕ, zero, suc, _≤_, _<_}
 use mathlib.Core.List.{List, [], _∷_}
 use mathlib.Core.Logic.{_↔_}
 use mathlib.Core.Option.{Option, none, some}
-use mathlib.Core.Path.{_≡_, refl, sym}
+use mathlib.Core.Path.{_≡_, refl, sym, ap}
 use native.Mathlib.Omega.{arith}
 use borrow.Author.Tests.{ltb-true, ltb-false, eqb-true}
 use lib.Dec.{ltb, eqb}
@@ -15,15 +15,18 @@ use Rattle.format.specs.Options.{mapSome}
 use Rattle.format.specs.Parts.{Part}
 use Rattle.format.specs.Tables.{Table, row, lookup, mapTable}
 use Rattle.format.specs.Names.{Kind, Content, single, names, namesBy, whole, subsections, payload, judgeNames}
-use Rattle.format.specs.Questions.{Query, itsName, itsContents, nameOf, nameWithin, answerIn, answer, Allowed, anId, anIndex, twoIndices, anyId, asTold}
+use Rattle.format.specs.Questions.{Query, itsName, itsContents, nameOf, nameWithin, answerIn, answer, Allowed, anId, anIndex, twoIndices, anyId, asTold, answered}
 use Rattle.format.specs.Canonical.{bare}
 use Rattle.format.specs.Laws.Outcomes.{got-value, not-accepted, accepted-is, byTest, judged}
-use Rattle.format.specs.Laws.Options.{not-some, byOption}
+use Rattle.format.specs.Laws.Options.{not-some, some-is, byOption}
+use Rattle.format.specs.Laws.Refusals.{same-judgement}
 use Rattle.format.specs.Laws.Turns.{inSubsection}
 use Rattle.format.specs.Laws.Passing.{sized-passes, bytes-step}
 use Rattle.format.specs.Laws.Codecs.{Sorted, RowFine}
 use Rattle.format.specs.Laws.Tables.{lookup-map, lookup-fine}
 use Rattle.format.specs.Laws.Names.{ContentFine, singleFine, namesFine, namesByFine, wholeFine, payload-sound}
+use Rattle.format.specs.declared.Answer.{Answer}
+use Rattle.format.specs.declared.Answer.the-variants.{None, Found, Refused}
 
 bare-in : (q : Query) (c : Content Part) → answerIn q (bare c) ≡ mapSome (λ p. p .bytes) (answerIn q c)
 unfolding bare
@@ -107,3 +110,15 @@ module _ (kindOf : ℕ → Kind) where
       (λ c n.
       let is : lookup id (mapTable bare (a .value)) ≡ some (bare c) = rw (lookup-map bare id (a .value), n) in
       asked-or-none kindOf id q (subsection-byte (length bs) 0 0 bs id b r n) refl (lookup-fine id (payload-sound kindOf 0 bs r .sorted) is .0) f (λ m. g (rw is m)))
+
+-- what an answer says tells answers apart: two results that meet one promise are equal
+pub same-answer : (a b : Answer) → answered a ≡ answered b → a ≡ b
+same-answer None None e = refl
+same-answer None (Found p) e = absurd (not-some (accepted-is e))
+same-answer None (Refused r) e = absurd (not-accepted (sym e))
+same-answer (Found p) None e = absurd (not-some (sym (accepted-is e)))
+same-answer (Found p) (Found q) e = ap Found (some-is (accepted-is e))
+same-answer (Found p) (Refused r) e = absurd (not-accepted (sym e))
+same-answer (Refused r) None e = absurd (not-accepted e)
+same-answer (Refused r) (Found p) e = absurd (not-accepted e)
+same-answer (Refused r) (Refused s) e = ap Refused (same-judgement e)

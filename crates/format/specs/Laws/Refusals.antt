@@ -4,6 +4,8 @@ use mathlib.Core.List.{List, [], _∷_}
 use mathlib.Core.Path.{_≡_, refl, sym, ap, _∙_}
 use lib.ListN.{getD}
 use Rattle.format.specs.Refusals.{numberOf}
+use Rattle.format.specs.Reading.{Outcome, stop, Judged, refused}
+use Rattle.format.specs.declared.Refusal.{Refusal}
 use Rattle.format.specs.declared.Reason.{Reason}
 use Rattle.format.specs.declared.Reason.the-variants.{NoPreamble, PastItsPart, NumberTooLarge, NotText, SectionUnknown, SectionOrder, SectionTwice, SectionTooLate, SubsectionOrder, LeftOver, NotAbove, NotHint, OutputTooShort, ListsDisagree, SubsectionTooLarge, InputTooLarge}
 
@@ -35,3 +37,14 @@ numbered-is InputTooLarge = refl
 
 pub told-apart : (r s : Reason) → numberOf r ≡ numberOf s → r ≡ s
 told-apart r s e = sym (numbered-is r) ∙ ap numbered e ∙ numbered-is s
+
+-- a refusal is told by its number and offset
+pub same-refusal : (r s : Refusal) → numberOf (r .reason) ≡ numberOf (s .reason) → r .offset .0 ≡ s .offset .0 → r ≡ s
+same-refusal r s e q = let w = told-apart (r .reason) (s .reason) e in λ i. record { reason = w i; offset = record { 0 = q i } }
+
+module _ {A : Type 0} where
+  pub same-judgement : {r s : Refusal} → _≡_ {A = Judged A} (refused (numberOf (r .reason)) (r .offset .0)) (refused (numberOf (s .reason)) (s .offset .0)) → r ≡ s
+  same-judgement {r} {s} e = same-refusal r s (cc) (cc)
+
+  pub same-stop : {r s : Refusal} → _≡_ {A = Outcome A} (stop (numberOf (r .reason)) (r .offset .0)) (stop (numberOf (s .reason)) (s .offset .0)) → r ≡ s
+  same-stop {r} {s} e = same-refusal r s (cc) (cc)
