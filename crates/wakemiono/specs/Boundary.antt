@@ -1,0 +1,34 @@
+-- The four fields of an answer at the C boundary. Assumes nothing.
+use Prim.Native.Nat.{ℕ}
+use mathlib.Core.Option.{Option, none, some}
+use Rattle.format.specs.Reading.{Judged, accepted, refused}
+use Rattle.format.specs.declared.Place.{Place}
+use Rattle.walk.specs.declared.survey.SectionPlace.{SectionPlace}
+use Rattle.wakemiono.specs.declared.WmAnswer.{WmAnswer}
+
+-- by kind
+abbrev pub wmNone : WmAnswer
+wmNone = record { kind = 0; code = 0; offset = 0; length = 0 }
+
+abbrev pub wmFound : (code offset length : ℕ) → WmAnswer
+wmFound code offset length = record { kind = 1; code = code; offset = offset; length = length }
+
+abbrev pub wmRefused : (number offset : ℕ) → WmAnswer
+wmRefused number offset = record { kind = 2; code = number; offset = offset; length = 0 }
+
+-- what a call answers, from what it means: none, something found, or a refusal
+abbrev pub wmAnswer : {A : Type 0} → (A → WmAnswer) → Judged (Option A) → WmAnswer
+wmAnswer found (accepted none) = wmNone
+wmAnswer found (accepted (some v)) = found v
+wmAnswer found (refused n at) = wmRefused n at
+
+-- a place; a section: its id, the offset of its id byte, the length of its contents; a count of sections
+abbrev pub wmPlace : Judged (Option Place) → WmAnswer
+wmPlace j = wmAnswer (λ p. wmFound 0 (p .offset .0) (p .length)) j
+
+abbrev pub wmSection : Judged (Option SectionPlace) → WmAnswer
+wmSection j = wmAnswer (λ s. wmFound (s .id) (s .at .0) (s .length)) j
+
+abbrev pub wmCount : Judged ℕ → WmAnswer
+wmCount (accepted n) = wmFound 0 0 n
+wmCount (refused n at) = wmRefused n at
