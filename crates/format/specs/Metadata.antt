@@ -2,12 +2,15 @@
 use Prim.Native.Nat.{ℕ, zero, suc}
 use mathlib.Core.List.{List, [], _∷_}
 use mathlib.Core.Option.{Option, none, some}
-use Rattle.format.specs.Reading.{_>>=_, _>>_, Reader, return, here, checked, filling, Judged, judge, mapJudged}
+use Rattle.format.specs.Refusals.{numberOf}
+use Rattle.format.specs.Reading.{_>>=_, _>>_, Reader, return, here, checked, filling, Judged, accepted, refused, judge, mapJudged}
 use Rattle.format.specs.Parts.{Part, sized}
 use Rattle.format.specs.Tables.{Table, lookup, table}
 use Rattle.format.specs.Options.{thenSome, isSome}
 use Rattle.format.specs.declared.FunctionIndex.{FunctionIndex}
 use Rattle.format.specs.declared.CodeOffset.{CodeOffset}
+use Rattle.format.specs.declared.HintAnswer.{HintAnswer}
+use Rattle.format.specs.declared.HintAnswer.the-variants.{None, Found, Refused}
 use Rattle.format.specs.declared.Hint.{Hint}
 use Rattle.format.specs.declared.Hint.the-variants.{Unlikely, Likely}
 use Rattle.format.specs.declared.Reason.the-variants.{NotHint}
@@ -55,3 +58,9 @@ hintIn found = thenSome found (λ p. hintOf (p .bytes))
 
 unfoldable pub askHint : FunctionIndex → CodeOffset → ℕ → List ℕ → Judged (Option Hint)
 askHint f at o bs = mapJudged hintIn (askMetadata hintItem f at o bs)
+
+-- What an answer for a hint says
+abbrev pub hintAnswered : HintAnswer → Judged (Option Hint)
+hintAnswered None = accepted none
+hintAnswered (Found h) = accepted (some h)
+hintAnswered (Refused r) = refused (numberOf (r .reason)) (r .offset .0)

@@ -62,6 +62,13 @@ pub enum Hint {
     Likely,
 }
 
+// The answer to a question for a hint.
+pub enum HintAnswer {
+    None,
+    Found(Hint),
+    Refused(Refusal),
+}
+
 impl Reason {
     // The number that a host sees and may store.
     pub fn number(self) -> u32

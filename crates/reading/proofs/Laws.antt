@@ -1,12 +1,12 @@
 -- Laws for callers: a reading stays inside its part and moves forward, and a part that was read lies where it says. Callers cite these and never open a definition of reading.
 use Prim.Native.Nat.{ℕ, suc, _-_, _≤_, _<_}
-use mathlib.Core.List.{List, _∷_}
+use mathlib.Core.List.{List, _∷_, append-assoc}
 use mathlib.Core.Path.{_≡_, refl, sym, ap, _∙_}
 use native.Mathlib.Omega.{arith}
 use borrow.Author.Tests.{ltb-true, ltb-false}
 use lib.Dec.{ltb}
-use lib.ListN.{length}
-use lib.Seq.{slice, slice-cons, length-slice}
+use lib.ListN.{length, take, drop, take-append-drop}
+use lib.Seq.{slice, slice-cons, length-slice, length-take-le, take-length}
 use Rattle.format.specs.Reading.{got}
 use Rattle.format.specs.Numbers.{number}
 use Rattle.format.specs.Parts.{sized, name}
@@ -15,6 +15,7 @@ use Rattle.format.specs.Laws.Outcomes.{byTest}
 use Rattle.format.specs.Laws.Numbers.{shortest-positive}
 use Rattle.format.specs.Laws.Codecs.{number-sound}
 use Rattle.format.specs.Laws.Turns.{inSized, inTested}
+use Rattle.format.specs.Laws.Places.{Lies}
 use Rattle.format.specs.Laws.Passing.{number-passes, sized-passes}
 use Rattle.format.specs.declared.Reason.the-variants.{NotText}
 use Rattle.reading.specs.Cursors.{Inside, left, partOf, NumberReads, PartReads}
@@ -105,3 +106,16 @@ module _ {s : List ℕ} {c part next : Cursor} where
     name-behind i r e =
         let same = rw e at (r .same-part) in
         inTested utf8 NotText (λ o p. p .at) (c .at) (left s c) (name-means r e) λ e₁ t. sized-behind i e₁ (same .0) (same .1)
+
+-- what a cursor has left lies in what was lent
+pub lies-left : {s : List ℕ} {c : Cursor} → Inside s c → Lies s (c .at) (left s c)
+lies-left {s} {c} i = record {
+  before = take (c .at) (take (c .end) s);
+  after = drop (c .end) s;
+  joined = rw (← append-assoc (take (c .at) (take (c .end) s)) (drop (c .at) (take (c .end) s)) (drop (c .end) s), take-append-drop, take-append-drop);
+  far = length-take-le (c .at) (take (c .end) s) (omega (arith, length-take-le (c .end) s (i .within), i .ahead));
+}
+
+-- a cursor over all of it has all of it left
+pub left-all : (s : List ℕ) → slice 0 (length s) s ≡ s
+left-all s = take-length s

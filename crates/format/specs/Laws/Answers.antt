@@ -12,12 +12,13 @@ use Rattle.format.specs.Bytes.{Bytes}
 use Rattle.format.specs.Reading.{got, Judged, accepted, refused, Accepted}
 use Rattle.format.specs.Numbers.{limit32}
 use Rattle.format.specs.Options.{mapSome}
-use Rattle.format.specs.Parts.{Part}
+use Rattle.format.specs.Parts.{Part, placeOf}
 use Rattle.format.specs.Tables.{Table, row, lookup, mapTable}
 use Rattle.format.specs.Names.{Kind, Content, single, names, namesBy, whole, subsections, payload, judgeNames}
-use Rattle.format.specs.Questions.{Query, itsName, itsContents, nameOf, nameWithin, answerIn, answer, Allowed, anId, anIndex, twoIndices, anyId, asTold, answered}
+use Rattle.format.specs.Questions.{Query, itsName, itsContents, nameOf, nameWithin, answerIn, answer, Allowed, anId, anIndex, twoIndices, anyId, asPlace, asTold, answered}
+use Rattle.format.specs.Metadata.{hintAnswered}
 use Rattle.format.specs.Canonical.{bare}
-use Rattle.format.specs.Laws.Outcomes.{got-value, not-accepted, accepted-is, byTest, judged}
+use Rattle.format.specs.Laws.Outcomes.{got-value, not-accepted, accepted-is, byTest, judged, refused-exactly}
 use Rattle.format.specs.Laws.Options.{not-some, some-is, byOption}
 use Rattle.format.specs.Laws.Refusals.{same-judgement}
 use Rattle.format.specs.Laws.Turns.{inSubsection}
@@ -25,6 +26,9 @@ use Rattle.format.specs.Laws.Passing.{sized-passes, bytes-step}
 use Rattle.format.specs.Laws.Codecs.{Sorted, RowFine}
 use Rattle.format.specs.Laws.Tables.{lookup-map, lookup-fine}
 use Rattle.format.specs.Laws.Names.{ContentFine, singleFine, namesFine, namesByFine, wholeFine, payload-sound}
+use Rattle.format.specs.declared.HintAnswer.{HintAnswer}
+use Rattle.format.specs.declared.HintAnswer.the-variants.{None as NoHint, Found as AHint, Refused as NotHinted}
+use Rattle.format.specs.declared.Place.{Place}
 use Rattle.format.specs.declared.Answer.{Answer}
 use Rattle.format.specs.declared.Answer.the-variants.{None, Found, Refused}
 
@@ -122,3 +126,31 @@ same-answer (Found p) (Refused r) e = absurd (not-accepted (sym e))
 same-answer (Refused r) None e = absurd (not-accepted e)
 same-answer (Refused r) (Found p) e = absurd (not-accepted e)
 same-answer (Refused r) (Refused s) e = ap Refused (same-judgement e)
+
+pub same-hint-answer : (a b : HintAnswer) → hintAnswered a ≡ hintAnswered b → a ≡ b
+same-hint-answer NoHint NoHint e = refl
+same-hint-answer NoHint (AHint h) e = absurd (not-some (accepted-is e))
+same-hint-answer NoHint (NotHinted r) e = absurd (not-accepted (sym e))
+same-hint-answer (AHint h) NoHint e = absurd (not-some (sym (accepted-is e)))
+same-hint-answer (AHint h) (AHint k) e = ap AHint (some-is (accepted-is e))
+same-hint-answer (AHint h) (NotHinted r) e = absurd (not-accepted (sym e))
+same-hint-answer (NotHinted r) NoHint e = absurd (not-accepted e)
+same-hint-answer (NotHinted r) (AHint h) e = absurd (not-accepted e)
+same-hint-answer (NotHinted r) (NotHinted s) e = ap NotHinted (same-judgement e)
+
+-- an answer as a place, taken apart
+pub place-none : (j : Judged (Option Part)) → accepted none ≡ asPlace j → j ≡ accepted none
+unfolding asPlace
+place-none (accepted none) e = refl
+place-none (accepted (some x)) e = absurd (not-some (accepted-is e))
+place-none (refused n at) e = absurd (not-accepted (sym e))
+
+pub place-found : (j : Judged (Option Part)) {p : Place} → accepted (some p) ≡ asPlace j → (x : Part) × (j ≡ accepted (some x)) × (placeOf x ≡ p)
+unfolding asPlace
+place-found (accepted none) e = absurd (not-some (sym (accepted-is e)))
+place-found (accepted (some x)) e = (x, refl, sym (some-is (accepted-is e)))
+place-found (refused n at) e = absurd (not-accepted (sym e))
+
+pub place-refused : (j : Judged (Option Part)) {n at : ℕ} → refused n at ≡ asPlace j → j ≡ refused n at
+unfolding asPlace
+place-refused j e = refused-exactly (mapSome placeOf) j .0 (sym e)

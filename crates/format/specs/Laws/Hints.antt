@@ -10,11 +10,11 @@ use Rattle.format.specs.Numbers.{limit32}
 use Rattle.format.specs.Options.{thenSome, mapSome, isSome}
 use Rattle.format.specs.Parts.{Part}
 use Rattle.format.specs.Tables.{lookup}
-use Rattle.format.specs.Metadata.{dataOf, hintOf, hintItem, itemAt, askMetadata, hintIn, askHint}
-use Rattle.format.specs.Canonical.{rewriteMetadata, canonicalOf, canonicalHints}
-use Rattle.format.specs.Laws.Outcomes.{accepted-is}
+use Rattle.format.specs.Metadata.{dataOf, hintOf, hintItem, metadata, judgeMetadata, itemAt, askMetadata, hintIn, askHint}
+use Rattle.format.specs.Canonical.{bareItems, rewriteMetadata, canonicalOf, canonicalHints}
+use Rattle.format.specs.Laws.Outcomes.{accepted-is, judged, mapped}
 use Rattle.format.specs.Laws.Options.{not-some, some-is, byOption, inThen}
-use Rattle.format.specs.Laws.Codecs.{hint-codec}
+use Rattle.format.specs.Laws.Codecs.{hint-codec, table-codec, fill-sound}
 use Rattle.format.specs.Laws.Tables.{lookup-fine}
 use Rattle.format.specs.Laws.CanonicalMetadata.{AcceptedItems, items, items-whole, item-told, item-bare, items-accepted, items-told, same-items}
 use Rattle.format.specs.declared.FunctionIndex.{FunctionIndex}
@@ -100,3 +100,14 @@ no-hint-exactly a f at = (
       absurd (not-some (sym (accepted-is (sym (hint-told a f at) ∙ e)) ∙ there))),
   λ e. hint-told a f at ∙ ap accepted (rw e),
 )
+
+-- wherever the payload begins, what is found in it is the data of a hint
+pub found-hint : (f : FunctionIndex) (at : CodeOffset) (o : ℕ) (bs : List ℕ) {x : Part} → askMetadata hintItem f at o bs ≡ accepted (some x) → (h : Hint) × (x .bytes ≡ dataOf h)
+unfolding askMetadata judgeMetadata metadata itemAt
+found-hint f at o bs {x} e =
+    mapped (itemAt f at) (judgeMetadata hintItem o bs) e λ t e₁ e₂. judged (metadata hintItem o bs) e₁ λ o′ rest e₃.
+    let fine = fill-sound (table-codec (table-codec hint-codec)) o bs e₃ .fine in
+    let bare : itemAt f at (bareItems t) ≡ some (x .bytes) = item-bare f at t ∙ ap (mapSome (λ p. p .bytes)) e₂ in
+    inThen (lookup (f .0) (bareItems t)) _ bare λ u e₄ e₅.
+    let (h, is) = is-hint (x .bytes) (lookup-fine (at .0) (lookup-fine (f .0) (fine .sorted) e₄ .1 .sorted) e₅ .1 .1) in
+    (h, data-is (x .bytes) is)

@@ -85,3 +85,7 @@ refused-exactly f (refused n at) = (again, again)
   where
     again : {A B : Type 0} {n m at at′ : ℕ} → _≡_ {A = Judged A} (refused n at) (refused m at′) → _≡_ {A = Judged B} (refused n at) (refused m at′)
     again e = cc
+
+-- a refusal is the same of whatever was read
+pub stop-refused : {A B : Type 0} {n n′ at at′ : ℕ} → _≡_ {A = Outcome A} (stop n at) (stop n′ at′) → _≡_ {A = Judged B} (refused n at) (refused n′ at′)
+stop-refused e = cc

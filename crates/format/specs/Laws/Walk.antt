@@ -8,11 +8,11 @@ use native.Mathlib.Omega.{arith}
 use lib.Dec.{eqb}
 use lib.ListN.{length, drop, length-drop}
 use lib.Seq.{length-take-le, drop-drop}
-use Rattle.format.specs.Reading.{Outcome, got, stop, andThen, return, Judged, accepted, refused, judge, mapJudged}
+use Rattle.format.specs.Reading.{Outcome, got, stop, andThen, return, accepted, refused, judge, mapJudged}
 use Rattle.format.specs.Parts.{Part, sized}
 use Rattle.format.specs.Walk.{preamble, begins, Section, Seen, nothing, seeing, section, step, sections, framing, walk, walkFrom}
 use Rattle.format.specs.Holding.{Framed, Covers, atTheEnd, aSection}
-use Rattle.format.specs.Laws.Outcomes.{not-got, got-value, got-next, got-rest, byTest, byOutcome, inTurn, judged}
+use Rattle.format.specs.Laws.Outcomes.{not-got, got-value, got-next, got-rest, byTest, byOutcome, inTurn, judged, stop-refused}
 use Rattle.format.specs.Laws.Options.{not-some, some-is}
 use Rattle.format.specs.Laws.Turns.{inSized, inSection, inSections}
 use Rattle.format.specs.Laws.Passing.{Passes, number-passes, sized-passes, Reaches, reach, reach-step}
@@ -127,9 +127,6 @@ step-goes-on seen o (id ∷ bs) {s} {o₁} {r₁} e =
     let e₁ = step-section seen o id bs e in
     let l = section-shorter seen o id bs e₁ in
     rw e₁ (judge-row s (sections (length bs) (seeing seen s) o₁ r₁) ∙ ap (λ r. mapJudged (λ more. s ∷ more) (judge r)) (sections-enough (length bs) (length r₁) (seeing seen s) o₁ r₁ l (omega arith)))
-
-stop-refused : {A B : Type 0} {n n′ at at′ : ℕ} → _≡_ {A = Outcome A} (stop n at) (stop n′ at′) → _≡_ {A = Judged B} (refused n at) (refused n′ at′)
-stop-refused e = cc
 
 step-refuses : (seen : Seen) (o : ℕ) (bs : List ℕ) {n at : ℕ} → step seen o bs ≡ stop n at → judge (sections (length bs) seen o bs) ≡ refused n at
 unfolding step sections

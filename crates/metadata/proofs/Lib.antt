@@ -1,0 +1,3 @@
+pub mod FindLaws
+pub mod AnswerLaws
+pub mod WholeLaws

@@ -1,0 +1,12 @@
+use Rattle.metadata.proofs.WholeLaws.{wholes}
+use Rattle.metadata.proofs.find.Statement.{statement}
+use Rattle.metadata.proofs.find.Tie as tie
+
+find-in-requires : tie.Need-find-in-requires
+find-in-requires c κs = search wholes
+
+returns : tie.Need-returns
+returns c = search wholes
+
+pub find-spec : {M : Type 1} → statement M
+find-spec = tie.close (tie.spec find-in-requires returns)

@@ -1,0 +1,44 @@
+use Rattle.metadata.proofs.AnswerLaws.{hints}
+use Rattle.metadata.proofs.hint_in.Statement.{statement}
+use Rattle.metadata.proofs.hint_in.Tie as tie
+
+find-in-requires : tie.Need-find-in-requires
+find-in-requires c κs = search hints
+
+enum-known-r : tie.Need-enum-known-r
+enum-known-r c = search hints
+
+enum-told : tie.Need-enum-told
+enum-told c = search hints
+
+enum-known-place : tie.Need-enum-known-place
+enum-known-place c = search hints
+
+shared-slice-read-if1 : tie.Need-shared-slice-read-if1
+shared-slice-read-if1 c = search hints
+
+returns : tie.Need-returns
+returns c = search hints
+
+returns-2 : tie.Need-returns-2
+returns-2 c = search hints
+
+returns-3 : tie.Need-returns-3
+returns-3 c = search hints
+
+returns-4 : tie.Need-returns-4
+returns-4 c = search hints
+
+pub hint-in-spec : {M : Type 1} → statement M
+hint-in-spec =
+    tie.close
+    (tie.spec
+    find-in-requires
+    enum-known-r
+    enum-told
+    enum-known-place
+    shared-slice-read-if1
+    returns
+    returns-2
+    returns-3
+    returns-4)

@@ -1,0 +1,12 @@
+use Rattle.metadata.proofs.WholeLaws.{wholes}
+use Rattle.metadata.proofs.judge_hints.Statement.{statement}
+use Rattle.metadata.proofs.judge_hints.Tie as tie
+
+judge-in-requires : tie.Need-judge-in-requires
+judge-in-requires c κs = search wholes
+
+returns : tie.Need-returns
+returns c = search wholes
+
+pub judge-hints-spec : {M : Type 1} → statement M
+judge-hints-spec = tie.close (tie.spec judge-in-requires returns)
