@@ -6,13 +6,24 @@ use native.Mathlib.Omega.{arith}
 use borrow.Author.Needs.{needs}
 use denote.Enum.Declared.{tagOf}
 use Rattle.format.specs.Refusals.{numberOf}
-use Rattle.format.specs.Reading.{Judged}
+use Rattle.format.specs.Reading.{Judged as Judgement}
+use Rattle.format.specs.Metadata.{hintAnswered}
 use Rattle.format.specs.Questions.{answered}
 use Rattle.format.specs.declared.Answer.{Answer}
 use Rattle.format.specs.declared.Answer.the-variants.{None, Found, Refused}
+use Rattle.format.specs.declared.Hint.{Hint}
+use Rattle.format.specs.declared.Hint.the-variants.{Unlikely, Likely}
+use Rattle.format.specs.declared.HintAnswer.{HintAnswer}
+use Rattle.format.specs.declared.HintAnswer.the-variants.{None as NoHint, Found as AHint, Refused as NotHinted}
 use Rattle.format.specs.declared.Place.{Place}
 use Rattle.format.specs.declared.Refusal.{Refusal}
 use Rattle.format.proofs.Answer as answer-type
+use Rattle.format.proofs.Hint as likelihood-type
+use Rattle.format.proofs.HintAnswer as hint-type
+use Rattle.metadata.specs.Judgements.{judged}
+use Rattle.metadata.specs.declared.Judged.{Judged}
+use Rattle.metadata.specs.declared.Judged.the-variants.{Accepted, Refused as NotAccepted}
+use Rattle.metadata.proofs.Judged as judged-type
 use Rattle.walk.specs.Surveys.{counted, sectionAnswered}
 use Rattle.walk.specs.declared.Counted.{Counted}
 use Rattle.walk.specs.declared.Counted.the-variants.{Count, Refused as NotCounted}
@@ -20,7 +31,7 @@ use Rattle.walk.specs.declared.survey.SectionAnswer.{SectionAnswer}
 use Rattle.walk.specs.declared.survey.SectionAnswer.the-variants.{None as NoSection, Found as ASection, Refused as NotFound}
 use Rattle.walk.specs.declared.survey.SectionPlace.{SectionPlace}
 use Rattle.walk.proofs.survey.SectionAnswer as section-type
-use Rattle.wakemiono.specs.Boundary.{wmNone, wmFound, wmRefused, wmPlace, wmSection, wmCount}
+use Rattle.wakemiono.specs.Boundary.{wmNone, wmFound, wmRefused, wmPlace, wmSection, wmCount, wmJudged, wmHinted, wmHint}
 use Rattle.wakemiono.specs.declared.WmAnswer.{WmAnswer}
 
 pub refusal-is : (r : Refusal) (n : ℕ) → n ≡ numberOf (r .reason) → record { kind = 2; code = n; offset = r .offset .0; length = 0 } ≡ wmRefused (numberOf (r .reason)) (r .offset .0)
@@ -66,16 +77,58 @@ module _ (x : Answer) where
   pub place-is : (p : Place) → x ≡ Found p → wmFound 0 (p .offset .0) (p .length) ≡ wmPlace (answered x)
   place-is p e = rw e
 
-pub ruleset fields = (refusal-is, count-refused, count-is, section-none, section-refused, section-is, place-none, place-refused, place-is, needs)
+-- a judgement
+is-accepted : (j : Judged) → tagOf judged-type.the-type j ≡ 0 → j ≡ Accepted
+is-accepted Accepted h = refl
+is-accepted (NotAccepted r) h = absurd (omega arith)
+
+module _ (j : Judged) (n : ℕ) where
+  pub judged-refused : (a : WmAnswer) (r : Refusal) → j ≡ NotAccepted r → a ≡ wmRefused (numberOf (r .reason)) (r .offset .0) → a ≡ wmJudged n (judged j)
+  judged-refused a r e q = rw e q
+
+  pub judged-is : tagOf judged-type.the-type j ≡ 0 → wmFound 0 0 n ≡ wmJudged n (judged j)
+  judged-is h = rw (is-accepted j h)
+
+-- a hint
+pub unlikely-is : (h : Hint) → tagOf likelihood-type.the-type h ≡ 0 → record { kind = 3; code = 0; offset = 0; length = 0 } ≡ wmHinted h
+unlikely-is Unlikely t = refl
+unlikely-is Likely t = absurd (omega arith)
+
+pub likely-is : (h : Hint) → tagOf likelihood-type.the-type h ≡ 1 → record { kind = 4; code = 0; offset = 0; length = 0 } ≡ wmHinted h
+likely-is Unlikely t = absurd (omega arith)
+likely-is Likely t = refl
+
+no-hint : (x : HintAnswer) → tagOf hint-type.the-type x ≡ 0 → x ≡ NoHint
+no-hint NoHint h = refl
+no-hint (AHint p) h = absurd (omega arith)
+no-hint (NotHinted r) h = absurd (omega arith)
+
+module _ (x : HintAnswer) where
+  pub hint-none : tagOf hint-type.the-type x ≡ 0 → wmNone ≡ wmHint (hintAnswered x)
+  hint-none h = rw (no-hint x h)
+
+  pub hint-refused : (a : WmAnswer) (r : Refusal) → x ≡ NotHinted r → a ≡ wmRefused (numberOf (r .reason)) (r .offset .0) → a ≡ wmHint (hintAnswered x)
+  hint-refused a r e q = rw e q
+
+  pub hint-is : (a : WmAnswer) (h : Hint) → x ≡ AHint h → a ≡ wmHinted h → a ≡ wmHint (hintAnswered x)
+  hint-is a h e q = rw e q
+
+pub ruleset fields = (refusal-is, count-refused, count-is, section-none, section-refused, section-is, place-none, place-refused, place-is, judged-refused, judged-is, unlikely-is, likely-is, hint-none, hint-refused, hint-is, needs)
 
 -- and so does each call
-pub says-count : (a : WmAnswer) (x y : Judged ℕ) → a ≡ wmCount x → x ≡ y → a ≡ wmCount y
+pub says-count : (a : WmAnswer) (x y : Judgement ℕ) → a ≡ wmCount x → x ≡ y → a ≡ wmCount y
 says-count a x y e q = e ∙ ap wmCount q
 
-pub says-section : (a : WmAnswer) (x y : Judged (Option SectionPlace)) → a ≡ wmSection x → x ≡ y → a ≡ wmSection y
+pub says-section : (a : WmAnswer) (x y : Judgement (Option SectionPlace)) → a ≡ wmSection x → x ≡ y → a ≡ wmSection y
 says-section a x y e q = e ∙ ap wmSection q
 
-pub says-place : (a : WmAnswer) (x y : Judged (Option Place)) → a ≡ wmPlace x → x ≡ y → a ≡ wmPlace y
+pub says-place : (a : WmAnswer) (x y : Judgement (Option Place)) → a ≡ wmPlace x → x ≡ y → a ≡ wmPlace y
 says-place a x y e q = e ∙ ap wmPlace q
 
-pub ruleset calls = (says-count, says-section, says-place, needs)
+pub says-judged : (a : WmAnswer) (n : ℕ) (x y : Judgement (Unit {0})) → a ≡ wmJudged n x → x ≡ y → a ≡ wmJudged n y
+says-judged a n x y e q = e ∙ ap (wmJudged n) q
+
+pub says-hint : (a : WmAnswer) (x y : Judgement (Option Hint)) → a ≡ wmHint x → x ≡ y → a ≡ wmHint y
+says-hint a x y e q = e ∙ ap wmHint q
+
+pub ruleset calls = (says-count, says-section, says-place, says-judged, says-hint, needs)

@@ -2,6 +2,8 @@
 use Prim.Native.Nat.{ℕ}
 use mathlib.Core.Option.{Option, none, some}
 use Rattle.format.specs.Reading.{Judged, accepted, refused}
+use Rattle.format.specs.declared.Hint.{Hint}
+use Rattle.format.specs.declared.Hint.the-variants.{Unlikely, Likely}
 use Rattle.format.specs.declared.Place.{Place}
 use Rattle.walk.specs.declared.survey.SectionPlace.{SectionPlace}
 use Rattle.wakemiono.specs.declared.WmAnswer.{WmAnswer}
@@ -32,3 +34,16 @@ wmSection j = wmAnswer (λ s. wmFound (s .id) (s .at .0) (s .length)) j
 abbrev pub wmCount : Judged ℕ → WmAnswer
 wmCount (accepted n) = wmFound 0 0 n
 wmCount (refused n at) = wmRefused n at
+
+-- a judgement: the length of what was accepted
+abbrev pub wmJudged : ℕ → Judged (Unit {0}) → WmAnswer
+wmJudged length (accepted v) = wmFound 0 0 length
+wmJudged length (refused n at) = wmRefused n at
+
+-- a hint has its own kinds
+abbrev pub wmHinted : Hint → WmAnswer
+wmHinted Unlikely = record { kind = 3; code = 0; offset = 0; length = 0 }
+wmHinted Likely = record { kind = 4; code = 0; offset = 0; length = 0 }
+
+abbrev pub wmHint : Judged (Option Hint) → WmAnswer
+wmHint j = wmAnswer wmHinted j

@@ -1,14 +1,23 @@
 // The C boundary: every call takes any bytes, ends, and asks no prior check. include/wakemiono.h says the same for C.
 ghost use mathlib.Core.Path.{_≡_};
+ghost use lib.ListN.{length};
+ghost use Rattle.format.specs.Metadata.{anyItem, hintItem, judgeMetadata, askMetadata, askHint, hintAnswered};
 ghost use Rattle.format.specs.Options.{mapSome};
 ghost use Rattle.format.specs.Questions.{answered, asPlace};
 ghost use Rattle.format.specs.Reading.{mapJudged};
 ghost use Rattle.format.specs.Refusals.{numberOf};
 ghost use Rattle.format.specs.Walk.{sectionCount, sectionAt, customPayload};
+ghost use Rattle.metadata.specs.Judgements;
+ghost use Rattle.metadata.specs.Judgements.{isAccepted};
 ghost use Rattle.walk.specs.Surveys.{counted, sectionAnswered, sectionPlace};
-ghost use Rattle.wakemiono.specs.Boundary.{wmRefused, wmCount, wmSection, wmPlace};
+ghost use Rattle.wakemiono.specs.Boundary.{wmRefused, wmCount, wmSection, wmPlace, wmJudged, wmHinted, wmHint};
 use format::Answer;
+use format::CodeOffset;
+use format::FunctionIndex;
+use format::Hint;
+use format::HintAnswer;
 use format::Refusal;
+use metadata::Judged;
 use walk::Counted;
 use walk::survey::SectionAnswer;
 
@@ -26,6 +35,10 @@ const NONE: u32 = 0;
 const FOUND: u32 = 1;
 
 const REFUSED: u32 = 2;
+
+const UNLIKELY: u32 = 3;
+
+const LIKELY: u32 = 4;
 
 const ANSWERED_NONE: WmAnswer = WmAnswer {
     kind: NONE,
@@ -97,6 +110,49 @@ fn of_answer(answer: Answer) -> WmAnswer
     }
 }
 
+fn of_judged(judged: Judged, length: usize) -> WmAnswer
+    ensures { λ a. ⌜ a ≡ wmJudged length (Judgements.judged judged) ⌝ }
+{
+    match judged {
+        Judged::Refused(r) => of_refusal(r),
+        Judged::Accepted => WmAnswer {
+            kind: FOUND,
+            code: 0,
+            offset: 0,
+            length: length as u64,
+        },
+    }
+}
+
+fn of_likelihood(hint: Hint) -> WmAnswer
+    ensures { λ a. ⌜ a ≡ wmHinted hint ⌝ }
+{
+    match hint {
+        Hint::Unlikely => WmAnswer {
+            kind: UNLIKELY,
+            code: 0,
+            offset: 0,
+            length: 0,
+        },
+        Hint::Likely => WmAnswer {
+            kind: LIKELY,
+            code: 0,
+            offset: 0,
+            length: 0,
+        },
+    }
+}
+
+fn of_hint(answer: HintAnswer) -> WmAnswer
+    ensures { λ a. ⌜ a ≡ wmHint (hintAnswered answer) ⌝ }
+{
+    match answer {
+        HintAnswer::None => ANSWERED_NONE,
+        HintAnswer::Refused(r) => of_refusal(r),
+        HintAnswer::Found(hint) => of_likelihood(hint),
+    }
+}
+
 #[no_mangle]
 pub extern "C" fn wm_walk(bytes: &[u8]) -> WmAnswer
     ensures { λ a. ⌜ a ≡ wmCount (sectionCount (now (bytes .entry))) ⌝ }
@@ -116,4 +172,32 @@ pub extern "C" fn wm_custom(bytes: &[u8], name: &[u8]) -> WmAnswer
     ensures { λ a. ⌜ a ≡ wmPlace (asPlace (customPayload (now (name .entry)) (now (bytes .entry)))) ⌝ }
 {
     of_answer(walk::custom(bytes, name))
+}
+
+#[no_mangle]
+pub extern "C" fn wm_metadata_judge(payload: &[u8]) -> WmAnswer
+    ensures { λ a. ⌜ a ≡ wmJudged (length (now (payload .entry))) (isAccepted (judgeMetadata anyItem 0 (now (payload .entry)))) ⌝ }
+{
+    of_judged(metadata::judge(payload), payload.len())
+}
+
+#[no_mangle]
+pub extern "C" fn wm_hints_judge(payload: &[u8]) -> WmAnswer
+    ensures { λ a. ⌜ a ≡ wmJudged (length (now (payload .entry))) (isAccepted (judgeMetadata hintItem 0 (now (payload .entry)))) ⌝ }
+{
+    of_judged(metadata::judge_hints(payload), payload.len())
+}
+
+#[no_mangle]
+pub extern "C" fn wm_metadata(payload: &[u8], function: u32, offset: u32) -> WmAnswer
+    ensures { λ a. ⌜ a ≡ wmPlace (asPlace (askMetadata anyItem (record { 0 = function }) (record { 0 = offset }) 0 (now (payload .entry)))) ⌝ }
+{
+    of_answer(metadata::find(payload, FunctionIndex(function), CodeOffset(offset)))
+}
+
+#[no_mangle]
+pub extern "C" fn wm_hint(payload: &[u8], function: u32, offset: u32) -> WmAnswer
+    ensures { λ a. ⌜ a ≡ wmHint (askHint (record { 0 = function }) (record { 0 = offset }) 0 (now (payload .entry))) ⌝ }
+{
+    of_hint(metadata::hint(payload, FunctionIndex(function), CodeOffset(offset)))
 }

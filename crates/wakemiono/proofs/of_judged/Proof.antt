@@ -1,0 +1,22 @@
+use Rattle.wakemiono.proofs.Laws.{fields}
+use Rattle.wakemiono.proofs.of_judged.Statement.{statement}
+use Rattle.wakemiono.proofs.of_judged.Tie as tie
+
+enum-known-judged : tie.Need-enum-known-judged
+enum-known-judged c = search fields
+
+of-refusal-requires : tie.Need-of-refusal-requires
+of-refusal-requires c κs = search fields
+
+enum-told : tie.Need-enum-told
+enum-told c = search fields
+
+returns : tie.Need-returns
+returns c = search fields
+
+returns-2 : tie.Need-returns-2
+returns-2 c = search fields
+
+pub of-judged-spec : {M : Type 1} → statement M
+of-judged-spec =
+    tie.close (tie.spec enum-known-judged of-refusal-requires enum-told returns returns-2)
