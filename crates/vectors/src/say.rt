@@ -1,0 +1,117 @@
+// Results in words.
+use format::Answer;
+use format::Hint;
+use format::HintAnswer;
+use format::Refusal;
+use reading::NumberRead;
+use reading::PartRead;
+use walk::Counted;
+use walk::survey::SectionAnswer;
+
+fn say(words: &[u8]) {
+    io::write_all(1, words);
+}
+
+fn say_decimal(n: u64) {
+    io::print_decimal(1, n);
+}
+
+// The case, and what it gives.
+fn say_case(case: &[u8]) {
+    say(case);
+    say(b": ");
+}
+
+fn say_refusal(r: Refusal) {
+    let reason = r.reason;
+    let at = r.offset;
+    say(b"refused ");
+    say_decimal(reason.number() as u64);
+    say(b" at ");
+    say_decimal(at.0 as u64);
+    say(b"\n");
+}
+
+pub fn say_number(case: &[u8], r: NumberRead) {
+    say_case(case);
+    match r {
+        NumberRead::Refused(r) => say_refusal(r),
+        NumberRead::Value(v, next) => {
+            say_decimal(v as u64);
+            say(b", up to byte ");
+            say_decimal(next.at as u64);
+            say(b"\n");
+        }
+    }
+}
+
+fn say_place(at: usize, length: usize) {
+    say(b"found at ");
+    say_decimal(at as u64);
+    say(b", length ");
+    say_decimal(length as u64);
+    say(b"\n");
+}
+
+pub fn say_part(case: &[u8], r: PartRead) {
+    say_case(case);
+    match r {
+        PartRead::Refused(r) => say_refusal(r),
+        PartRead::Part(_, next) => {
+            say(b"accepted, up to byte ");
+            say_decimal(next.at as u64);
+            say(b"\n");
+        }
+    }
+}
+
+pub fn say_answer(case: &[u8], a: Answer) {
+    say_case(case);
+    match a {
+        Answer::None => say(b"none\n"),
+        Answer::Refused(r) => say_refusal(r),
+        Answer::Found(p) => {
+            let at = p.offset;
+            say_place(at.0, p.length);
+        }
+    }
+}
+
+pub fn say_count(case: &[u8], c: Counted) {
+    say_case(case);
+    match c {
+        Counted::Refused(r) => say_refusal(r),
+        Counted::Count(n) => {
+            say(b"sections ");
+            say_decimal(n as u64);
+            say(b"\n");
+        }
+    }
+}
+
+pub fn say_section(case: &[u8], s: SectionAnswer) {
+    say_case(case);
+    match s {
+        SectionAnswer::None => say(b"none\n"),
+        SectionAnswer::Refused(r) => say_refusal(r),
+        SectionAnswer::Found(p) => {
+            let at = p.at;
+            say(b"id ");
+            say_decimal(p.id as u64);
+            say(b", ");
+            say_place(at.0, p.length);
+        }
+    }
+}
+
+pub fn say_hint(case: &[u8], a: HintAnswer) {
+    say_case(case);
+    match a {
+        HintAnswer::None => say(b"none\n"),
+        HintAnswer::Refused(r) => say_refusal(r),
+        HintAnswer::Found(h) => match h {
+            Hint::Likely => say(b"likely\n"),
+            Hint::Unlikely => say(b"unlikely\n"),
+        },
+    }
+}
