@@ -43,15 +43,15 @@ pub fn find_in(s: &[u8], c: Cursor, item: Item, f: FunctionIndex, at: CodeOffset
             Answer::None
         }
         Seek::Found(part, next) => {
-            if next.at < next.end {
-                return Answer::Refused(Refusal {
-                    reason: Reason::LeftOver,
-                    offset: Offset(next.at),
+            if next.end <= next.at {
+                return Answer::Found(Place {
+                    offset: Offset(part.at),
+                    length: part.end - part.at,
                 });
             }
-            Answer::Found(Place {
-                offset: Offset(part.at),
-                length: part.end - part.at,
+            Answer::Refused(Refusal {
+                reason: Reason::LeftOver,
+                offset: Offset(next.at),
             })
         }
     }

@@ -99,12 +99,12 @@ module _ {m : List ℕ} {w : Walk} {id : ℕ} {contents : Cursor} {next : ℕ} {
     unfolding behindSize
     after-against a = record { means = rw (← r .means next (drop next m), e, ← ruled m w c next k j, a); seen = tt; forward = tt }
 
-    pub after-fine : {seen : Seen} → Inside m contents × (w .at < next) × (next ≤ length m) → tagOf verdict-type.the-type v ≡ 0 → Sees (w .seen) id called seen → AfterSize m w id contents next (Section (record { id = id; at = record { 0 = w .at }; contents = contents; custom = c }) (record { at = next; seen = seen }))
+    pub after-fine : {seen : Seen} → Inside m contents × (w .at < contents .at) × (w .at < next) × (next ≤ length m) → tagOf verdict-type.the-type v ≡ 0 → Sees (w .seen) id called seen → AfterSize m w id contents next (Section (record { id = id; at = record { 0 = w .at }; contents = contents; custom = c }) (record { at = next; seen = seen }))
     unfolding behindSize seeing
     after-fine i a s = record {
       means = rw (← r .means next (drop next m), e, ← ruled m w c next k j, as-fine v a);
       seen = rw (s .rank-is, s .code-is, s .name-is, s .hints-is, k .as-name, k .as-hints);
-      forward = record { inside = record { contents = i .0; custom = custom-inside r e }; moves = i .1; within = i .2 };
+      forward = record { inside = record { behind = i .1; contents = i .0; custom = custom-inside r e }; moves = i .2; within = i .3 };
     }
 
 pub ruleset behind = (after-refused, custom-inside, after-against, after-fine, needs)
@@ -153,6 +153,9 @@ module _ {m : List ℕ} {w : Walk} where
         pub contents-inside : Inside m contents
         contents-inside = read-behind .in-part
 
+        pub contents-behind : w .at < contents .at
+        contents-behind = let b = read-behind in omega (arith, b .forward)
+
         pub contents-forward : w .at < next .at
         contents-forward = let b = read-behind in omega (arith, b .forward, b .in-part .ahead, b .ends)
 
@@ -169,4 +172,4 @@ module _ {m : List ℕ} {w : Walk} where
               forward = s .forward;
             }
 
-pub ruleset steps = (step-done, step-against, step-size-refused, contents-inside, contents-forward, contents-within, step-after, needs)
+pub ruleset steps = (step-done, step-against, step-size-refused, contents-inside, contents-behind, contents-forward, contents-within, step-after, needs)

@@ -1,5 +1,5 @@
 -- What the walk's types mean. Assumes nothing.
-use Prim.Native.Nat.{ℕ}
+use Prim.Native.Nat.{ℕ, _<_}
 use mathlib.Core.Bool.{Bool, true, false, cond, _||_}
 use mathlib.Core.List.{List}
 use mathlib.Core.Option.{Option, none, some}
@@ -78,7 +78,9 @@ abbrev pub CustomInside : List ℕ → Custom → Type 0
 CustomInside m None = Unit {0}
 CustomInside m (Named name payload) = Inside m name × Inside m payload
 
+-- a section lies in what was lent, its contents behind its id byte
 pub record SectionInside (m : List ℕ) (s : Section) : Type 0 where
+  pub behind : s .at .0 < s .contents .at
   pub contents : Inside m (s .contents)
   pub custom : CustomInside m (s .custom)
 

@@ -81,7 +81,7 @@ fn called_so(m: &[u8], custom: Custom) -> Called
 
 // Behind the size: the custom name, the rules about it, and what is known then.
 fn after_size(m: &[u8], walk: Walk, id: u8, contents: Cursor, next: usize) -> Step
-    requires { ⌜ Inside (now m) contents × (walk .at < next) × (next ≤ length (now m)) ⌝ }
+    requires { ⌜ Inside (now m) contents × (walk .at < contents .at) × (walk .at < next) × (next ≤ length (now m)) ⌝ }
     ensures { λ r. ⌜ AfterSize (now (m .entry)) walk id contents next r ⌝ }
 {
     match read_custom(m, id, contents) {

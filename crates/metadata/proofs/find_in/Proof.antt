@@ -17,11 +17,11 @@ returns c = search finds
 enum-known-part : tie.Need-enum-known-part
 enum-known-part c = search finds
 
+sub-t18 : tie.Need-sub-t18
+sub-t18 c = search finds
+
 returns-2 : tie.Need-returns-2
 returns-2 c = search finds
-
-sub-t21 : tie.Need-sub-t21
-sub-t21 c = search finds
 
 returns-3 : tie.Need-returns-3
 returns-3 c = search finds
@@ -41,8 +41,8 @@ find-in-spec =
     enum-known-next
     returns
     enum-known-part
+    sub-t18
     returns-2
-    sub-t21
     returns-3
     returns-4
     returns-5)

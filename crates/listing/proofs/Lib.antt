@@ -1,0 +1,3 @@
+pub mod LineLaws
+pub mod ListLaws
+pub mod MainLaws
