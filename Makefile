@@ -1,11 +1,18 @@
 # What can be done here. `make help` says it in words.
-.PHONY: help test prove fmt
+.PHONY: help list test prove fmt
+
+export FILE ?= examples/small.wasm
 
 help:
+	@echo 'make list    lists the sections of a module: FILE=module.wasm, or FILE=- for standard input;'
+	@echo '             without FILE a small module of this repository'
 	@echo 'make test    the whole gate: proves every crate from nothing, has every must-fail edit refused,'
 	@echo '             runs every program; its last line is "N passed, 0 failed"'
 	@echo 'make prove   proves what changed since the last proof'
 	@echo 'make fmt     lays out every source file'
+
+list:
+	@tools/list "$$FILE"
 
 test:
 	@tools/gate
