@@ -1,0 +1,168 @@
+-- A subsection's contents: its kind by its id, and what a search over them answers.
+use Prim.Native.Nat.{ℕ, _≤_, _<_}
+use mathlib.Core.List.{List, [], _∷_}
+use mathlib.Core.Logic.{_⊎_, inl, inr}
+use mathlib.Core.Option.{Option, none, some}
+use mathlib.Core.Path.{_≡_, refl, ap, _∙_}
+use native.Mathlib.Omega.{arith}
+use borrow.Author.Needs.{needs}
+use borrow.Author.Tests.{lt-ltb, le-ltb, ltb-true, ltb-false, ne-eqb}
+use lib.Dec.{ltb}
+use lib.Seq.{slice-empty, slice-cons, length-slice}
+use Rattle.format.specs.Reading.{Outcome, got, stop, Reader, andThen, return, atEnd, filling, Judged, accepted, refused, judge, mapJudged}
+use Rattle.format.specs.Parts.{Part, name, remaining}
+use Rattle.format.specs.Tables.{lookup, table}
+use Rattle.format.specs.Names.{Kind as AnyKind, oneName, nameMap, indirectMap, known, knownKind, Content, single, names, namesBy, contents}
+use Rattle.format.specs.Questions.{Query, itsName, nameOf, nameWithin, answerIn, answered, asPlace}
+use Rattle.format.specs.Laws.Outcomes.{byTest}
+use Rattle.format.specs.declared.Answer.{Answer}
+use Rattle.format.specs.declared.Answer.the-variants.{None as NoAnswer, Refused as NotAnswered}
+use Rattle.format.specs.declared.Refusal.{Refusal}
+use Rattle.format.specs.declared.Reason.the-variants.{LeftOver}
+use Rattle.reading.specs.Cursors.{Inside, left, partOf, PartReads}
+use Rattle.reading.specs.declared.Cursor.{Cursor}
+use Rattle.reading.specs.declared.PartRead.{PartRead}
+use Rattle.reading.specs.declared.PartRead.the-variants.{Part as APart, Refused as NoPart}
+use Rattle.reading.proofs.Laws.{name-means, name-behind}
+use Rattle.tables.specs.Seeking.{sought, soughtWithin, Seeks}
+use Rattle.tables.specs.declared.Seek.{Seek}
+use Rattle.tables.specs.declared.Seek.the-variants.{None, Found, Refused}
+use Rattle.tables.proofs.Laws.{refused-means, none-means, none-inside, found-means, found-inside, found-part}
+use Rattle.names.specs.Contents.{kindMeant, Asks, verdict, Rules, placeAt, filledBy, endOf, Ordered}
+use Rattle.names.specs.declared.kinds.Kind.{Kind}
+use Rattle.names.specs.declared.kinds.Kind.the-variants.{OneName, NameMap, IndirectMap, Kept}
+use Rattle.names.proofs.kinds.Kind as kind-type
+
+-- The table of ids
+module _ {id : ℕ} where
+  pub kind-one : id ≡ 0 → kindMeant OneName ≡ knownKind id
+  unfolding knownKind known lookup
+  kind-one e = rw e
+
+  pub kind-map : (id ≡ 1) ⊎ ((id ≡ 4) ⊎ (id ≡ 11)) → kindMeant NameMap ≡ knownKind id
+  unfolding knownKind known lookup
+  kind-map (inl e) = rw e
+  kind-map (inr (inl e)) = rw e
+  kind-map (inr (inr e)) = rw e
+
+  pub kind-indirect : (id ≡ 2) ⊎ (id ≡ 10) → kindMeant IndirectMap ≡ knownKind id
+  unfolding knownKind known lookup
+  kind-indirect (inl e) = rw e
+  kind-indirect (inr e) = rw e
+
+  pub kind-kept : (id ≡ 0 → ⊥) → ((id ≡ 1) ⊎ ((id ≡ 4) ⊎ (id ≡ 11)) → ⊥) → ((id ≡ 2) ⊎ (id ≡ 10) → ⊥) → kindMeant Kept ≡ knownKind id
+  unfolding knownKind known lookup
+  kind-kept n m i = rw (ne-eqb id 0 n, ne-eqb id 1 (λ e. m (inl e)), ne-eqb id 2 (λ e. i (inl e)), ne-eqb id 4 (λ e. m (inr (inl e))), ne-eqb id 10 (λ e. i (inr e)), ne-eqb id 11 (λ e. m (inr (inr e))))
+
+pub ruleset kind-steps = (kind-one, kind-map, kind-indirect, kind-kept, needs)
+
+-- The end of a search, as the code makes it
+module _ {next : Cursor} (answer : Answer) where
+  pub filled-not : next .at < next .end → NotAnswered (record { reason = LeftOver; offset = record { 0 = next .at } }) ≡ filledBy next answer
+  filled-not h = rw (lt-ltb (next .at) (next .end) h)
+
+  pub filled-is : next .end ≤ next .at → answer ≡ filledBy next answer
+  filled-is h = rw (le-ltb (next .at) (next .end) h)
+
+pub ruleset filled-steps = (filled-not, filled-is, needs)
+
+module _ {x : Seek} where
+  pub ended-refused : {r : Refusal} → x ≡ Refused r → NotAnswered r ≡ endOf x
+  ended-refused e = rw e
+
+  module _ {next : Cursor} {y : Answer} where
+    pub ended-none : x ≡ None next → y ≡ filledBy next NoAnswer → y ≡ endOf x
+    ended-none e q = rw e q
+
+    pub ended-found : {part : Cursor} → x ≡ Found part next → y ≡ filledBy next (placeAt part) → y ≡ endOf x
+    ended-found e q = rw e q
+
+  pub ordered-found : {part next : Cursor} → Ordered x → x ≡ Found part next → part .at ≤ part .end
+  ordered-found o e = rw e at o
+
+pub ruleset ended-steps = (ended-refused, ended-none, ended-found, ordered-found, needs)
+
+-- what is asked of contents that fill their part can be asked before their end is looked at
+fill-asked : {A : Type 0} (r : Outcome A) (wrap : A → Content Part) (q : Query) → mapJudged (answerIn q) (judge (andThen (andThen r atEnd) (λ x. return (wrap x)))) ≡ judge (andThen (andThen r (λ x. return (answerIn q (wrap x)))) atEnd)
+fill-asked (stop n at) wrap q = refl
+fill-asked (got v o []) wrap q = refl
+fill-asked (got v o (b ∷ bs)) wrap q = refl
+
+module _ {s : List ℕ} where
+  at-the-end : (next : Cursor) (v : Option Part) (a : Answer) → Inside s next → answered a ≡ asPlace (accepted v) → answered (filledBy next a) ≡ asPlace (judge (atEnd v (next .at) (left s next)))
+  unfolding asPlace
+  at-the-end next v a i e =
+      byTest (ltb (next .at) (next .end))
+      (λ t. rw (t, slice-cons (next .at) (next .end) s 0 (ltb-true (next .at) (next .end) t) (i .within)))
+      (λ t. let q : next .end ≡ next .at = omega (arith, ltb-false (next .at) (next .end) t, i .ahead) in
+      let nothing : left s next ≡ [] = rw (q, slice-empty) in
+      rw (t, nothing) e)
+
+  place-is : (part : Cursor) → Inside s part → answered (placeAt part) ≡ asPlace (accepted (some (partOf s part)))
+  unfolding asPlace
+  place-is part i = rw (length-slice (part .at) (part .end) s (i .within))
+
+  end-means : {read : Reader (Option Part)} {d : Cursor} (x : Seek) → Inside s d → Seeks read s d x → answered (endOf x) ≡ asPlace (judge (filling read (d .at) (left s d)))
+  unfolding asPlace
+  end-means (Refused r) i k = rw (refused-means k refl)
+  end-means (None next) i k = rw (none-means k refl) (at-the-end next none NoAnswer (none-inside i k refl) refl)
+  end-means (Found part next) i k = rw (found-means k refl) (at-the-end next (some (partOf s part)) (placeAt part) (found-inside i k refl) (place-is part (found-part i k refl)))
+
+  -- the two maps
+  pub map-asks : {part : Cursor} {key : ℕ} {x : Seek} {y : Answer} → Inside s part → Seeks (sought name key) s part x → y ≡ endOf x → Asks nameMap (nameOf key) s part y
+  unfolding contents sought
+  map-asks {part} {key} {x} i k e = record { says = rw (e, end-means x i k, fill-asked (table name (part .at) (left s part)) names (nameOf key)) }
+
+  pub indirect-asks : {part : Cursor} {key inner : ℕ} {x : Seek} {y : Answer} → Inside s part → Seeks (soughtWithin name key inner) s part x → y ≡ endOf x → Asks indirectMap (nameWithin key inner) s part y
+  unfolding contents soughtWithin
+  indirect-asks {part} {key} {inner} {x} i k e = record { says = rw (e, end-means x i k, fill-asked (table (table name) (part .at) (left s part)) namesBy (nameWithin key inner)) }
+
+  pub seek-ordered : {read : Reader (Option Part)} {d : Cursor} (x : Seek) → Inside s d → Seeks read s d x → Ordered x
+  seek-ordered (None next) i k = tt
+  seek-ordered (Found part next) i k = found-part i k refl .ahead
+  seek-ordered (Refused r) i k = tt
+
+-- one name
+module _ {s : List ℕ} {part : Cursor} {x : PartRead} (p : PartReads name s part x) where
+  pub one-refused : {r : Refusal} → x ≡ NoPart r → Asks oneName itsName s part (NotAnswered r)
+  unfolding contents asPlace
+  one-refused e = record { says = rw (← rw e at (p .means)) }
+
+  module _ {text next : Cursor} (i : Inside s part) (e : x ≡ APart text next) where
+    pub one-asks : {y : Answer} → y ≡ endOf (Found text next) → Asks oneName itsName s part y
+    unfolding contents
+    one-asks q =
+        let b = name-behind i p e in
+        record { says = rw (q, at-the-end next (some (partOf s text)) (placeAt text) (b .in-rest) (place-is text (b .in-part)), fill-asked (name (part .at) (left s part)) single itsName, name-means p e) }
+
+    pub one-ordered : text .at ≤ text .end
+    one-ordered = name-behind i p e .in-part .ahead
+
+pub ruleset one-steps = (one-refused, one-asks, one-ordered, needs)
+
+pub ruleset map-steps = (map-asks, indirect-asks, seek-ordered, needs)
+
+-- contents of a kind: only whether they are refused matters
+verdict-stays : {A : Type 0} (f : A → Option Part) (j : Judged A) → verdict (asPlace (mapJudged f j)) ≡ verdict j
+unfolding asPlace
+verdict-stays f (accepted v) = refl
+verdict-stays f (refused n at) = refl
+
+asked-rules : {kind : AnyKind} {q : Query} {s : List ℕ} {part : Cursor} {y : Answer} → Asks kind q s part y → Rules kind s part y
+asked-rules {kind} {q} {s} {part} a = record { says = ap verdict (a .says) ∙ verdict-stays (answerIn q) (judge (contents kind (part .at) (left s part))) }
+
+module _ {s : List ℕ} {part : Cursor} {kind : Kind} {y : Answer} where
+  pub rules-one : kind ≡ OneName → Asks oneName itsName s part y → Rules (kindMeant kind) s part y
+  rules-one e a = rw e (asked-rules a)
+
+  pub rules-map : {key : ℕ} → kind ≡ NameMap → Asks nameMap (nameOf key) s part y → Rules (kindMeant kind) s part y
+  rules-map e a = rw e (asked-rules a)
+
+  pub rules-indirect : {key inner : ℕ} → kind ≡ IndirectMap → Asks indirectMap (nameWithin key inner) s part y → Rules (kindMeant kind) s part y
+  rules-indirect e a = rw e (asked-rules a)
+
+pub rules-kept : {s : List ℕ} {part : Cursor} {kind : Kind} → kind ≡ Kept → Rules (kindMeant kind) s part NoAnswer
+unfolding contents remaining
+rules-kept e = record { says = rw e }
+
+pub ruleset content-steps = (rules-one, rules-map, rules-indirect, rules-kept, needs)

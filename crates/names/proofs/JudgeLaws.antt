@@ -1,0 +1,199 @@
+-- The loops over a payload's subsections: one judges and keeps the places, the other finds an id.
+use Prim.Native.Nat.{ℕ, suc, _+_, _-_, _≤_, _<_}
+use mathlib.Core.List.{List, []}
+use mathlib.Core.Option.{Option, none, some}
+use mathlib.Core.Path.{_≡_, refl, sym, _∙_}
+use native.Mathlib.Numerals.{add-one}
+use native.Mathlib.Omega.{arith}
+use borrow.Author.Needs.{needs}
+use borrow.Author.Tests.{eqb-true, eqb-false, eq-eqb, ne-eqb}
+use denote.Enum.Declared.{tagOf}
+use lib.Dec.{eqb}
+use lib.ListN.{length}
+use lib.Seq.{length-slice, take-length}
+use Rattle.format.specs.Refusals.{numberOf}
+use Rattle.format.specs.Options.{mapSome}
+use Rattle.format.specs.Reading.{Outcome, got, stop, Reader, andThen}
+use Rattle.format.specs.Parts.{Part}
+use Rattle.format.specs.Tables.{Table, lookup, mapTable}
+use Rattle.format.specs.Names.{payload, judgeNames, knownKind}
+use Rattle.format.specs.Laws.Outcomes.{not-got, got-value, byTest, inTurn, judged}
+use Rattle.format.specs.Laws.Tables.{lookup-map}
+use Rattle.format.specs.declared.Refusal.{Refusal}
+use Rattle.reading.specs.Cursors.{Inside, left, partOf}
+use Rattle.reading.specs.declared.Cursor.{Cursor}
+use Rattle.names.specs.Frames.{Headed, frame, frames, judgeFrames, subsection, Forward, FrameReads}
+use Rattle.names.specs.Places.{subOf, subInside, Stands, Judges, Puts, Finds}
+use Rattle.names.specs.declared.frames.FrameRead.{FrameRead}
+use Rattle.names.specs.declared.frames.FrameRead.the-variants.{Frame, End, Refused as NoFrame}
+use Rattle.names.specs.declared.places.Sub.{Sub}
+use Rattle.names.specs.declared.places.Sub.the-variants.{Absent, At}
+use Rattle.names.specs.declared.places.Places.{Places}
+use Rattle.names.specs.declared.judging.Judged.{Judged}
+use Rattle.names.specs.declared.judging.Judged.the-variants.{Accepted, Refused}
+use Rattle.names.proofs.frames.FrameRead as frame-type
+use Rattle.names.proofs.FrameSteps.{as-end}
+use Rattle.names.proofs.PlaceLaws.{subAt, KnownId, modules, put-here, put-elsewhere, put-inside, all-stand, nowhere, nothing-there}
+use Rattle.names.proofs.FrameLaws.{partAt, holding, or-none, behind, Framed, framed, subsections-framed, framed-parts, behindJudged, judged-turn, frame-turn}
+
+-- what stops a search stops the reading
+stopped : {A : Type 0} (part : A → Part) (j : ℕ) (r : Outcome (Table A)) {n at : ℕ} → partAt part j none r ≡ stop n at → r ≡ stop n at
+stopped part j (got t o rest) e = absurd (not-got (sym e))
+stopped part j (stop n at) e = same e
+  where
+    same : {A B : Type 0} {n m at at′ : ℕ} → _≡_ {A = Outcome A} (stop n at) (stop m at′) → _≡_ {A = Outcome B} (stop n at) (stop m at′)
+    same e = cc
+
+-- a subsection that was read
+module _ {read : ℕ → Reader (Option (Headed Part))} {least : ℕ} {s : List ℕ} {c : Cursor} {x : FrameRead} (p : FrameReads read least s c x) where
+  module _ {id : ℕ} {part next : Cursor} (e : x ≡ Frame id part next) where
+    pub forward : Forward least s c id part next
+    forward = rw e at (p .forward)
+
+    pub frame-shorter : next .end - next .at < c .end - c .at
+    frame-shorter = let f = forward in omega (arith, f .moves, f .same-end, f .in-rest .ahead)
+
+-- Judging: whenever the loop is reached
+abbrev whole : List ℕ → Cursor → Outcome (Table Framed)
+whole s c = framed knownKind (length (left s c)) 0 (c .at) (left s c)
+
+abbrev lies : Framed → Part
+lies x = x .part
+
+pub record Turn (s : List ℕ) (c next : Cursor) (least : ℕ) (p : Places) : Type 0 where
+  pub most : ℕ
+  pub inside : Inside s next
+  pub enough : next .end - next .at ≤ most
+  pub fresh : (j : ℕ) → least ≤ j → subAt p j ≡ Absent
+  pub within : (j : ℕ) → subInside s (subAt p j)
+  pub same : (j : ℕ) → KnownId j → partAt lies j none (whole s c) ≡ partAt lies j (subOf s (subAt p j)) (framed knownKind most least (next .at) (left s next))
+
+module _ {s : List ℕ} {c : Cursor} where
+  pub turn-begins : Inside s c → Turn s c c 0 nowhere
+  turn-begins i = record {
+    most = length (left s c);
+    inside = i;
+    enough = omega (arith, length-slice (c .at) (c .end) s (i .within));
+    fresh = λ j h. nothing-there j;
+    within = λ j. rw (nothing-there j) tt;
+    same = λ j k. rw (nothing-there j) refl;
+  }
+
+  module _ {next : Cursor} {least : ℕ} {p : Places} {x : FrameRead} (t : Turn s c next least p) (f : FrameReads (subsection knownKind) least s next x) where
+    opened : (j : ℕ) → KnownId j → partAt lies j none (whole s c) ≡ andThen (subsection knownKind least (next .at) (left s next)) (behindJudged knownKind j (subOf s (subAt p j)) (t .most - 1))
+    opened j k = t .same j k ∙ judged-turn knownKind j (subOf s (subAt p j)) (t .most) least (next .at) (left s next) (omega (arith, t .enough, length-slice (next .at) (next .end) s (t .inside .within)))
+
+    pub turn-refused : {r : Refusal} → x ≡ NoFrame r → Judges s (c .at) (left s c) (Refused r)
+    unfolding judgeNames payload
+    turn-refused {r} e =
+        let halted : whole s c ≡ stop (numberOf (r .reason)) (r .offset .0) = stopped lies 0 (whole s c) (opened 0 modules ∙ rw (← rw e at (f .means))) in
+        record { says = rw (subsections-framed knownKind (length (left s c)) 0 (c .at) (left s c), halted) }
+
+    pub turn-ends : tagOf frame-type.the-type x ≡ 1 → Judges s (c .at) (left s c) (Accepted p)
+    unfolding judgeNames payload judgeFrames
+    turn-ends h =
+        let ends : (j : ℕ) → KnownId j → partAt lies j none (whole s c) ≡ got (subOf s (subAt p j)) (next .at) [] = λ j k. opened j k ∙ rw (← rw (as-end x h) at (f .means)) in
+        inTurn (whole s c) _ (ends 0 modules) λ all o rest e e′.
+        record {
+          says = record {
+            held = mapTable (λ y. y .content) all;
+            lying = mapTable lies all;
+            judged = rw (subsections-framed knownKind (length (left s c)) 0 (c .at) (left s c), e);
+            framed = rw (framed-parts knownKind (length (left s c)) 0 (c .at) (left s c) e .0);
+            all-stand = all-stand (λ j k. record { is = sym (lookup-map lies j all ∙ got-value (rw e at (ends j k))); inside = t .within j });
+          };
+        }
+
+    module _ {id : ℕ} {part after : Cursor} {u : Places} (e : x ≡ Frame id part after) (put : Puts p id part u) where
+      held-then : (j : ℕ) → KnownId j → holding j (subOf s (subAt p j)) id (partOf s part) ≡ subOf s (subAt u j)
+      held-then j k =
+          byTest (eqb j id)
+          (λ q. let is = eqb-true j id q in
+          let none-yet = t .fresh j (omega (arith, forward f e .above)) in
+          let here : subAt u j ≡ At part = rw is (put-here put (rw is at k)) in
+          rw (q, none-yet, here))
+          (λ q. rw (q, or-none, put-elsewhere put j (eqb-false j id q)))
+
+      pub turn-next : Turn s c after (id + 1) u
+      turn-next =
+          let far = forward f e in
+          record {
+            most = t .most - 1;
+            inside = far .in-rest;
+            enough = omega (arith, t .enough, far .moves, far .same-end, far .in-rest .ahead);
+            fresh = λ j h. put-elsewhere put j (λ q. omega arith) ∙ t .fresh j (omega (arith, far .above));
+            within = put-inside put s (t .within) (far .in-part);
+            same = λ j k. opened j k ∙ rw (← rw e at (f .means), held-then j k, add-one);
+          }
+
+pub ruleset judge-turns = (turn-begins, turn-refused, turn-ends, turn-next, frame-shorter, needs)
+
+-- all of what was lent
+pub judge-all : {s : List ℕ} {r : Judged} → Judges s 0 (left s (record { at = 0; end = length s })) r → Judges s 0 s r
+judge-all {s} j = rw (take-length s) at j
+
+pub all-inside : {s : List ℕ} → Inside s (record { at = 0; end = length s })
+all-inside = record { ahead = omega arith; within = omega arith }
+
+pub ruleset judge-steps = (judge-all, all-inside, needs)
+
+-- Finding an id: whenever the loop is reached, it has not been passed
+abbrev wholeFrames : List ℕ → Cursor → Outcome (Table Part)
+wholeFrames s c = frames (length (left s c)) 0 (c .at) (left s c)
+
+pub record Search (s : List ℕ) (c next : Cursor) (least id : ℕ) : Type 0 where
+  pub most : ℕ
+  pub inside : Inside s next
+  pub enough : next .end - next .at ≤ most
+  pub same : partAt (λ p. p) id none (wholeFrames s c) ≡ partAt (λ p. p) id none (frames most least (next .at) (left s next))
+
+same-option : {A : Type 0} (x : Option A) → mapSome (λ a. a) x ≡ x
+same-option none = refl
+same-option (some v) = refl
+
+as-refused : (x : FrameRead) → tagOf frame-type.the-type x ≡ 2 → (r : Refusal) × (x ≡ NoFrame r)
+as-refused (Frame id part next) h = absurd (omega arith)
+as-refused End h = absurd (omega arith)
+as-refused (NoFrame r) h = (r, refl)
+
+-- what an accepted payload has there
+finds : {s : List ℕ} (c : Cursor) {id : ℕ} (sub : Sub) → ((f : Table Part) (o : ℕ) (rest : List ℕ) → wholeFrames s c ≡ got f o rest → Stands s sub (lookup id f)) → Finds s (c .at) (left s c) id sub
+unfolding judgeFrames
+finds {s} c sub h = record { stands = λ f e. judged (wholeFrames s c) e λ o rest e₁. h f o rest e₁ }
+
+module _ {s : List ℕ} {c : Cursor} {id : ℕ} where
+  pub search-begins : Inside s c → Search s c c 0 id
+  search-begins i = record { most = length (left s c); inside = i; enough = omega (arith, length-slice (c .at) (c .end) s (i .within)); same = refl }
+
+  module _ {next : Cursor} {least : ℕ} {x : FrameRead} (t : Search s c next least id) (p : FrameReads frame least s next x) where
+    sought-on : partAt (λ p. p) id none (wholeFrames s c) ≡ andThen (frame least (next .at) (left s next)) (behind frame (λ p. p) id none (t .most - 1))
+    sought-on = t .same ∙ frame-turn id none (t .most) least (next .at) (left s next) (omega (arith, t .enough, length-slice (next .at) (next .end) s (t .inside .within)))
+
+    pub search-refused : tagOf frame-type.the-type x ≡ 2 → Finds s (c .at) (left s c) id Absent
+    search-refused h = let (r, e) = as-refused x h in finds c Absent (λ f o rest e₁. absurd (not-got (sym (rw (e₁, ← rw e at (p .means)) at sought-on))))
+
+    pub search-ends : tagOf frame-type.the-type x ≡ 1 → Finds s (c .at) (left s c) id Absent
+    search-ends h = finds c Absent (λ f o rest e₁. record { is = sym (got-value (rw (e₁, ← rw (as-end x h) at (p .means), same-option) at sought-on)); inside = tt })
+
+    module _ {k : ℕ} {part after : Cursor} (e : x ≡ Frame k part after) where
+      passed-by : partAt (λ p. p) id none (wholeFrames s c) ≡ partAt (λ p. p) id (holding id none k (partOf s part)) (frames (t .most - 1) (suc k) (after .at) (left s after))
+      unfolding frames
+      passed-by = sought-on ∙ rw (← rw e at (p .means))
+
+      pub search-here : k ≡ id → Finds s (c .at) (left s c) id (At part)
+      search-here q =
+          finds c (At part) (λ f o rest e₁.
+          inTurn (frames (t .most - 1) (suc k) (after .at) (left s after)) _ (sym (rw (e₁, same-option, eq-eqb id k (sym q)) at passed-by)) λ more o₂ r₂ e₂ e₃.
+          record { is = got-value e₃; inside = forward p e .in-part })
+
+      pub search-next : (k ≡ id → ⊥) → Search s c after (k + 1) id
+      search-next n =
+          let far = forward p e in
+          record {
+            most = t .most - 1;
+            inside = far .in-rest;
+            enough = omega (arith, t .enough, far .moves, far .same-end, far .in-rest .ahead);
+            same = passed-by ∙ rw (ne-eqb id k (λ q. n (sym q)), add-one);
+          }
+
+pub ruleset find-turns = (search-begins, search-refused, search-ends, search-here, search-next, frame-shorter, needs)

@@ -1,0 +1,6 @@
+pub mod ContentLaws
+pub mod FrameSteps
+pub mod PlaceLaws
+pub mod FrameLaws
+pub mod JudgeLaws
+pub mod AskLaws

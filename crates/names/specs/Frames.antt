@@ -1,0 +1,82 @@
+-- Where the subsections' contents lie, whatever they hold. Assumes nothing.
+use Prim.Native.Nat.{ℕ, zero, suc, _≤_, _<_}
+use mathlib.Core.List.{List, [], _∷_}
+use mathlib.Core.Option.{Option, none, some}
+use mathlib.Core.Path.{_≡_}
+use lib.Dec.{leb}
+use lib.ListN.{length}
+use Rattle.format.specs.Reading.{Outcome, got, Reader, andThen, _>>=_, _>>_, return, checked, Judged, accepted, judge, mapJudged}
+use Rattle.format.specs.Parts.{Part, sized, inside}
+use Rattle.format.specs.Tables.{Table, nil, row}
+use Rattle.format.specs.Names.{Kind, Content, contents}
+use Rattle.format.specs.declared.Reason.the-variants.{SubsectionOrder}
+use Rattle.reading.specs.Cursors.{Inside, left, partOf, refusalOf}
+use Rattle.reading.specs.declared.Cursor.{Cursor}
+use Rattle.names.specs.declared.frames.FrameRead.{FrameRead}
+use Rattle.names.specs.declared.frames.FrameRead.the-variants.{Frame, End, Refused}
+
+-- an id, and what stands under it
+pub record Headed (A : Type 0) : Type 0 where
+  pub id : ℕ
+  pub value : A
+
+-- the subsection that begins here, its id at least `least`, none at the end; refusal 9 gives the id byte
+unfoldable pub frame : ℕ → Reader (Option (Headed Part))
+frame least o [] = got none o []
+frame least o (id ∷ bs) = (do
+  checked (leb least id) SubsectionOrder o
+  part ← sized
+  return (some (record { id = id; value = part }))) (suc o) bs
+
+-- one after the other up to the end, the first id at least `least` and each above the one before. `most` bounds their number and is never met
+module _ {A : Type 0} (one : ℕ → Reader (Option (Headed A))) where
+  abbrev pub onward : (ℕ → Reader (Table A)) → Option (Headed A) → Reader (Table A)
+  onward more none = return nil
+  onward more (some h) = more (suc (h .id)) >>= λ t. return (row (h .id) (h .value) t)
+
+  unfoldable pub each : (most least : ℕ) → Reader (Table A)
+  each zero least o bs = got nil o bs
+  each (suc most) least o bs = andThen (one least o bs) (onward (each most))
+
+unfoldable pub frames : (most least : ℕ) → Reader (Table Part)
+frames = each frame
+
+-- of a payload that begins at an offset
+unfoldable pub judgeFrames : ℕ → List ℕ → Judged (Table Part)
+judgeFrames at bs = judge (frames (length bs) 0 at bs)
+
+-- what stands under an id, read where it lies
+abbrev pub readUnder : Kind → Option Part → Judged (Option (Content Part))
+readUnder kind none = accepted none
+readUnder kind (some p) = mapJudged some (judge (contents kind (p .at) (p .bytes)))
+
+-- a subsection with its contents judged
+abbrev pub looked : (ℕ → Kind) → Option (Headed Part) → Reader (Option (Headed Part))
+looked kindOf none = return none
+looked kindOf (some h) = inside (contents (kindOf (h .id))) (h .value) >> return (some h)
+
+unfoldable pub subsection : (ℕ → Kind) → ℕ → Reader (Option (Headed Part))
+subsection kindOf least = frame least >>= looked kindOf
+
+-- What reading one finds
+abbrev pub frameOutcome : List ℕ → Cursor → FrameRead → Outcome (Option (Headed Part))
+frameOutcome s c (Frame id part next) = got (some (record { id = id; value = partOf s part })) (next .at) (left s next)
+frameOutcome s c End = got none (c .at) []
+frameOutcome s c (Refused r) = refusalOf r
+
+-- it lies inside, and the reading goes on behind it
+pub record Forward (least : ℕ) (s : List ℕ) (c : Cursor) (id : ℕ) (part next : Cursor) : Type 0 where
+  pub above : least ≤ id
+  pub in-part : Inside s part
+  pub in-rest : Inside s next
+  pub moves : c .at < next .at
+  pub same-end : next .end ≡ c .end
+
+abbrev pub frameForward : ℕ → List ℕ → Cursor → FrameRead → Type 0
+frameForward least s c (Frame id part next) = Forward least s c id part next
+frameForward least s c End = Unit {0}
+frameForward least s c (Refused r) = Unit {0}
+
+pub record FrameReads (read : ℕ → Reader (Option (Headed Part))) (least : ℕ) (s : List ℕ) (c : Cursor) (r : FrameRead) : Type 0 where
+  pub means : frameOutcome s c r ≡ read least (c .at) (left s c)
+  pub forward : frameForward least s c r

@@ -1,0 +1,78 @@
+// What the contents at a place answer.
+ghost use mathlib.Core.Path.{_≡_};
+ghost use Rattle.format.specs.Names.{oneName, nameMap, indirectMap, kept};
+ghost use Rattle.format.specs.Questions.{itsName, itsContents, nameOf, nameWithin};
+ghost use Rattle.names.specs.Places.{subInside, AsksAt, refusalIn};
+use crate::contents::indirect_map;
+use crate::contents::name_map;
+use crate::contents::one_name;
+use crate::judging::Judged;
+use crate::places::Sub;
+use format::Answer;
+use format::Offset;
+use format::Place;
+use format::Reason;
+use format::Refusal;
+
+// The refusal of a judgement that is not accepted.
+pub fn refusal_of(judged: Judged) -> Refusal
+    ensures { λ r. ⌜ r ≡ refusalIn judged ⌝ }
+{
+    match judged {
+        Judged::Refused(r) => r,
+        Judged::Accepted(_) => Refusal {
+            reason: Reason::NoPreamble,
+            offset: Offset(0),
+        },
+    }
+}
+
+// The one name there.
+pub fn the_name(s: &[u8], place: Sub) -> Answer
+    requires { ⌜ subInside (now s) place ⌝ }
+    ensures { λ r. ⌜ AsksAt oneName itsName (now (s .entry)) place r ⌝ }
+{
+    match place {
+        Sub::Absent => Answer::None,
+        Sub::At(part) => one_name(s, part),
+    }
+}
+
+// The name at `key` of the name map there.
+pub fn named(s: &[u8], place: Sub, key: u32) -> Answer
+    requires { ⌜ subInside (now s) place ⌝ }
+    ensures { λ r. ⌜ AsksAt nameMap (nameOf key) (now (s .entry)) place r ⌝ }
+{
+    match place {
+        Sub::Absent => Answer::None,
+        Sub::At(part) => name_map(s, part, key),
+    }
+}
+
+// The name at `inner` in the map at `key` of the indirect map there.
+pub fn named_within(s: &[u8], place: Sub, key: u32, inner: u32) -> Answer
+    requires { ⌜ subInside (now s) place ⌝ }
+    ensures { λ r. ⌜ AsksAt indirectMap (nameWithin key inner) (now (s .entry)) place r ⌝ }
+{
+    match place {
+        Sub::Absent => Answer::None,
+        Sub::At(part) => indirect_map(s, part, key, inner),
+    }
+}
+
+// All that is kept there.
+pub fn all_kept(s: &[u8], place: Sub) -> Answer
+    requires { ⌜ subInside (now s) place ⌝ }
+    ensures { λ r. ⌜ AsksAt kept itsContents (now (s .entry)) place r ⌝ }
+{
+    match place {
+        Sub::Absent => Answer::None,
+        Sub::At(part) => {
+            let at = part.at;
+            Answer::Found(Place {
+                offset: Offset(at),
+                length: part.end - at,
+            })
+        }
+    }
+}

@@ -1,0 +1,89 @@
+// A subsection's contents, judged and asked in one pass. They fill their part exactly.
+ghost use mathlib.Core.Path.{_≡_};
+ghost use Rattle.format.specs.Names.{oneName, nameMap, indirectMap};
+ghost use Rattle.format.specs.Questions.{itsName, nameOf, nameWithin};
+ghost use Rattle.reading.specs.Cursors.{Inside};
+ghost use Rattle.names.specs.Contents.{kindMeant, Asks, Rules, filledBy, endOf, Ordered};
+use crate::kinds::Kind;
+use format::Answer;
+use format::Offset;
+use format::Place;
+use format::Reason;
+use format::Refusal;
+use reading::Cursor;
+use reading::PartRead;
+use tables::Item;
+use tables::Seek;
+
+// The answer, where nothing is left over.
+fn filled(next: Cursor, answer: Answer) -> Answer
+    ensures { λ r. ⌜ r ≡ filledBy next answer ⌝ }
+{
+    let at = next.at;
+    if at < next.end {
+        return Answer::Refused(Refusal {
+            reason: Reason::LeftOver,
+            offset: Offset(at),
+        });
+    }
+    answer
+}
+
+// The answer of a search at its end.
+fn ended(found: Seek) -> Answer
+    requires { ⌜ Ordered found ⌝ }
+    ensures { λ r. ⌜ r ≡ endOf found ⌝ }
+{
+    match found {
+        Seek::Refused(r) => Answer::Refused(r),
+        Seek::None(next) => filled(next, Answer::None),
+        Seek::Found(part, next) => {
+            let at = part.at;
+            let place = Place {
+                offset: Offset(at),
+                length: part.end - at,
+            };
+            filled(next, Answer::Found(place))
+        }
+    }
+}
+
+// One name.
+pub fn one_name(s: &[u8], part: Cursor) -> Answer
+    requires { ⌜ Inside (now s) part ⌝ }
+    ensures { λ r. ⌜ Asks oneName itsName (now (s .entry)) part r ⌝ }
+{
+    match part.name(s) {
+        PartRead::Refused(r) => Answer::Refused(r),
+        PartRead::Part(name, next) => ended(Seek::Found(name, next)),
+    }
+}
+
+// A name map: the name at `key`.
+pub fn name_map(s: &[u8], part: Cursor, key: u32) -> Answer
+    requires { ⌜ Inside (now s) part ⌝ }
+    ensures { λ r. ⌜ Asks nameMap (nameOf key) (now (s .entry)) part r ⌝ }
+{
+    ended(tables::table(part, s, Item::Name, key))
+}
+
+// An indirect name map: the name at `inner` in the map at `key`.
+pub fn indirect_map(s: &[u8], part: Cursor, key: u32, inner: u32) -> Answer
+    requires { ⌜ Inside (now s) part ⌝ }
+    ensures { λ r. ⌜ Asks indirectMap (nameWithin key inner) (now (s .entry)) part r ⌝ }
+{
+    ended(tables::tables(part, s, Item::Name, key, inner))
+}
+
+// Contents of a kind: only whether the answer is a refusal matters.
+pub fn content(s: &[u8], part: Cursor, kind: Kind) -> Answer
+    requires { ⌜ Inside (now s) part ⌝ }
+    ensures { λ r. ⌜ Rules (kindMeant kind) (now (s .entry)) part r ⌝ }
+{
+    match kind {
+        Kind::OneName => one_name(s, part),
+        Kind::NameMap => name_map(s, part, 0),
+        Kind::IndirectMap => indirect_map(s, part, 0, 0),
+        Kind::Kept => Answer::None,
+    }
+}

@@ -1,0 +1,65 @@
+// From subsection to subsection.
+ghost use mathlib.Core.Path.{_≡_};
+ghost use Rattle.format.specs.Names.{knownKind};
+ghost use Rattle.reading.specs.Cursors.{Inside};
+ghost use Rattle.names.specs.Frames.{frame, subsection, FrameReads};
+use crate::contents::content;
+use crate::kinds::kind_of;
+use format::Answer;
+use format::Offset;
+use format::Reason;
+use format::Refusal;
+use reading::Cursor;
+use reading::PartRead;
+
+// What reading a subsection finds: its id, where its contents lie, and the cursor behind it.
+pub enum FrameRead {
+    Frame(u8, Cursor, Cursor),
+    End,
+    Refused(Refusal),
+}
+
+fn wide(x: u8) -> u32
+    ensures { λ r. ⌜ r ≡ x ⌝ }
+{
+    x as u32
+}
+
+// The subsection that begins here, its id at least `least`. Its contents are not looked into.
+pub fn frame(s: &[u8], c: Cursor, least: u32) -> FrameRead
+    requires { ⌜ Inside (now s) c ⌝ }
+    ensures { λ r. ⌜ FrameReads frame least (now (s .entry)) c r ⌝ }
+{
+    let at = c.at;
+    let end = c.end;
+    if end <= at {
+        return FrameRead::End;
+    }
+    let id = s[at];
+    if wide(id) < least {
+        return FrameRead::Refused(Refusal {
+            reason: Reason::SubsectionOrder,
+            offset: Offset(at),
+        });
+    }
+    let rest = Cursor { at: at + 1, end };
+    match rest.sized(s) {
+        PartRead::Refused(r) => FrameRead::Refused(r),
+        PartRead::Part(part, next) => FrameRead::Frame(id, part, next),
+    }
+}
+
+// The same, with its contents judged by its id.
+pub fn subsection(s: &[u8], c: Cursor, least: u32) -> FrameRead
+    requires { ⌜ Inside (now s) c ⌝ }
+    ensures { λ r. ⌜ FrameReads (subsection knownKind) least (now (s .entry)) c r ⌝ }
+{
+    match frame(s, c, least) {
+        FrameRead::Refused(r) => FrameRead::Refused(r),
+        FrameRead::End => FrameRead::End,
+        FrameRead::Frame(id, part, next) => match content(s, part, kind_of(id)) {
+            Answer::Refused(r) => FrameRead::Refused(r),
+            _ => FrameRead::Frame(id, part, next),
+        },
+    }
+}

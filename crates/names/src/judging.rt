@@ -1,0 +1,89 @@
+// Judges a name payload, whole and left to right.
+ghost use Rattle.reading.specs.Cursors.{Inside, left};
+ghost use Rattle.names.specs.Places.{Judges, Finds};
+use crate::frames::FrameRead;
+use crate::frames::frame;
+use crate::frames::subsection;
+use crate::places::Places;
+use crate::places::Sub;
+use crate::places::placed;
+use format::Refusal;
+use reading::Cursor;
+
+pub enum Judged {
+    Accepted(Places),
+    Refused(Refusal),
+}
+
+const NOWHERE: Places = Places {
+    module: Sub::Absent,
+    functions: Sub::Absent,
+    locals: Sub::Absent,
+    types: Sub::Absent,
+    fields: Sub::Absent,
+    tags: Sub::Absent,
+};
+
+// A payload that lies in what was lent.
+pub fn judge_in(s: &[u8], c: Cursor) -> Judged
+    requires { ⌜ Inside (now s) c ⌝ }
+    ensures { λ r. ⌜ Judges (now (s .entry)) (c .at) (left (now (s .entry)) c) r ⌝ }
+{
+    let mut next = c;
+    let mut least: u32 = 0;
+    let mut places = NOWHERE;
+    loop {
+        match subsection(s, next, least) {
+            FrameRead::Refused(r) => {
+                return Judged::Refused(r);
+            }
+            FrameRead::End => {
+                return Judged::Accepted(places);
+            }
+            FrameRead::Frame(id, part, after) => {
+                places = placed(places, id, part);
+                next = after;
+                least = (id as u32) + 1;
+            }
+        }
+    }
+}
+
+// A payload that is all that was lent.
+pub fn judge(p: &[u8]) -> Judged
+    ensures { λ r. ⌜ Judges (now (p .entry)) 0 (now (p .entry)) r ⌝ }
+{
+    judge_in(
+        p,
+        Cursor {
+            at: 0,
+            end: p.len(),
+        },
+    )
+}
+
+// Where the subsection with an id lies in an accepted payload.
+pub fn find(s: &[u8], c: Cursor, id: u8) -> Sub
+    requires { ⌜ Inside (now s) c ⌝ }
+    ensures { λ r. ⌜ Finds (now (s .entry)) (c .at) (left (now (s .entry)) c) id r ⌝ }
+{
+    let mut next = c;
+    let mut least: u32 = 0;
+    loop {
+        match frame(s, next, least) {
+            FrameRead::Refused(_) => {
+                return Sub::Absent;
+            }
+            FrameRead::End => {
+                return Sub::Absent;
+            }
+            FrameRead::Frame(k, part, after) => {
+                if k == id {
+                    return Sub::At(part);
+                }
+                next = after;
+                least = (k as u32) + 1;
+            }
+        }
+    }
+}
