@@ -71,6 +71,10 @@ abbrev pub mapJudged : {A B : Type 0} → (A → B) → Judged A → Judged B
 mapJudged f (accepted v) = accepted (f v)
 mapJudged f (refused n at) = refused n at
 
+-- accepted or refused, whatever was read
+abbrev pub verdict : {A : Type 0} → Judged A → Judged (Unit {0})
+verdict j = mapJudged (λ _. tt) j
+
 -- what a judgement accepts
 pub record Accepted {A : Type 0} (judgement : List ℕ → Judged A) (bs : List ℕ) : Type 0 where
   pub value : A

@@ -8,7 +8,7 @@ use borrow.Author.Needs.{needs}
 use denote.Enum.Declared.{tagOf}
 use lib.ListN.{length, getD, take}
 use lib.Seq.{drop-cons}
-use Rattle.format.specs.Reading.{Reader, accepted}
+use Rattle.format.specs.Reading.{Reader, accepted, verdict}
 use Rattle.format.specs.Parts.{Part}
 use Rattle.format.specs.Questions.{answered, asPlace}
 use Rattle.format.specs.Metadata.{dataOf, hintItem, judgeMetadata, itemAt, askMetadata, hintIn, askHint, hintAnswered}
@@ -30,7 +30,7 @@ use Rattle.format.proofs.Answer as answer-type
 use Rattle.reading.proofs.Laws.{lies-left}
 use Rattle.reading.specs.Cursors.{Inside, left}
 use Rattle.reading.specs.declared.Cursor.{Cursor}
-use Rattle.metadata.specs.Judgements.{judged, isAccepted}
+use Rattle.metadata.specs.Judgements.{judged}
 use Rattle.metadata.specs.declared.Judged.the-variants.{Accepted, Refused as NotAccepted}
 
 no-answer : (a : Answer) → tagOf answer-type.the-type a ≡ 0 → a ≡ None
@@ -40,18 +40,18 @@ no-answer (Refused r) h = absurd (omega arith)
 
 -- from the answer to the judgement
 module _ (value : Reader Part) (f : FunctionIndex) (at : CodeOffset) (o : ℕ) (bs : List ℕ) (a : Answer) (q : answered a ≡ asPlace (askMetadata value f at o bs)) where
-  pub judge-refused : (r : Refusal) → a ≡ Refused r → judged (NotAccepted r) ≡ isAccepted (judgeMetadata value o bs)
+  pub judge-refused : (r : Refusal) → a ≡ Refused r → judged (NotAccepted r) ≡ verdict (judgeMetadata value o bs)
   unfolding askMetadata
   judge-refused r e = sym (refused-exactly (λ _. tt) (judgeMetadata value o bs) .1 (refused-exactly (itemAt f at) (judgeMetadata value o bs) .0 (place-refused (askMetadata value f at o bs) (rw e at q))))
 
-  accepts : (x : Option Part) → askMetadata value f at o bs ≡ accepted x → judged Accepted ≡ isAccepted (judgeMetadata value o bs)
+  accepts : (x : Option Part) → askMetadata value f at o bs ≡ accepted x → judged Accepted ≡ verdict (judgeMetadata value o bs)
   unfolding askMetadata
   accepts x e = mapped (itemAt f at) (judgeMetadata value o bs) e λ t e₁ _. rw e₁
 
-  pub judge-none : tagOf answer-type.the-type a ≡ 0 → judged Accepted ≡ isAccepted (judgeMetadata value o bs)
+  pub judge-none : tagOf answer-type.the-type a ≡ 0 → judged Accepted ≡ verdict (judgeMetadata value o bs)
   judge-none h = accepts none (place-none (askMetadata value f at o bs) (rw (no-answer a h) at q))
 
-  pub judge-found : (p : Place) → a ≡ Found p → judged Accepted ≡ isAccepted (judgeMetadata value o bs)
+  pub judge-found : (p : Place) → a ≡ Found p → judged Accepted ≡ verdict (judgeMetadata value o bs)
   judge-found p e = let (x, e₁, _) = place-found (askMetadata value f at o bs) (rw e at q) in accepts (some x) e₁
 
 pub ruleset judgements = (judge-refused, judge-none, judge-found, needs)

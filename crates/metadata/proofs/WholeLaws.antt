@@ -5,7 +5,7 @@ use mathlib.Core.Path.{_≡_}
 use borrow.Author.Needs.{needs}
 use lib.ListN.{length}
 use lib.Seq.{slice}
-use Rattle.format.specs.Reading.{Reader}
+use Rattle.format.specs.Reading.{Reader, verdict}
 use Rattle.format.specs.Parts.{Part}
 use Rattle.format.specs.Questions.{answered, asPlace}
 use Rattle.format.specs.Metadata.{judgeMetadata, askMetadata, askHint, hintAnswered}
@@ -14,11 +14,11 @@ use Rattle.format.specs.declared.CodeOffset.{CodeOffset}
 use Rattle.format.specs.declared.FunctionIndex.{FunctionIndex}
 use Rattle.format.specs.declared.HintAnswer.{HintAnswer}
 use Rattle.reading.proofs.Laws.{left-all}
-use Rattle.metadata.specs.Judgements.{judged, isAccepted}
+use Rattle.metadata.specs.Judgements.{judged}
 use Rattle.metadata.specs.declared.Judged.{Judged}
 
 module _ (p : List ℕ) (value : Reader Part) where
-  pub whole-judged : (r : Judged) → judged r ≡ isAccepted (judgeMetadata value 0 (slice 0 (length p) p)) → judged r ≡ isAccepted (judgeMetadata value 0 p)
+  pub whole-judged : (r : Judged) → judged r ≡ verdict (judgeMetadata value 0 (slice 0 (length p) p)) → judged r ≡ verdict (judgeMetadata value 0 p)
   whole-judged r e = rw (left-all p) at e
 
   pub whole-found : (f : FunctionIndex) (at : CodeOffset) (r : Answer) → answered r ≡ asPlace (askMetadata value f at 0 (slice 0 (length p) p)) → answered r ≡ asPlace (askMetadata value f at 0 p)

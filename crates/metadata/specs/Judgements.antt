@@ -1,12 +1,8 @@
 -- What a judgement of a metadata payload says. Assumes nothing.
 use Rattle.format.specs.Refusals.{numberOf}
-use Rattle.format.specs.Reading.{Judged as Judgement, accepted, refused, mapJudged}
+use Rattle.format.specs.Reading.{Judged as Judgement, accepted, refused}
 use Rattle.metadata.specs.declared.Judged.{Judged}
 use Rattle.metadata.specs.declared.Judged.the-variants.{Accepted, Refused}
-
--- whether a payload is accepted, or its refusal
-abbrev pub isAccepted : {A : Type 0} → Judgement A → Judgement (Unit {0})
-isAccepted j = mapJudged (λ _. tt) j
 
 abbrev pub judged : Judged → Judgement (Unit {0})
 judged Accepted = accepted tt

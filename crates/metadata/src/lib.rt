@@ -2,7 +2,8 @@
 ghost use mathlib.Core.Path.{_≡_};
 ghost use Rattle.format.specs.Metadata.{anyItem, hintItem, askMetadata, judgeMetadata, askHint, hintAnswered};
 ghost use Rattle.format.specs.Questions.{answered, asPlace};
-ghost use Rattle.metadata.specs.Judgements.{judged, isAccepted};
+ghost use Rattle.format.specs.Reading.{verdict};
+ghost use Rattle.metadata.specs.Judgements.{judged};
 ghost use Rattle.reading.specs.Cursors.{Inside, left};
 ghost use Rattle.tables.specs.Seeking.{readerOf};
 use format::Answer;
@@ -60,7 +61,7 @@ pub fn find_in(s: &[u8], c: Cursor, item: Item, f: FunctionIndex, at: CodeOffset
 // Judges a payload that lies in `s` where the cursor says.
 pub fn judge_in(s: &[u8], c: Cursor, item: Item) -> Judged
     requires { ⌜ Inside (now s) c ⌝ }
-    ensures { λ r. ⌜ judged r ≡ isAccepted (judgeMetadata (readerOf item) (c .at) (left (now (s .entry)) c)) ⌝ }
+    ensures { λ r. ⌜ judged r ≡ verdict (judgeMetadata (readerOf item) (c .at) (left (now (s .entry)) c)) ⌝ }
 {
     // The list is judged whole, whatever is looked for.
     match find_in(s, c, item, FunctionIndex(0), CodeOffset(0)) {
@@ -91,7 +92,7 @@ pub fn hint_in(s: &[u8], c: Cursor, f: FunctionIndex, at: CodeOffset) -> HintAns
 
 // Judges a payload of any format.
 pub fn judge(p: &[u8]) -> Judged
-    ensures { λ r. ⌜ judged r ≡ isAccepted (judgeMetadata anyItem 0 (now (p .entry))) ⌝ }
+    ensures { λ r. ⌜ judged r ≡ verdict (judgeMetadata anyItem 0 (now (p .entry))) ⌝ }
 {
     let all = Cursor {
         at: 0,
@@ -102,7 +103,7 @@ pub fn judge(p: &[u8]) -> Judged
 
 // Judges a payload of branch hints.
 pub fn judge_hints(p: &[u8]) -> Judged
-    ensures { λ r. ⌜ judged r ≡ isAccepted (judgeMetadata hintItem 0 (now (p .entry))) ⌝ }
+    ensures { λ r. ⌜ judged r ≡ verdict (judgeMetadata hintItem 0 (now (p .entry))) ⌝ }
 {
     let all = Cursor {
         at: 0,

@@ -9,7 +9,7 @@ use borrow.Author.Needs.{needs}
 use borrow.Author.Tests.{lt-ltb, le-ltb, ltb-true, ltb-false, ne-eqb}
 use lib.Dec.{ltb}
 use lib.Seq.{slice-empty, slice-cons, length-slice}
-use Rattle.format.specs.Reading.{Outcome, got, stop, Reader, andThen, return, atEnd, filling, Judged, accepted, refused, judge, mapJudged}
+use Rattle.format.specs.Reading.{Outcome, got, stop, Reader, andThen, return, atEnd, filling, Judged, accepted, refused, judge, mapJudged, verdict}
 use Rattle.format.specs.Parts.{Part, name, remaining}
 use Rattle.format.specs.Tables.{lookup, table}
 use Rattle.format.specs.Names.{Kind as AnyKind, oneName, nameMap, indirectMap, known, knownKind, Content, single, names, namesBy, contents}
@@ -28,7 +28,7 @@ use Rattle.tables.specs.Seeking.{sought, soughtWithin, Seeks}
 use Rattle.tables.specs.declared.Seek.{Seek}
 use Rattle.tables.specs.declared.Seek.the-variants.{None, Found, Refused}
 use Rattle.tables.proofs.Laws.{refused-means, none-means, none-inside, found-means, found-inside, found-part}
-use Rattle.names.specs.Contents.{kindMeant, Asks, verdict, Rules, placeAt, filledBy, endOf, Ordered}
+use Rattle.names.specs.Contents.{kindMeant, Asks, Rules, placeAt, filledBy, endOf, Ordered}
 use Rattle.names.specs.declared.kinds.Kind.{Kind}
 use Rattle.names.specs.declared.kinds.Kind.the-variants.{OneName, NameMap, IndirectMap, Kept}
 use Rattle.names.proofs.kinds.Kind as kind-type

@@ -11,7 +11,7 @@ use denote.Enum.Declared.{tagOf}
 use lib.ListN.{getD}
 use lib.Seq.{slice, slice-empty, slice-cons}
 use Rattle.format.specs.Refusals.{numberOf}
-use Rattle.format.specs.Reading.{Outcome, got, stop, Reader, andThen, return, Judged, refused, judge}
+use Rattle.format.specs.Reading.{Outcome, got, stop, Reader, andThen, return, Judged, refused, judge, verdict}
 use Rattle.format.specs.Parts.{sized, goOn}
 use Rattle.format.specs.Names.{Kind as AnyKind, contents}
 use Rattle.format.specs.Questions.{answered}
@@ -26,7 +26,7 @@ use Rattle.reading.specs.declared.Cursor.{Cursor}
 use Rattle.reading.specs.declared.PartRead.{PartRead}
 use Rattle.reading.specs.declared.PartRead.the-variants.{Part as APart, Refused as NoPart}
 use Rattle.reading.proofs.Laws.{sized-means, part-behind}
-use Rattle.names.specs.Contents.{verdict, Rules}
+use Rattle.names.specs.Contents.{Rules}
 use Rattle.names.specs.Frames.{frame, subsection, Forward, FrameReads}
 use Rattle.names.specs.declared.frames.FrameRead.{FrameRead}
 use Rattle.names.specs.declared.frames.FrameRead.the-variants.{Frame, End, Refused}

@@ -4,3 +4,4 @@ pub mod PlaceLaws
 pub mod FrameLaws
 pub mod JudgeLaws
 pub mod AskLaws
+pub mod Verdicts

@@ -5,7 +5,7 @@ use mathlib.Core.List.{List}
 use mathlib.Core.Option.{Option, none, some}
 use mathlib.Core.Path.{_≡_}
 use lib.Dec.{ltb}
-use Rattle.format.specs.Reading.{Judged, accepted, judge, mapJudged}
+use Rattle.format.specs.Reading.{Judged, accepted, judge, mapJudged, verdict}
 use Rattle.format.specs.Parts.{Part}
 use Rattle.format.specs.Names.{Kind as AnyKind, oneName, nameMap, indirectMap, kept, contents}
 use Rattle.format.specs.Questions.{Query, answerIn, answered, asPlace}
@@ -38,9 +38,6 @@ pub record Asks (kind : AnyKind) (q : Query) (s : List ℕ) (part : Cursor) (r :
   pub says : answered r ≡ asPlace (asksOf kind q (partOf s part))
 
 -- accepted or refused, whatever is answered
-abbrev pub verdict : {A : Type 0} → Judged A → Judged (Unit {0})
-verdict j = mapJudged (λ _. tt) j
-
 pub record Rules (kind : AnyKind) (s : List ℕ) (part : Cursor) (r : Answer) : Type 0 where
   pub says : verdict (answered r) ≡ verdict (judge (contents kind (part .at) (left s part)))
 

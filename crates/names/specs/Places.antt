@@ -6,7 +6,7 @@ use mathlib.Core.Option.{Option, none, some}
 use mathlib.Core.Path.{_≡_}
 use lib.Dec.{eqb}
 use Rattle.format.specs.Refusals.{numberOf}
-use Rattle.format.specs.Reading.{accepted, refused}
+use Rattle.format.specs.Reading.{Judged as Judgement, accepted, refused}
 use Rattle.format.specs.Parts.{Part}
 use Rattle.format.specs.Tables.{Table, nil, row, lookup}
 use Rattle.format.specs.Names.{Kind, Content, knownKind, judgeNames}
@@ -57,6 +57,11 @@ pub record Accepts (s : List ℕ) (at : ℕ) (bs : List ℕ) (p : Places) : Type
 abbrev pub judgesTo : List ℕ → ℕ → List ℕ → Judged → Type 0
 judgesTo s at bs (Accepted p) = Accepts s at bs p
 judgesTo s at bs (Refused r) = judgeNames knownKind at bs ≡ refused (numberOf (r .reason)) (r .offset .0)
+
+-- the verdict of a judgement, and that it is the payload's
+abbrev pub verdictOf : Judged → Judgement (Unit {0})
+verdictOf (Accepted p) = accepted tt
+verdictOf (Refused r) = refused (numberOf (r .reason)) (r .offset .0)
 
 pub record Judges (s : List ℕ) (at : ℕ) (bs : List ℕ) (r : Judged) : Type 0 where
   pub says : judgesTo s at bs r

@@ -1,12 +1,14 @@
 -- The C boundary says what the calls beneath it say.
 use Prim.Native.Nat.{ℕ}
+use mathlib.Core.List.{List}
 use mathlib.Core.Option.{Option}
 use mathlib.Core.Path.{_≡_, refl, ap, _∙_}
 use native.Mathlib.Omega.{arith}
 use borrow.Author.Needs.{needs}
 use denote.Enum.Declared.{tagOf}
 use Rattle.format.specs.Refusals.{numberOf}
-use Rattle.format.specs.Reading.{Judged as Judgement}
+use Rattle.format.specs.Reading.{Judged as Judgement, verdict}
+use Rattle.format.specs.Names.{knownKind, judgeNames}
 use Rattle.format.specs.Metadata.{hintAnswered}
 use Rattle.format.specs.Questions.{answered}
 use Rattle.format.specs.declared.Answer.{Answer}
@@ -24,6 +26,11 @@ use Rattle.metadata.specs.Judgements.{judged}
 use Rattle.metadata.specs.declared.Judged.{Judged}
 use Rattle.metadata.specs.declared.Judged.the-variants.{Accepted, Refused as NotAccepted}
 use Rattle.metadata.proofs.Judged as judged-type
+use Rattle.names.specs.Places.{verdictOf, Judges}
+use Rattle.names.specs.declared.judging.Judged.{Judged as NamesJudged}
+use Rattle.names.specs.declared.judging.Judged.the-variants.{Accepted as NamesAccepted, Refused as NamesRefused}
+use Rattle.names.proofs.judging.Judged as names-type
+use Rattle.names.proofs.Verdicts.{verdict-is}
 use Rattle.walk.specs.Surveys.{counted, sectionAnswered}
 use Rattle.walk.specs.declared.Counted.{Counted}
 use Rattle.walk.specs.declared.Counted.the-variants.{Count, Refused as NotCounted}
@@ -86,8 +93,16 @@ module _ (j : Judged) (n : ℕ) where
   pub judged-refused : (a : WmAnswer) (r : Refusal) → j ≡ NotAccepted r → a ≡ wmRefused (numberOf (r .reason)) (r .offset .0) → a ≡ wmJudged n (judged j)
   judged-refused a r e q = rw e q
 
-  pub judged-is : tagOf judged-type.the-type j ≡ 0 → wmFound 0 0 n ≡ wmJudged n (judged j)
-  judged-is h = rw (is-accepted j h)
+  pub judged-is : (a : WmAnswer) → tagOf judged-type.the-type j ≡ 0 → a ≡ wmFound 0 0 n → a ≡ wmJudged n (judged j)
+  judged-is a h e = rw (is-accepted j h) e
+
+module _ (j : NamesJudged) (n : ℕ) where
+  pub names-refused : (a : WmAnswer) (r : Refusal) → j ≡ NamesRefused r → a ≡ wmRefused (numberOf (r .reason)) (r .offset .0) → a ≡ wmJudged n (verdictOf j)
+  names-refused a r e q = rw e q
+
+pub names-accepted : (j : NamesJudged) (n : ℕ) (a : WmAnswer) → tagOf names-type.the-type j ≡ 0 → a ≡ wmFound 0 0 n → a ≡ wmJudged n (verdictOf j)
+names-accepted (NamesAccepted p) n a h e = e
+names-accepted (NamesRefused r) n a h e = absurd (omega arith)
 
 -- a hint
 pub unlikely-is : (h : Hint) → tagOf likelihood-type.the-type h ≡ 0 → record { kind = 3; code = 0; offset = 0; length = 0 } ≡ wmHinted h
@@ -113,7 +128,7 @@ module _ (x : HintAnswer) where
   pub hint-is : (a : WmAnswer) (h : Hint) → x ≡ AHint h → a ≡ wmHinted h → a ≡ wmHint (hintAnswered x)
   hint-is a h e q = rw e q
 
-pub ruleset fields = (refusal-is, count-refused, count-is, section-none, section-refused, section-is, place-none, place-refused, place-is, judged-refused, judged-is, unlikely-is, likely-is, hint-none, hint-refused, hint-is, needs)
+pub ruleset fields = (refusal-is, count-refused, count-is, section-none, section-refused, section-is, place-none, place-refused, place-is, judged-refused, judged-is, names-refused, names-accepted, unlikely-is, likely-is, hint-none, hint-refused, hint-is, needs)
 
 -- and so does each call
 pub says-count : (a : WmAnswer) (x y : Judgement ℕ) → a ≡ wmCount x → x ≡ y → a ≡ wmCount y
@@ -128,7 +143,10 @@ says-place a x y e q = e ∙ ap wmPlace q
 pub says-judged : (a : WmAnswer) (n : ℕ) (x y : Judgement (Unit {0})) → a ≡ wmJudged n x → x ≡ y → a ≡ wmJudged n y
 says-judged a n x y e q = e ∙ ap (wmJudged n) q
 
+pub says-names : (s : List ℕ) (a : WmAnswer) (n : ℕ) (j : NamesJudged) → a ≡ wmJudged n (verdictOf j) → Judges s 0 s j → a ≡ wmJudged n (verdict (judgeNames knownKind 0 s))
+says-names s a n j e h = e ∙ ap (wmJudged n) (verdict-is s 0 s j h)
+
 pub says-hint : (a : WmAnswer) (x y : Judgement (Option Hint)) → a ≡ wmHint x → x ≡ y → a ≡ wmHint y
 says-hint a x y e q = e ∙ ap wmHint q
 
-pub ruleset calls = (says-count, says-section, says-place, says-judged, says-hint, needs)
+pub ruleset calls = (says-count, says-section, says-place, says-judged, says-names, says-hint, needs)

@@ -2,22 +2,28 @@
 ghost use mathlib.Core.Path.{_≡_};
 ghost use lib.ListN.{length};
 ghost use Rattle.format.specs.Metadata.{anyItem, hintItem, judgeMetadata, askMetadata, askHint, hintAnswered};
+ghost use Rattle.format.specs.Names.{knownKind, judgeNames};
 ghost use Rattle.format.specs.Options.{mapSome};
-ghost use Rattle.format.specs.Questions.{answered, asPlace};
-ghost use Rattle.format.specs.Reading.{mapJudged};
+ghost use Rattle.format.specs.Questions.{answered, asPlace, ask, moduleName, functionName, typeName, tagName, localName, fieldName, keptContents};
+ghost use Rattle.format.specs.Reading.{mapJudged, verdict};
 ghost use Rattle.format.specs.Refusals.{numberOf};
 ghost use Rattle.format.specs.Walk.{sectionCount, sectionAt, customPayload};
 ghost use Rattle.metadata.specs.Judgements;
-ghost use Rattle.metadata.specs.Judgements.{isAccepted};
+ghost use Rattle.names.specs.Places.{verdictOf};
 ghost use Rattle.walk.specs.Surveys.{counted, sectionAnswered, sectionPlace};
-ghost use Rattle.wakemiono.specs.Boundary.{wmRefused, wmCount, wmSection, wmPlace, wmJudged, wmHinted, wmHint};
+ghost use Rattle.wakemiono.specs.Boundary.{wmFound, wmRefused, wmCount, wmSection, wmPlace, wmJudged, wmHinted, wmHint};
 use format::Answer;
 use format::CodeOffset;
+use format::FieldIndex;
 use format::FunctionIndex;
 use format::Hint;
 use format::HintAnswer;
+use format::LocalIndex;
 use format::Refusal;
+use format::TagIndex;
+use format::TypeIndex;
 use metadata::Judged;
+use names::judging;
 use walk::Counted;
 use walk::survey::SectionAnswer;
 
@@ -110,17 +116,33 @@ fn of_answer(answer: Answer) -> WmAnswer
     }
 }
 
+// The whole payload, where it was accepted.
+fn all_of(length: usize) -> WmAnswer
+    ensures { λ a. ⌜ a ≡ wmFound 0 0 length ⌝ }
+{
+    WmAnswer {
+        kind: FOUND,
+        code: 0,
+        offset: 0,
+        length: length as u64,
+    }
+}
+
+fn of_names_judged(judged: judging::Judged, length: usize) -> WmAnswer
+    ensures { λ a. ⌜ a ≡ wmJudged length (verdictOf judged) ⌝ }
+{
+    match judged {
+        judging::Judged::Refused(r) => of_refusal(r),
+        judging::Judged::Accepted(_) => all_of(length),
+    }
+}
+
 fn of_judged(judged: Judged, length: usize) -> WmAnswer
     ensures { λ a. ⌜ a ≡ wmJudged length (Judgements.judged judged) ⌝ }
 {
     match judged {
         Judged::Refused(r) => of_refusal(r),
-        Judged::Accepted => WmAnswer {
-            kind: FOUND,
-            code: 0,
-            offset: 0,
-            length: length as u64,
-        },
+        Judged::Accepted => all_of(length),
     }
 }
 
@@ -175,15 +197,71 @@ pub extern "C" fn wm_custom(bytes: &[u8], name: &[u8]) -> WmAnswer
 }
 
 #[no_mangle]
+pub extern "C" fn wm_names_judge(payload: &[u8]) -> WmAnswer
+    ensures { λ a. ⌜ a ≡ wmJudged (length (now (payload .entry))) (verdict (judgeNames knownKind 0 (now (payload .entry)))) ⌝ }
+{
+    of_names_judged(judging::judge(payload), payload.len())
+}
+
+#[no_mangle]
+pub extern "C" fn wm_module_name(payload: &[u8]) -> WmAnswer
+    ensures { λ a. ⌜ a ≡ wmPlace (asPlace (ask moduleName (now (payload .entry)))) ⌝ }
+{
+    of_answer(names::module_name(payload))
+}
+
+#[no_mangle]
+pub extern "C" fn wm_function_name(payload: &[u8], function: u32) -> WmAnswer
+    ensures { λ a. ⌜ a ≡ wmPlace (asPlace (ask (functionName (record { 0 = function })) (now (payload .entry)))) ⌝ }
+{
+    of_answer(names::function_name(payload, FunctionIndex(function)))
+}
+
+#[no_mangle]
+pub extern "C" fn wm_type_name(payload: &[u8], index: u32) -> WmAnswer
+    ensures { λ a. ⌜ a ≡ wmPlace (asPlace (ask (typeName (record { 0 = index })) (now (payload .entry)))) ⌝ }
+{
+    of_answer(names::type_name(payload, TypeIndex(index)))
+}
+
+#[no_mangle]
+pub extern "C" fn wm_tag_name(payload: &[u8], tag: u32) -> WmAnswer
+    ensures { λ a. ⌜ a ≡ wmPlace (asPlace (ask (tagName (record { 0 = tag })) (now (payload .entry)))) ⌝ }
+{
+    of_answer(names::tag_name(payload, TagIndex(tag)))
+}
+
+#[no_mangle]
+pub extern "C" fn wm_local_name(payload: &[u8], function: u32, local: u32) -> WmAnswer
+    ensures { λ a. ⌜ a ≡ wmPlace (asPlace (ask (localName (record { 0 = function }) (record { 0 = local })) (now (payload .entry)))) ⌝ }
+{
+    of_answer(names::local_name(payload, FunctionIndex(function), LocalIndex(local)))
+}
+
+#[no_mangle]
+pub extern "C" fn wm_field_name(payload: &[u8], index: u32, field: u32) -> WmAnswer
+    ensures { λ a. ⌜ a ≡ wmPlace (asPlace (ask (fieldName (record { 0 = index }) (record { 0 = field })) (now (payload .entry)))) ⌝ }
+{
+    of_answer(names::field_name(payload, TypeIndex(index), FieldIndex(field)))
+}
+
+#[no_mangle]
+pub extern "C" fn wm_kept(payload: &[u8], id: u8) -> WmAnswer
+    ensures { λ a. ⌜ a ≡ wmPlace (asPlace (ask (keptContents id) (now (payload .entry)))) ⌝ }
+{
+    of_answer(names::kept(payload, id))
+}
+
+#[no_mangle]
 pub extern "C" fn wm_metadata_judge(payload: &[u8]) -> WmAnswer
-    ensures { λ a. ⌜ a ≡ wmJudged (length (now (payload .entry))) (isAccepted (judgeMetadata anyItem 0 (now (payload .entry)))) ⌝ }
+    ensures { λ a. ⌜ a ≡ wmJudged (length (now (payload .entry))) (verdict (judgeMetadata anyItem 0 (now (payload .entry)))) ⌝ }
 {
     of_judged(metadata::judge(payload), payload.len())
 }
 
 #[no_mangle]
 pub extern "C" fn wm_hints_judge(payload: &[u8]) -> WmAnswer
-    ensures { λ a. ⌜ a ≡ wmJudged (length (now (payload .entry))) (isAccepted (judgeMetadata hintItem 0 (now (payload .entry)))) ⌝ }
+    ensures { λ a. ⌜ a ≡ wmJudged (length (now (payload .entry))) (verdict (judgeMetadata hintItem 0 (now (payload .entry)))) ⌝ }
 {
     of_judged(metadata::judge_hints(payload), payload.len())
 }

@@ -11,6 +11,9 @@ of-refusal-requires c κs = search fields
 enum-told : tie.Need-enum-told
 enum-told c = search fields
 
+all-of-requires : tie.Need-all-of-requires
+all-of-requires c κs = search fields
+
 returns : tie.Need-returns
 returns c = search fields
 
@@ -19,4 +22,5 @@ returns-2 c = search fields
 
 pub of-judged-spec : {M : Type 1} → statement M
 of-judged-spec =
-    tie.close (tie.spec enum-known-judged of-refusal-requires enum-told returns returns-2)
+    tie.close
+    (tie.spec enum-known-judged of-refusal-requires enum-told all-of-requires returns returns-2)

@@ -1,0 +1,15 @@
+use Rattle.wakemiono.proofs.Laws.{calls}
+use Rattle.wakemiono.proofs.wm_names_judge.Statement.{statement}
+use Rattle.wakemiono.proofs.wm_names_judge.Tie as tie
+
+judge-requires : tie.Need-judge-requires
+judge-requires c κs = search calls
+
+of-names-judged-requires : tie.Need-of-names-judged-requires
+of-names-judged-requires c κs = search calls
+
+returns : tie.Need-returns
+returns c = search calls
+
+pub wm-names-judge-spec : {M : Type 1} → statement M
+wm-names-judge-spec = tie.close (tie.spec judge-requires of-names-judged-requires returns)
