@@ -113,6 +113,12 @@ asBytes (accepted none) = []
 asBytes (accepted (some p)) = p .bytes
 asBytes (refused n at) = []
 
+-- where its bytes begin; 0 for none and for a refusal
+unfoldable pub startOf : Judged (Option Part) → ℕ
+startOf (accepted none) = 0
+startOf (accepted (some p)) = p .at
+startOf (refused n at) = 0
+
 unfoldable pub asTold : Judged (Option Part) → Judged (Option (List ℕ))
 asTold j = mapJudged (mapSome (λ p. p .bytes)) j
 

@@ -5,3 +5,4 @@ pub mod FrameLaws
 pub mod JudgeLaws
 pub mod AskLaws
 pub mod Verdicts
+pub mod TakenLaws

@@ -10,6 +10,7 @@ use format::TypeIndex;
 use reading::Cursor;
 
 pub mod asking;
+pub mod bytes;
 pub mod contents;
 pub mod frames;
 pub mod judging;

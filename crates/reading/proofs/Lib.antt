@@ -3,3 +3,4 @@ pub mod Laws
 pub mod PartSteps
 pub mod TextLaws
 pub mod Same
+pub mod TakenLaws

@@ -1,2 +1,3 @@
 pub mod Wanted
 pub mod Cursors
+pub mod Taken

@@ -6,6 +6,7 @@ use format::Offset;
 use format::Reason;
 use format::Refusal;
 
+pub mod taking;
 pub mod text;
 
 // A place in what was lent, and the end of the innermost part around it.
