@@ -1,7 +1,8 @@
 // Code metadata: data that belongs to places in functions, and branch hints among it. Every public call takes any bytes.
+ghost use Prim.Native.Nat.{_+_};
 ghost use mathlib.Core.Path.{_≡_};
 ghost use Rattle.format.specs.Metadata.{anyItem, hintItem, askMetadata, judgeMetadata, askHint, hintAnswered};
-ghost use Rattle.format.specs.Questions.{answered, asPlace};
+ghost use Rattle.format.specs.Questions.{answered, asPlace, asBytes, startOf};
 ghost use Rattle.format.specs.Reading.{verdict};
 ghost use Rattle.metadata.specs.Judgements.{judged};
 ghost use Rattle.reading.specs.Cursors.{Inside, left};
@@ -16,6 +17,7 @@ use format::Place;
 use format::Reason;
 use format::Refusal;
 use reading::Cursor;
+use reading::taking::taken;
 use tables::Item;
 use tables::Seek;
 
@@ -121,6 +123,14 @@ pub fn find(p: &[u8], f: FunctionIndex, at: CodeOffset) -> Answer
         end: p.len(),
     };
     find_in(p, all, Item::Data, f, at)
+}
+
+// The same data as a part of what was lent: empty, and at its start, for none and for a refusal.
+pub fn find_bytes(p: &[u8], f: FunctionIndex, at: CodeOffset) -> &[u8]
+    ensures { λ r. ⌜ now r ≡ asBytes (askMetadata anyItem f at 0 (now (p .entry))) ⌝ }
+    ensures { λ r. ⌜ r .ptr ≡ (p .entry .ptr .0, startOf (askMetadata anyItem f at 0 (now (p .entry))) + p .entry .ptr .1) ⌝ }
+{
+    taken(p, find(p, f, at))
 }
 
 // The hint at an offset of a function.

@@ -3,6 +3,7 @@ use format::Answer;
 use format::Hint;
 use format::HintAnswer;
 use format::Refusal;
+use names::judging;
 use reading::NumberRead;
 use reading::PartRead;
 use walk::Counted;
@@ -114,4 +115,19 @@ pub fn say_hint(case: &[u8], a: HintAnswer) {
             Hint::Unlikely => say(b"unlikely\n"),
         },
     }
+}
+
+pub fn say_names(case: &[u8], judged: judging::Judged) {
+    say_case(case);
+    match judged {
+        judging::Judged::Refused(r) => say_refusal(r),
+        judging::Judged::Accepted(_) => say(b"accepted\n"),
+    }
+}
+
+pub fn say_text(case: &[u8], text: &[u8]) {
+    say_case(case);
+    say(b"\"");
+    say(text);
+    say(b"\"\n");
 }
