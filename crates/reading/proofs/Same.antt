@@ -16,7 +16,7 @@ use Rattle.reading.specs.declared.NumberRead.the-variants.{Value, Refuse
 use Rattle.reading.specs.declared.PartRead.{PartRead}
 use Rattle.reading.specs.declared.PartRead.the-variants.{Part as APart, Refused as NoPart}
 
-same-cursor : (c d : Cursor) → c .at ≡ d .at → c .end ≡ d .end → c ≡ d
+pub same-cursor : (c d : Cursor) → c .at ≡ d .at → c .end ≡ d .end → c ≡ d
 same-cursor c d p q = λ i. record { at = p i; end = q i }
 
 pub number-same : {s : List ℕ} {c : Cursor} (r r′ : NumberRead) → NumberReads s c r → NumberReads s c r′ → r ≡ r′

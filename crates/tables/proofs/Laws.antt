@@ -4,17 +4,14 @@ use mathlib.Core.List.{List}
 use mathlib.Core.Option.{Option, none, some}
 use mathlib.Core.Path.{_≡_, refl, sym, ap, ap₂, _∙_}
 use native.Mathlib.Omega.{arith}
-use lib.ListN.{length}
-use lib.Seq.{length-slice}
-use Rattle.format.specs.Refusals.{numberOf}
-use Rattle.format.specs.Reading.{Outcome, got, stop, Reader}
+use Rattle.format.specs.Reading.{got, Reader}
 use Rattle.format.specs.Parts.{Part}
 use Rattle.format.specs.Metadata.{hintOf, anyItem, hintItem}
 use Rattle.format.specs.Options.{isSome}
 use Rattle.format.specs.Laws.Outcomes.{not-got, got-value, got-next}
 use Rattle.format.specs.Laws.Options.{not-some, some-is}
 use Rattle.format.specs.Laws.Turns.{inTested}
-use Rattle.format.specs.Laws.Refusals.{told-apart}
+use Rattle.format.specs.Laws.Refusals.{same-stop}
 use Rattle.format.specs.declared.Refusal.{Refusal}
 use Rattle.format.specs.declared.Reason.the-variants.{NotHint}
 use Rattle.reading.specs.Cursors.{Inside, left, refusalOf, PartReads, partOf}
@@ -22,14 +19,12 @@ use Rattle.reading.specs.declared.Cursor.{Cursor}
 use Rattle.reading.specs.declared.PartRead.{PartRead}
 use Rattle.reading.specs.declared.PartRead.the-variants.{Part as APart}
 use Rattle.reading.proofs.Laws.{Behind, part-behind, name-behind}
+use Rattle.reading.proofs.Same.{same-cursor, same-part}
 use Rattle.tables.specs.Seeking.{readerOf, Seeks}
 use Rattle.tables.specs.declared.Item.{Item}
 use Rattle.tables.specs.declared.Item.the-variants.{Name, Data, Hint}
 use Rattle.tables.specs.declared.Seek.{Seek}
 use Rattle.tables.specs.declared.Seek.the-variants.{None, Found, Refused}
-
-pub same-stop : {A : Type 0} {n m at at′ : ℕ} → _≡_ {A = Outcome A} (stop n at) (stop m at′) → (n ≡ m) × (at ≡ at′)
-same-stop e = (cc, cc)
 
 -- An item
 module _ {s : List ℕ} {c part next : Cursor} where
@@ -87,27 +82,14 @@ module _ {read : Reader (Option Part)} {s : List ℕ} {c next : Cursor} {x : See
     found-part i r e = let same = rw e at (r .same-part) in record { ahead = same .0; within = omega (arith, same .1, i .within) }
 
 -- One result alone meets a promise
-same-cursor : {c d : Cursor} → c .at ≡ d .at → c .end ≡ d .end → c ≡ d
-same-cursor p q = λ i. record { at = p i; end = q i }
-
-same-refusal : {r t : Refusal} → numberOf (r .reason) ≡ numberOf (t .reason) → r .offset .0 ≡ t .offset .0 → r ≡ t
-same-refusal {r} {t} p q = let why = told-apart (r .reason) (t .reason) p in λ i. record { reason = why i; offset = record { 0 = q i } }
-
--- a part inside is known by its place and its bytes
-same-place : {s : List ℕ} {p q : Cursor} → Inside s p → Inside s q → partOf s p ≡ partOf s q → p ≡ q
-same-place {s} {p} {q} i j e =
-    let at : p .at ≡ q .at = ap (λ x. x .at) e in
-    let far : length (left s p) ≡ length (left s q) = ap (λ x. length (x .bytes)) e in
-    same-cursor at (omega (arith, i .ahead, j .ahead, length-slice (p .at) (p .end) s (i .within), length-slice (q .at) (q .end) s (j .within)))
-
 pub seeks-same : {read : Reader (Option Part)} {s : List ℕ} {c : Cursor} {r r′ : Seek} → Seeks read s c r → Seeks read s c r′ → Inside s c → r ≡ r′
-seeks-same {r = None next} {r′ = None next′} a b i = let e = a .means ∙ sym (b .means) in ap None (same-cursor (got-next e) (a .same-part ∙ sym (b .same-part)))
+seeks-same {r = None next} {r′ = None next′} a b i = let e = a .means ∙ sym (b .means) in ap None (same-cursor next next′ (got-next e) (a .same-part ∙ sym (b .same-part)))
 seeks-same {r = Found part next} {r′ = Found part′ next′} a b i =
     let e = a .means ∙ sym (b .means) in
     ap₂ Found
-    (same-place (found-part i a refl) (found-part i b refl) (some-is (got-value e)))
-    (same-cursor (got-next e) (found-end a refl ∙ sym (found-end b refl)))
-seeks-same {r = Refused r} {r′ = Refused r′} a b i = let e = same-stop (a .means ∙ sym (b .means)) in ap Refused (same-refusal (e .0) (e .1))
+    (same-part part part′ (found-part i a refl) (found-part i b refl) (some-is (got-value e)))
+    (same-cursor next next′ (got-next e) (found-end a refl ∙ sym (found-end b refl)))
+seeks-same {r = Refused r} {r′ = Refused r′} a b i = ap Refused (same-stop (a .means ∙ sym (b .means)))
 seeks-same {r = None next} {r′ = Found part next′} a b i = absurd (not-some (got-value (a .means ∙ sym (b .means))))
 seeks-same {r = Found part next} {r′ = None next′} a b i = absurd (not-some (got-value (b .means ∙ sym (a .means))))
 seeks-same {r = Refused r} {r′ = None next′} a b i = absurd (not-got (a .means ∙ sym (b .means)))

@@ -10,7 +10,7 @@ use borrow.Author.Tests.{le-leb, lt-leb, le-ltb}
 use lib.Dec.{ltb, leb}
 use lib.ListN.{length, getD}
 use lib.Seq.{slice-cons, slice-empty, length-slice}
-use Rattle.format.specs.Reading.{got, stop, Reader}
+use Rattle.format.specs.Reading.{Outcome, got, stop, Reader}
 use Rattle.format.specs.Numbers.{number}
 use Rattle.format.specs.Parts.{Part, sized, name}
 use Rattle.format.specs.Tables.{Table, lookup, table}
@@ -34,7 +34,7 @@ use Rattle.tables.specs.declared.Seek.{Seek}
 use Rattle.tables.specs.declared.Seek.the-variants.{None, Found, Refused as NoSeek}
 use Rattle.tables.specs.declared.Held.the-variants.{Nothing, Part as Held·Part}
 use Rattle.tables.specs.declared.RowRead.the-variants.{Row, Refused as NoRow}
-use Rattle.tables.proofs.Laws.{same-stop, item-means, item-behind, none-means, none-end, none-inside, found-means, found-inside}
+use Rattle.tables.proofs.Laws.{item-means, item-behind, none-means, none-end, none-inside, found-means, found-inside}
 
 -- A hint
 small-hint : (b : ℕ) → ltb b 2 ≡ isSome (hintOf (b ∷ []))
@@ -153,9 +153,13 @@ inSought : {C : Type 0} (value : Reader Part) (inner o : ℕ) (bs : List ℕ) {f
 unfolding sought
 inSought value inner o bs e k = inTurn (table value o bs) _ e λ t o₁ r₁ e₁ e₂. k t (rw (got-next e₂, got-rest e₂) at e₁) (got-value e₂)
 
+-- a refusal is the same one whatever would have been read
+stops-alike : {A B : Type 0} {n m at at′ : ℕ} → _≡_ {A = Outcome A} (stop n at) (stop m at′) → _≡_ {A = Outcome B} (stop m at′) (stop n at)
+stops-alike {n = n} {m = m} {at = at} {at′ = at′} e = let number : n ≡ m = cc in let place : at ≡ at′ = cc in rw (number, place)
+
 unsought : (value : Reader Part) (inner o : ℕ) (bs : List ℕ) {n at : ℕ} → stop n at ≡ sought value inner o bs → table value o bs ≡ stop n at
 unfolding sought
-unsought value inner o bs e = byOutcome (table value o bs) (λ t o₁ r₁ e₁. absurd (not-got (rw e₁ at e))) (λ n at e₁. let q = same-stop (rw e₁ at e) in e₁ ∙ rw (q .0, q .1))
+unsought value inner o bs e = byOutcome (table value o bs) (λ t o₁ r₁ e₁. absurd (not-got (rw e₁ at e))) (λ n at e₁. e₁ ∙ stops-alike (rw e₁ at e))
 
 module _ (value : Reader Part) (inner : ℕ) {s : List ℕ} {c : Cursor} {x : NumberRead} {least k : ℕ} {d : Cursor} {y : Seek} where
   pub group-refused : {r : Refusal} → IndexReads least s c x → x ≡ Value k d → Seeks (sought value inner) s d y → y ≡ NoSeek r → RowReads (table value) (lookup inner) least s c (NoRow r)
