@@ -6,3 +6,4 @@ pub mod JudgeLaws
 pub mod AskLaws
 pub mod Verdicts
 pub mod TakenLaws
+pub mod Same
