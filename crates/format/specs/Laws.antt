@@ -20,3 +20,4 @@ pub mod Lists
 pub mod Questions
 pub mod Walk
 pub mod Listing
+pub mod Calls

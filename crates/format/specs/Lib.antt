@@ -20,3 +20,4 @@ pub mod Examples
 pub mod Cases
 pub mod Laws
 pub mod Demands
+pub mod Calls
