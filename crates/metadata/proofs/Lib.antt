@@ -3,3 +3,4 @@ pub mod AnswerLaws
 pub mod WholeLaws
 pub mod TakenLaws
 pub mod Same
+pub mod Demands
