@@ -1,7 +1,7 @@
 -- What users demand of the calls, said of what they hand back.
 use Prim.Native.Nat.{ℕ}
 use mathlib.Core.List.{List}
-use mathlib.Core.Path.{_≡_, _∙_}
+use mathlib.Core.Path.{_≡_}
 use Rattle.format.specs.Calls.{CallAnswers, calls-answer}
 use Rattle.format.specs.Canonical.{bare}
 use Rattle.format.specs.Demands.{document-names-answered}
@@ -10,10 +10,10 @@ use Rattle.format.specs.Holding.{Holds}
 use Rattle.format.specs.Laws.Answers.{same-answer}
 use Rattle.format.specs.Names.{known, knownKind, contents, subsections, payload, judgeNames}
 use Rattle.format.specs.Numbers.{number, groups}
-use Rattle.format.specs.Parts.{sized, name, remaining}
+use Rattle.format.specs.Parts.{sized, name}
 use Rattle.format.specs.Questions.{Question, moduleName, idOf, queryOf, answer, asked, askAt, ask, asPlace, asBytes, answered}
 use Rattle.format.specs.Tables.{lookup, mapTable}
-use Rattle.format.specs.Text.{utf8, continues, following, wellFormed}
+use Rattle.format.specs.Text.{utf8, continues}
 use Rattle.format.specs.declared.Answer.{Answer}
 use Rattle.format.specs.declared.Answer.the-variants.{Found}
 
@@ -23,5 +23,5 @@ name-call = calls-answer document-names-answered
 
 -- An empty name is found with length 0, and so told from none.
 pub empty-name-told : (r : Answer) → answered r ≡ asPlace (ask moduleName (hex "00 01 00")) → r ≡ Found (record { offset = record { 0 = 3 }; length = 0 })
-unfolding hex digit number groups utf8 continues following wellFormed sized name remaining lookup known knownKind contents subsections payload judgeNames answer asked idOf queryOf askAt ask asPlace
+unfolding hex digit number groups utf8 continues sized name lookup known knownKind contents subsections payload judgeNames answer asked idOf queryOf askAt ask asPlace
 empty-name-told r e = same-answer r (Found (record { offset = record { 0 = 3 }; length = 0 })) e
