@@ -3,4 +3,3 @@ pub mod AnswerLaws
 pub mod WholeLaws
 pub mod TakenLaws
 pub mod Same
-pub mod Demands

@@ -1,1 +1,2 @@
 pub mod Judgements
+pub mod Demands

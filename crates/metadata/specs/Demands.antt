@@ -5,10 +5,16 @@ use mathlib.Core.Path.{_≡_}
 use Rattle.format.specs.Calls.{CallAnswers, calls-answer, CallHints, hints-call}
 use Rattle.format.specs.Canonical.{bareItems}
 use Rattle.format.specs.Demands.{ItemQuestion, any-metadata-answered}
+use Rattle.format.specs.Examples.{hex, digit}
 use Rattle.format.specs.Holding.{HasWithin}
-use Rattle.format.specs.Metadata.{anyItem, judgeMetadata, askMetadata, askHint, hintAnswered}
+use Rattle.format.specs.Laws.Answers.{same-answer}
+use Rattle.format.specs.Metadata.{anyItem, metadata, judgeMetadata, itemAt, askMetadata, askHint, hintAnswered}
+use Rattle.format.specs.Numbers.{number, groups}
+use Rattle.format.specs.Parts.{sized}
+use Rattle.format.specs.Tables.{lookup, rows, table}
 use Rattle.format.specs.Questions.{asPlace, asBytes, answered}
 use Rattle.format.specs.declared.Answer.{Answer}
+use Rattle.format.specs.declared.Answer.the-variants.{Found}
 use Rattle.format.specs.declared.CodeOffset.{CodeOffset}
 use Rattle.format.specs.declared.FunctionIndex.{FunctionIndex}
 use Rattle.format.specs.declared.HintAnswer.{HintAnswer}
@@ -20,3 +26,8 @@ metadata-call f at = calls-answer any-metadata-answered (f, at)
 -- "For hints it is none, likely, unlikely or a refusal."
 pub hint-call : (f : FunctionIndex) (at : CodeOffset) (p : List ℕ) (r : HintAnswer) → hintAnswered r ≡ askHint f at 0 p → CallHints f at p r
 hint-call = hints-call
+
+-- "Offsets strictly rising within a function": two functions may have data at one offset.
+pub each-function-anew : (r : Answer) → answered r ≡ asPlace (askMetadata anyItem (record { 0 = 2 }) (record { 0 = 5 }) 0 (hex "02 00 01 05 01 41 02 01 05 01 42")) → r ≡ Found (record { offset = record { 0 = 10 }; length = 1 })
+unfolding hex digit number groups sized lookup rows table anyItem metadata judgeMetadata itemAt askMetadata asPlace
+each-function-anew r e = same-answer r (Found (record { offset = record { 0 = 10 }; length = 1 })) e
