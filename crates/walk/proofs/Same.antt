@@ -1,15 +1,19 @@
 -- Two results that meet one promise of the walk are equal.
 use Prim.Native.Nat.{ℕ}
-use mathlib.Core.List.{List}
+use mathlib.Core.Bool.{Bool, true, false}
+use mathlib.Core.List.{List, []}
+use mathlib.Core.Option.{Option, none, some}
 use mathlib.Core.Path.{_≡_, refl, sym, ap, _∙_}
-use Rattle.format.specs.Walk.{Custom as CustomSection, Section as AnySection, seeing}
+use Rattle.format.specs.Walk.{Custom as CustomSection, Section as AnySection, seeing, isCalled, nameSection, hintSection}
 use Rattle.format.specs.Laws.Outcomes.{not-got, got-value, got-next, not-accepted, accepted-is}
 use Rattle.format.specs.Laws.Options.{not-some, some-is}
-use Rattle.format.specs.Laws.Refusals.{same-judgement, same-stop}
+use Rattle.format.specs.Laws.Refusals.{told-apart, same-judgement, same-stop}
+use Rattle.format.specs.Laws.Answers.{same-answer}
+use Rattle.format.specs.Bytes.{ascii, same}
 use Rattle.reading.proofs.Same.{same-part}
-use Rattle.walk.specs.Sections.{seenOf, customOf, sectionOf, CustomInside, SectionInside}
+use Rattle.walk.specs.Sections.{seenOf, customOf, sectionOf, CustomInside, SectionInside, ruling, IdRuled, NameRuled, Sees, Calls, isName, isHints}
 use Rattle.walk.specs.Steps.{Begins, Steps}
-use Rattle.walk.specs.Surveys.{sectionAnswered, counted}
+use Rattle.walk.specs.Surveys.{sectionAnswered, counted, Found as Gathered, foundOf, Surveys}
 use Rattle.walk.specs.declared.Counted.{Counted}
 use Rattle.walk.specs.declared.Counted.the-variants.{Count, Refused as NotCounted}
 use Rattle.walk.specs.declared.step.Began.{Began}
@@ -20,6 +24,14 @@ use Rattle.walk.specs.declared.step.Section.{Section}
 use Rattle.walk.specs.declared.step.Step.{Step}
 use Rattle.walk.specs.declared.step.Step.the-variants.{Section as ASection, Done, Refused}
 use Rattle.walk.specs.declared.step.Walk.{Walk}
+use Rattle.walk.specs.declared.survey.Surveyed.{Surveyed}
+use Rattle.walk.specs.declared.survey.Surveyed.the-variants.{Done as Surveyed-whole, Refused as NotSurveyed}
+use Rattle.walk.specs.declared.survey.Tally.{Tally}
+use Rattle.walk.specs.declared.rules.Seen.{Seen}
+use Rattle.walk.specs.declared.rules.Called.{Called}
+use Rattle.walk.specs.declared.rules.Called.the-variants.{Name, Hints, Other}
+use Rattle.walk.specs.declared.rules.Verdict.{Verdict}
+use Rattle.walk.specs.declared.rules.Verdict.the-variants.{Fine, Against}
 use Rattle.walk.specs.declared.survey.SectionAnswer.{SectionAnswer}
 use Rattle.walk.specs.declared.survey.SectionAnswer.the-variants.{None as NoSection, Found, Refused as NotFound}
 
@@ -80,3 +92,62 @@ step-same Done (Refused r) p q = absurd (not-got (sym (p .means ∙ sym (q .mean
 step-same (Refused r) (ASection t u) p q = absurd (not-got (p .means ∙ sym (q .means)))
 step-same (Refused r) Done p q = absurd (not-got (p .means ∙ sym (q .means)))
 step-same (Refused r) (Refused s) p q = ap Refused (same-stop (p .means ∙ sym (q .means)))
+
+-- one pass over a module
+same-tally : (t u : Tally) → foundOf t ≡ foundOf u → t ≡ u
+same-tally t u e =
+    let sections = section-same (t .section) (u .section) (ap (λ (f : Gathered). f .section) e) in
+    let payloads = same-answer (t .payload) (u .payload) (ap (λ (f : Gathered). f .payload) e) in
+    λ i. record { count = e i .count; section = sections i; payload = payloads i }
+
+pub survey-same : {m : List ℕ} {position : ℕ} {name : List ℕ} (a b : Surveyed) → Surveys m position name a → Surveys m position name b → a ≡ b
+survey-same (Surveyed-whole t) (Surveyed-whole u) p q = ap Surveyed-whole (same-tally t u (accepted-is (p .says ∙ sym (q .says))))
+survey-same (Surveyed-whole t) (NotSurveyed r) p q = absurd (not-accepted (sym (p .says ∙ sym (q .says))))
+survey-same (NotSurveyed r) (Surveyed-whole t) p q = absurd (not-accepted (p .says ∙ sym (q .says)))
+survey-same (NotSurveyed r) (NotSurveyed s) p q = ap NotSurveyed (same-judgement (p .says ∙ sym (q .says)))
+
+-- the rules
+same-verdict : (v w : Verdict) → ruling v 0 0 [] ≡ ruling w 0 0 [] → v ≡ w
+same-verdict Fine Fine e = refl
+same-verdict Fine (Against r) e = absurd (not-got (sym e))
+same-verdict (Against r) Fine e = absurd (not-got e)
+same-verdict (Against r) (Against s) e = ap Against (told-apart r s cc)
+
+pub id-same : {seen : Seen} {id : ℕ} (v w : Verdict) → IdRuled seen id v → IdRuled seen id w → v ≡ w
+id-same v w p q = same-verdict v w (p .says 0 0 [] ∙ sym (q .says 0 0 []))
+
+-- a section that is called so
+called-as : List ℕ → Option CustomSection
+called-as x = some (record { name = record { at = 0; bytes = x }; payload = record { at = 0; bytes = [] } })
+
+pub name-same : {seen : Seen} (called : Called) (v w : Verdict) → NameRuled seen called v → NameRuled seen called w → v ≡ w
+unfolding called-as isCalled same nameSection hintSection ascii
+name-same Name v w p q = let c = called-as nameSection in same-verdict v w (p .says c refl refl 0 0 [] ∙ sym (q .says c refl refl 0 0 []))
+name-same Hints v w p q = let c = called-as hintSection in same-verdict v w (p .says c refl refl 0 0 [] ∙ sym (q .says c refl refl 0 0 []))
+name-same Other v w p q = same-verdict v w (p .says none refl refl 0 0 [] ∙ sym (q .says none refl refl 0 0 []))
+
+pub see-same : {seen : Seen} {id : ℕ} {called : Called} (a b : Seen) → Sees seen id called a → Sees seen id called b → a ≡ b
+see-same a b p q =
+    let ranks = p .rank-is ∙ sym (q .rank-is) in
+    let codes = p .code-is ∙ sym (q .code-is) in
+    let names = p .name-is ∙ sym (q .name-is) in
+    let hints = p .hints-is ∙ sym (q .hints-is) in
+    λ i. record { rank = ranks i; code = codes i; name = names i; hints = hints i }
+
+-- what is called so, from whether it is
+callOf : Bool → Bool → Called
+callOf true h = Name
+callOf false true = Hints
+callOf false false = Other
+
+call-is : (c : Called) → callOf (isName c) (isHints c) ≡ c
+unfolding callOf
+call-is Name = refl
+call-is Hints = refl
+call-is Other = refl
+
+pub called-same : {name : List ℕ} (a b : Called) → Calls name a → Calls name b → a ≡ b
+called-same a b p q =
+    let names = sym (p .as-name) ∙ q .as-name in
+    let hints = sym (p .as-hints) ∙ q .as-hints in
+    sym (call-is a) ∙ (λ i. callOf (names i) (hints i)) ∙ call-is b
