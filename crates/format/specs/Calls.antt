@@ -33,7 +33,7 @@ pub record FoundAs (lent : List ℕ) (r : Answer) (bytes x : List ℕ) : Type 0 
   pub second : bytes ≡ x
 
 -- Of an accepted payload the two calls find exactly what it holds, and none exactly where it holds nothing; they refuse exactly what the judgement refuses.
-module _ {A Q : Type 0} (judgement : List ℕ → Judged A) (answer : Q → List ℕ → Judged (Option Part)) (Held : A → Q → List ℕ → Type 0) where
+module _ {A Q : Type 0} (judgement : List ℕ → Judged A) (Held : A → Q → List ℕ → Type 0) where
   pub record CallAnswers (q : Q) (p : List ℕ) (r : Answer) (bytes : List ℕ) : Type 0 where
     pub found-exactly : (a : Accepted judgement p) (x : List ℕ) → FoundAs p r bytes x ↔ Held (a .value) q x
     pub none-exactly : (a : Accepted judgement p) → (r ≡ None) ↔ ((x : List ℕ) → Held (a .value) q x → ⊥)
@@ -55,7 +55,7 @@ module _ {A Q : Type 0} {judgement : List ℕ → Judged A} {answer : Q → List
       let very = answers .very-bytes q p here in
       record { place = _; is = is; inside = very .inside; there = very .bytes ∙ same; second = second ∙ same }
 
-  pub calls-answer : (q : Q) (p : List ℕ) (r : Answer) (bytes : List ℕ) → answered r ≡ asPlace (answer q p) → bytes ≡ asBytes (answer q p) → CallAnswers judgement answer Held q p r bytes
+  pub calls-answer : (q : Q) (p : List ℕ) (r : Answer) (bytes : List ℕ) → answered r ≡ asPlace (answer q p) → bytes ≡ asBytes (answer q p) → CallAnswers judgement Held q p r bytes
   calls-answer q p r bytes e b = record {
     found-exactly = λ a x. (λ f. answers .found a q x .0 (found-told (answer q p) e b (f .is) (f .second)), λ h. there-found q p e b (answers .found a q x .1 h));
     none-exactly = λ a. Iff·trans (none-told (answer q p) e) (answers .none-found a q);

@@ -20,7 +20,7 @@ use Rattle.format.specs.declared.FunctionIndex.{FunctionIndex}
 use Rattle.format.specs.declared.HintAnswer.{HintAnswer}
 
 -- Demand 2. "A lookup gives the mapped name as the very bytes of the section, or none exactly when the index has no name." So for the data at an offset of a function.
-pub metadata-call : (f : FunctionIndex) (at : CodeOffset) (p : List ℕ) (r : Answer) (bytes : List ℕ) → answered r ≡ asPlace (askMetadata anyItem f at 0 p) → bytes ≡ asBytes (askMetadata anyItem f at 0 p) → CallAnswers {Q = ItemQuestion} (judgeMetadata anyItem 0) (λ q p. askMetadata anyItem (q .0) (q .1) 0 p) (λ t q x. HasWithin (q .0 .0) (q .1 .0) x (bareItems t)) (f, at) p r bytes
+pub metadata-call : (f : FunctionIndex) (at : CodeOffset) (p : List ℕ) (r : Answer) (bytes : List ℕ) → answered r ≡ asPlace (askMetadata anyItem f at 0 p) → bytes ≡ asBytes (askMetadata anyItem f at 0 p) → CallAnswers {Q = ItemQuestion} (judgeMetadata anyItem 0) (λ t q x. HasWithin (q .0 .0) (q .1 .0) x (bareItems t)) (f, at) p r bytes
 metadata-call f at = calls-answer any-metadata-answered (f, at)
 
 -- "For hints it is none, likely, unlikely or a refusal."

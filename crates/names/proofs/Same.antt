@@ -1,15 +1,24 @@
--- Two results that meet one promise of the judgement are equal.
+-- Two results that meet one promise are equal.
 use Prim.Native.Nat.{ℕ}
 use mathlib.Core.List.{List}
-use mathlib.Core.Option.{Option}
+use mathlib.Core.Option.{Option, none, some}
 use mathlib.Core.Path.{_≡_, refl, sym, ap, subst, _∙_}
+use Rattle.format.specs.Reading.{Reader}
 use Rattle.format.specs.Parts.{Part}
-use Rattle.format.specs.Tables.{Table}
-use Rattle.format.specs.Laws.Outcomes.{not-accepted, accepted-is}
+use Rattle.format.specs.Tables.{Table, lookup}
+use Rattle.format.specs.Names.{Kind as AnyKind, oneName, nameMap, indirectMap, kept}
+use Rattle.format.specs.Laws.Outcomes.{not-got, got-value, got-next, not-accepted, accepted-is}
 use Rattle.format.specs.Laws.Options.{not-some, some-is}
-use Rattle.format.specs.Laws.Refusals.{same-judgement}
-use Rattle.reading.proofs.Same.{same-part}
-use Rattle.names.specs.Places.{subOf, subInside, Stands, AllStand, Accepts, Judges}
+use Rattle.format.specs.Laws.Refusals.{same-judgement, same-stop}
+use Rattle.reading.specs.declared.Cursor.{Cursor}
+use Rattle.reading.proofs.Same.{same-cursor, same-part}
+use Rattle.names.specs.Contents.{kindMeant}
+use Rattle.names.specs.Frames.{Headed, FrameReads}
+use Rattle.names.specs.Places.{subOf, subInside, Stands, AllStand, Accepts, Judges, placesOf, Puts}
+use Rattle.names.specs.declared.kinds.Kind.{Kind}
+use Rattle.names.specs.declared.kinds.Kind.the-variants.{OneName, NameMap, IndirectMap, Kept}
+use Rattle.names.specs.declared.frames.FrameRead.{FrameRead}
+use Rattle.names.specs.declared.frames.FrameRead.the-variants.{Frame, End, Refused as NoFrame}
 use Rattle.names.specs.declared.places.Sub.{Sub}
 use Rattle.names.specs.declared.places.Sub.the-variants.{Absent, At}
 use Rattle.names.specs.declared.places.Places.{Places}
@@ -46,3 +55,61 @@ judge-same s at bs (Accepted p) (Accepted q) i j = ap Accepted (accepts-same p q
 judge-same s at bs (Accepted p) (Refused r) i j = absurd (not-accepted (sym (j .says) ∙ i .says .judged))
 judge-same s at bs (Refused r) (Accepted q) i j = absurd (not-accepted (sym (i .says) ∙ j .says .judged))
 judge-same s at bs (Refused r) (Refused t) i j = ap Refused (same-judgement (sym (i .says) ∙ j .says))
+
+-- the kind that is meant, as the code has it
+kindOf : AnyKind → Kind
+kindOf oneName = OneName
+kindOf nameMap = NameMap
+kindOf indirectMap = IndirectMap
+kindOf kept = Kept
+
+kind-is : (k : Kind) → kindOf (kindMeant k) ≡ k
+unfolding kindOf
+kind-is OneName = refl
+kind-is NameMap = refl
+kind-is IndirectMap = refl
+kind-is Kept = refl
+
+pub kind-same : (a b : Kind) → kindMeant a ≡ kindMeant b → a ≡ b
+kind-same a b e = sym (kind-is a) ∙ ap kindOf e ∙ kind-is b
+
+-- a subsection
+same-frame : {read : ℕ → Reader (Option (Headed Part))} {least : ℕ} {s : List ℕ} {c : Cursor} {id k : ℕ} {part next part′ next′ : Cursor} → FrameReads read least s c (Frame id part next) → FrameReads read least s c (Frame k part′ next′) → Frame id part next ≡ Frame k part′ next′
+same-frame {part = part} {next = next} {part′ = part′} {next′ = next′} p q =
+    let one = p .means ∙ sym (q .means) in
+    let headed = some-is (got-value one) in
+    let parts = same-part part part′ (p .forward .in-part) (q .forward .in-part) (ap (λ (h : Headed Part). h .value) headed) in
+    let behind = same-cursor next next′ (got-next one) (p .forward .same-end ∙ sym (q .forward .same-end)) in
+    λ i. Frame (headed i .id) (parts i) (behind i)
+
+pub frame-same : {read : ℕ → Reader (Option (Headed Part))} {least : ℕ} {s : List ℕ} {c : Cursor} (a b : FrameRead) → FrameReads read least s c a → FrameReads read least s c b → a ≡ b
+frame-same (Frame id part next) (Frame k part′ next′) p q = same-frame p q
+frame-same (Frame id part next) End p q = absurd (not-some (sym (got-value (p .means ∙ sym (q .means)))))
+frame-same (Frame id part next) (NoFrame r) p q = absurd (not-got (sym (p .means ∙ sym (q .means))))
+frame-same End (Frame k part′ next′) p q = absurd (not-some (got-value (p .means ∙ sym (q .means))))
+frame-same End End p q = refl
+frame-same End (NoFrame r) p q = absurd (not-got (sym (p .means ∙ sym (q .means))))
+frame-same (NoFrame r) (Frame k part next) p q = absurd (not-got (p .means ∙ sym (q .means)))
+frame-same (NoFrame r) End p q = absurd (not-got (p .means ∙ sym (q .means)))
+frame-same (NoFrame r) (NoFrame t) p q = ap NoFrame (same-stop (p .means ∙ sym (q .means)))
+
+-- the places by id
+orAbsent : Option Sub → Sub
+orAbsent none = Absent
+orAbsent (some x) = x
+
+at-id : ℕ → Table Sub → Sub
+at-id k t = orAbsent (lookup k t)
+
+pub placed-same : {p : Places} {id : ℕ} {part : Cursor} (a b : Places) → Puts p id part a → Puts p id part b → a ≡ b
+unfolding orAbsent at-id lookup placesOf
+placed-same a b p q =
+    let e = p .says ∙ sym (q .says) in
+    let there : (k : ℕ) → at-id k (placesOf a) ≡ at-id k (placesOf b) = λ k. ap (at-id k) e in
+    let modules : a .module ≡ b .module = there 0 in
+    let functions : a .functions ≡ b .functions = there 1 in
+    let locals : a .locals ≡ b .locals = there 2 in
+    let types : a .types ≡ b .types = there 4 in
+    let fields : a .fields ≡ b .fields = there 10 in
+    let tags : a .tags ≡ b .tags = there 11 in
+    λ i. record { «module» = modules i; functions = functions i; locals = locals i; types = types i; fields = fields i; tags = tags i }

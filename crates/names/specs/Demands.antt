@@ -18,7 +18,7 @@ use Rattle.format.specs.declared.Answer.{Answer}
 use Rattle.format.specs.declared.Answer.the-variants.{Found}
 
 -- Demand 2. "A lookup gives the mapped name as the very bytes of the section, or none exactly when the index has no name."
-pub name-call : (q : Question) (p : List ℕ) (r : Answer) (bytes : List ℕ) → answered r ≡ asPlace (ask q p) → bytes ≡ asBytes (ask q p) → CallAnswers (judgeNames knownKind 0) ask (λ t q x. Holds (idOf q) (queryOf q) (mapTable bare t) x) q p r bytes
+pub name-call : (q : Question) (p : List ℕ) (r : Answer) (bytes : List ℕ) → answered r ≡ asPlace (ask q p) → bytes ≡ asBytes (ask q p) → CallAnswers (judgeNames knownKind 0) (λ t q x. Holds (idOf q) (queryOf q) (mapTable bare t) x) q p r bytes
 name-call = calls-answer document-names-answered
 
 -- An empty name is found with length 0, and so told from none.
