@@ -1,4 +1,4 @@
--- Further cases: what document 01 says beside its sixteen examples, and where two careful readers of it could differ (docs/DECISIONS.md). Computed by the checker, as the examples are. Assumes nothing.
+-- Further cases: what the rules say beside the sixteen examples, and where two careful readers could differ (docs/DECISIONS.md). Computed by the checker, as the examples are. Assumes nothing.
 use Prim.Native.Nat.{ℕ}
 use Prim.Native.String.{String}
 use mathlib.Core.List.{List, [], _∷_, _++_, map}

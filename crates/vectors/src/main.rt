@@ -1,4 +1,4 @@
-// Runs the documents' cases through the code and prints each result in words. What it prints is held to the file stdout.
+// Runs the worked cases through the code and prints each result in words. What it prints is held to the file stdout.
 use format::CodeOffset;
 use format::FieldIndex;
 use format::FunctionIndex;
@@ -89,7 +89,7 @@ fn modules() {
     );
 }
 
-// The payload P of the document.
+// The payload P of the examples.
 fn payload() {
     let p = b"\x00\x02\x01\x6D\x01\x07\x02\x00\x01\x61\x03\x01\x62\x02\x06\x01\x03\x01\x00\x01\x78";
     say_names(b"P", judging::judge(p));
