@@ -3,6 +3,7 @@ ghost use mathlib.Core.List.{[], _∷_};
 ghost use Prim.Native.Nat.{_≤_, _<_, _+_};
 ghost use lib.ListN.{length};
 ghost use Rattle.format.specs.Listing.{decimal};
+ghost use Rattle.format.specs.Numbers.{shortest};
 ghost use Rattle.writing.specs.Wrote.{Wrote};
 
 // As many digits as the greatest 64-bit number has.
@@ -10,6 +11,11 @@ const MOST_DIGITS: usize = 20;
 
 // The digit 0 in ASCII: the others follow it.
 const ZERO: u8 = b'0';
+
+// A byte of a number holds seven bits; its eighth says that another follows.
+const GROUP: u32 = 128;
+
+const FOLLOWED: u8 = 128;
 
 pub fn put_byte(out: &mut [u8], at: usize, b: u8) -> usize
     requires { ⌜ at < length (now out) ⌝ }
@@ -47,4 +53,20 @@ pub fn put_decimal(out: &mut [u8], at: usize, n: u64) -> usize
     }
     text[first] = ZERO + rest as u8;
     put_bytes(out, at, &text[first..])
+}
+
+// A number in its fewest bytes.
+pub fn put_number(out: &mut [u8], at: usize, n: u32) -> usize
+    requires { ⌜ at + length (shortest n) ≤ length (now out) ⌝ }
+    ensures { λ r. ⌜ Wrote (now (out .entry)) (now (out .exit)) at r (shortest n) ⌝ }
+{
+    let mut next = at;
+    let mut rest = n;
+    while GROUP <= rest {
+        out[next] = FOLLOWED + (rest % GROUP) as u8;
+        next += 1;
+        rest = rest / GROUP;
+    }
+    out[next] = rest as u8;
+    next + 1
 }
