@@ -20,4 +20,4 @@ pub mod Examples
 pub mod Cases
 pub mod Laws
 pub mod Demands
-pub mod Calls
+pub mod Results

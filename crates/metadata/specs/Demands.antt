@@ -2,7 +2,7 @@
 use Prim.Native.Nat.{ℕ}
 use mathlib.Core.List.{List}
 use mathlib.Core.Path.{_≡_}
-use Rattle.format.specs.Calls.{CallAnswers, calls-answer, CallHints, hints-call}
+use Rattle.format.specs.Results.{CallAnswers, calls-answer, CallHints, hints-call}
 use Rattle.format.specs.Canonical.{bareItems}
 use Rattle.format.specs.Demands.{ItemQuestion, any-metadata-answered}
 use Rattle.format.specs.Examples.{hex, digit}

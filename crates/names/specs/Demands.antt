@@ -2,7 +2,7 @@
 use Prim.Native.Nat.{ℕ}
 use mathlib.Core.List.{List}
 use mathlib.Core.Path.{_≡_}
-use Rattle.format.specs.Calls.{CallAnswers, calls-answer}
+use Rattle.format.specs.Results.{CallAnswers, calls-answer}
 use Rattle.format.specs.Canonical.{bare}
 use Rattle.format.specs.Demands.{document-names-answered}
 use Rattle.format.specs.Examples.{hex, digit}
