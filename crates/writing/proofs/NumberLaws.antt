@@ -81,3 +81,33 @@ module _ {old : List ℕ} {at n : ℕ} {new : List ℕ} {next rest : ℕ} where
     numbered-long b = length-set new next b ∙ numbered-length
 
 pub ruleset numbers = (numbered-none, numbered-more, numbered-room, numbered-length, numbered-long, numbered-all, needs)
+
+-- how many bytes that is
+one-byte-more : (more v k : ℕ) → 128 ≤ v → k ≡ length (fewest more (v / 128)) → 1 + k ≡ length (fewest (suc more) v)
+one-byte-more more v k h e = rw (fewest-more more v h) (omega (arith, e))
+
+short : (more v : ℕ) → v < 128 → 1 ≡ length (fewest more v)
+short more v h = rw (fewest-last more v h)
+
+module _ {n : ℕ} where
+  pub takes-one : n < 128 → 1 ≡ length (shortest n)
+  unfolding shortest
+  takes-one h = short 4 n h
+
+  pub takes-two : 128 ≤ n → n < 16_384 → 2 ≡ length (shortest n)
+  unfolding shortest
+  takes-two l h = one-byte-more 3 n 1 l (short 3 (n / 128) (omega arith))
+
+  pub takes-three : 16_384 ≤ n → n < 2_097_152 → 3 ≡ length (shortest n)
+  unfolding shortest
+  takes-three l h = one-byte-more 3 n 2 (omega arith) (one-byte-more 2 (n / 128) 1 (omega arith) (short 2 (n / 128 / 128) (omega arith)))
+
+  pub takes-four : 2_097_152 ≤ n → n < 268_435_456 → 4 ≡ length (shortest n)
+  unfolding shortest
+  takes-four l h = one-byte-more 3 n 3 (omega arith) (one-byte-more 2 (n / 128) 2 (omega arith) (one-byte-more 1 (n / 128 / 128) 1 (omega arith) (short 1 (n / 128 / 128 / 128) (omega arith))))
+
+  pub takes-five : 268_435_456 ≤ n → n < limit32 → 5 ≡ length (shortest n)
+  unfolding shortest
+  takes-five l h = one-byte-more 3 n 4 (omega arith) (one-byte-more 2 (n / 128) 3 (omega arith) (one-byte-more 1 (n / 128 / 128) 2 (omega arith) (one-byte-more 0 (n / 128 / 128 / 128) 1 (omega arith) (short 0 (n / 128 / 128 / 128 / 128) (omega arith)))))
+
+pub ruleset lengths = (takes-one, takes-two, takes-three, takes-four, takes-five, needs)

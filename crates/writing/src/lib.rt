@@ -1,5 +1,6 @@
 // Puts bytes into a lent output, one thing after the other: each function returns where the next one starts.
 ghost use mathlib.Core.List.{[], _∷_};
+ghost use mathlib.Core.Path.{_≡_};
 ghost use Prim.Native.Nat.{_≤_, _<_, _+_};
 ghost use lib.ListN.{length};
 ghost use Rattle.format.specs.Listing.{decimal};
@@ -53,6 +54,25 @@ pub fn put_decimal(out: &mut [u8], at: usize, n: u64) -> usize
     }
     text[first] = ZERO + rest as u8;
     put_bytes(out, at, &text[first..])
+}
+
+// How many bytes a number takes at least: one for each seven bits.
+pub fn number_length(n: u32) -> usize
+    ensures { λ r. ⌜ r ≡ length (shortest n) ⌝ }
+{
+    if n < 1 << 7 {
+        return 1;
+    }
+    if n < 1 << 14 {
+        return 2;
+    }
+    if n < 1 << 21 {
+        return 3;
+    }
+    if n < 1 << 28 {
+        return 4;
+    }
+    5
 }
 
 // A number in its fewest bytes.
