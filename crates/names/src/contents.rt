@@ -39,9 +39,10 @@ fn ended(found: Seek) -> Answer
         Seek::None(next) => filled(next, Answer::None),
         Seek::Found(part, next) => {
             let at = part.at;
+            let length = part.end - at;
             let place = Place {
                 offset: Offset(at),
-                length: part.end - at,
+                length,
             };
             filled(next, Answer::Found(place))
         }

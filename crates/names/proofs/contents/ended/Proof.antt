@@ -14,8 +14,8 @@ filled-requires c κs = search ended-steps
 enum-known-found-3 : tie.Need-enum-known-found-3
 enum-known-found-3 c = search ended-steps
 
-sub-t11 : tie.Need-sub-t11
-sub-t11 c = search ended-steps
+sub-length : tie.Need-sub-length
+sub-length c = search ended-steps
 
 filled-requires-2 : tie.Need-filled-requires-2
 filled-requires-2 c κs = search ended-steps
@@ -37,7 +37,7 @@ ended-spec =
     enum-known-found-2
     filled-requires
     enum-known-found-3
-    sub-t11
+    sub-length
     filled-requires-2
     returns
     returns-2
