@@ -208,10 +208,10 @@ fn tables_rows(c: Cursor, s: &[u8], item: Item, key: u32, inner: u32, n: u32) ->
             RowRead::Refused(r) => {
                 return Seek::Refused(r);
             }
-            RowRead::Row(k, answer, after) => {
-                held = kept(held, key, k, answer);
+            RowRead::Row(outer, answer, after) => {
+                held = kept(held, key, outer, answer);
                 next = after;
-                least = (k as u64) + 1;
+                least = (outer as u64) + 1;
                 more = more - 1;
             }
         }

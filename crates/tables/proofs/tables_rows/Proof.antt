@@ -22,8 +22,8 @@ enum-known-r c = search turns
 returns : tie.Need-returns Inv-loop μ-loop
 returns c = search turns
 
-enum-known-k : tie.Need-enum-known-k Inv-loop μ-loop
-enum-known-k c = search turns
+enum-known-outer : tie.Need-enum-known-outer Inv-loop μ-loop
+enum-known-outer c = search turns
 
 kept-requires : tie.Need-kept-requires Inv-loop μ-loop
 kept-requires c κs = search turns
@@ -59,7 +59,7 @@ tables-rows-spec =
     group-requires
     enum-known-r
     returns
-    enum-known-k
+    enum-known-outer
     kept-requires
     cast-least
     add-least
