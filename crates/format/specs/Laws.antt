@@ -21,3 +21,4 @@ pub mod Questions
 pub mod Walk
 pub mod Listing
 pub mod Calls
+pub mod Outputs

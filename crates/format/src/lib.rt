@@ -69,6 +69,12 @@ pub enum HintAnswer {
     Refused(Refusal),
 }
 
+// The answer to a write: how many bytes it left at the front of the output.
+pub enum Written {
+    Length(usize),
+    Refused(Refusal),
+}
+
 impl Reason {
     // The number that a host sees and may store.
     pub fn number(self) -> u32

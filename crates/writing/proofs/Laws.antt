@@ -2,16 +2,20 @@
 use Prim.Native.Nat.{ℕ, zero, suc, _+_, _-_, _/_, _%_, _^_, _≤_, _<_}
 use mathlib.Core.List.{List, [], _∷_, _++_, append-assoc}
 use mathlib.Core.Path.{_≡_, refl, ap, _∙_, sym}
-use native.Mathlib.Nat.{pow-succ', add-zero}
+use native.Mathlib.Nat.{pow-succ', add-zero, zero-add}
 use native.Mathlib.Numerals.{add-one}
 use native.Mathlib.Omega.{arith}
 use borrow.Author.Tests.{lt-ltb, le-ltb, ltb-true, ltb-false}
 use lib.Dec.{ltb}
 use lib.ListN.{length, take, drop, set, getD, length-set, length-append, length-take, length-drop, take-append-drop, drop-of-length-le}
 use lib.Seq.{set-split, take-suc, take-all, take-at, drop-at, drop-drop, drop-cons, drop-set-lt, getD-set-same}
+use Rattle.format.specs.Reading.{Judged, accepted}
 use Rattle.format.specs.Listing.{digits, decimal}
+use Rattle.format.specs.Outputs.{Writes}
 use Rattle.format.specs.Laws.Listing.{digits-enough}
 use Rattle.format.specs.Laws.Outcomes.{byTest}
+use Rattle.format.specs.Laws.Outputs.{writes-all}
+use Rattle.format.specs.declared.Written.the-variants.{Length}
 use Rattle.writing.specs.Wrote.{Wrote}
 
 pub wrote-nothing : {old : List ℕ} {at : ℕ} → at ≤ length old → Wrote old old at at []
@@ -52,6 +56,12 @@ pub wrote-same : {old new new′ : List ℕ} {at next next′ : ℕ} {bytes : Li
 wrote-same p q =
     let ends = p .next-is ∙ sym (q .next-is) in
     (p .written ∙ rw ends (sym (q .written)), ends)
+
+-- a write from the front on is what the answer to a write promises
+pub writes-wrote : {wanted : Judged (List ℕ)} {old new bytes : List ℕ} {next : ℕ} → wanted ≡ accepted bytes → Wrote old new 0 next bytes → Writes wanted old new (Length next)
+writes-wrote {bytes = bytes} {next = next} e w =
+    let end : next ≡ length bytes = w .next-is ∙ zero-add (length bytes) in
+    rw end (writes-all e (omega arith) (rw end at (w .written)))
 
 -- The loop that copies bytes: the first `k` of them are written
 pub record Copied (old : List ℕ) (at : ℕ) (bytes new : List ℕ) (k : ℕ) : Type 0 where
