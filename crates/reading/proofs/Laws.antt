@@ -7,7 +7,7 @@ use borrow.Author.Tests.{ltb-true, ltb-false}
 use lib.Dec.{ltb}
 use lib.ListN.{length, take, drop, take-append-drop}
 use lib.Seq.{slice, slice-cons, length-slice, length-take-le, take-length}
-use Rattle.format.specs.Reading.{got}
+use Rattle.format.specs.Reading.{got, Reader}
 use Rattle.format.specs.Numbers.{number}
 use Rattle.format.specs.Parts.{sized, name}
 use Rattle.format.specs.Text.{utf8}
@@ -16,7 +16,7 @@ use Rattle.format.specs.Laws.Numbers.{shortest-positive}
 use Rattle.format.specs.Laws.Codecs.{number-sound}
 use Rattle.format.specs.Laws.Turns.{inSized, inTested}
 use Rattle.format.specs.Laws.Places.{Lies}
-use Rattle.format.specs.Laws.Passing.{number-passes, sized-passes}
+use Rattle.format.specs.Laws.Passing.{Passes, number-passes, sized-passes}
 use Rattle.format.specs.declared.Reason.the-variants.{NotText}
 use Rattle.reading.specs.Cursors.{Inside, left, partOf, NumberReads, PartReads}
 use Rattle.reading.specs.declared.Cursor.{Cursor}
@@ -25,23 +25,26 @@ use Rattle.reading.specs.declared.NumberRead.the-variants.{Value}
 use Rattle.reading.specs.declared.PartRead.{PartRead}
 use Rattle.reading.specs.declared.PartRead.the-variants.{Part as APart}
 
--- the bytes left are those of the slice from the offset to the part's end
-record At (s : List ℕ) (end o : ℕ) (bs : List ℕ) : Type 0 where
-  inside : o ≤ end
-  left-there : bs ≡ slice o end s
+-- A reading that goes byte by byte stays inside, and the bytes left are those of the slice from the offset to the part's end
+pub record Reached (s : List ℕ) (end o : ℕ) (rest : List ℕ) : Type 0 where
+  pub inside : o ≤ end
+  pub left-there : rest ≡ slice o end s
 
-at-step : (s : List ℕ) (end : ℕ) → end ≤ length s → (o b : ℕ) (bs : List ℕ) → At s end o (b ∷ bs) → At s end (suc o) bs
-at-step s end h o b bs a =
+reached-step : (s : List ℕ) (end : ℕ) → end ≤ length s → (o b : ℕ) (bs : List ℕ) → Reached s end o (b ∷ bs) → Reached s end (suc o) bs
+reached-step s end h o b bs a =
     byTest (ltb o end)
     (λ t. record { inside = ltb-true o end t; left-there = let c = slice-cons o end s 0 (ltb-true o end t) h in let l = a .left-there in cc })
     (λ t. absurd (omega (arith, ltb-false o end t, a .inside, ap length (a .left-there), length-slice o end s h)))
 
 module _ {s : List ℕ} {c : Cursor} where
-  here : Inside s c → At s (c .end) (c .at) (left s c)
+  here : Inside s c → Reached s (c .end) (c .at) (left s c)
   here i = record { inside = i .ahead; left-there = refl }
 
   length-left : Inside s c → length (left s c) ≡ c .end - c .at
   length-left i = length-slice (c .at) (c .end) s (i .within)
+
+pub reached : {A : Type 0} {read : Reader A} → ((Holds : ℕ → List ℕ → Type 0) → ((o b : ℕ) (bs : List ℕ) → Holds o (b ∷ bs) → Holds (suc o) bs) → Passes Holds read) → {s : List ℕ} {c : Cursor} → Inside s c → {v : A} {o : ℕ} {rest : List ℕ} → read (c .at) (left s c) ≡ got v o rest → Reached s (c .end) o rest
+reached passes {s} {c} i e = passes (Reached s (c .end)) (reached-step s (c .end) (i .within)) (c .at) (left s c) _ _ _ (here i) e
 
 -- A number
 module _ {s : List ℕ} {c : Cursor} {x : NumberRead} {v : ℕ} {next : Cursor} where
@@ -53,7 +56,7 @@ module _ {s : List ℕ} {c : Cursor} {x : NumberRead} {v : ℕ} {next : Cursor} 
 
   pub number-inside : Inside s c → NumberReads s c x → x ≡ Value v next → Inside s next
   number-inside i r e =
-      let there = number-passes (At s (c .end)) (at-step s (c .end) (i .within)) (c .at) (left s c) v (next .at) (left s next) (here i) (number-means r e) in
+      let there = reached number-passes i (number-means r e) in
       let same = number-end r e in
       record { ahead = omega (arith, there .inside); within = omega (arith, i .within) }
 
@@ -78,8 +81,8 @@ module _ {s : List ℕ} {c part next : Cursor} where
   sized-behind : Inside s c → sized (c .at) (left s c) ≡ got (partOf s part) (next .at) (left s next) → part .end ≡ next .at → next .end ≡ c .end → Behind s c part next
   sized-behind i e ends same =
       inSized (c .at) (left s c) e λ n o r e₁ fit is far rest.
-      let there = number-passes (At s (c .end)) (at-step s (c .end) (i .within)) (c .at) (left s c) n o r (here i) e₁ in
-      let after = sized-passes (At s (c .end)) (at-step s (c .end) (i .within)) (c .at) (left s c) _ (next .at) (left s next) (here i) e in
+      let there = reached number-passes i e₁ in
+      let after = reached sized-passes i e in
       let sound = number-sound (c .at) (left s c) e₁ .shorter in
       let o-is : o ≡ part .at = ap (λ p. p .at) is in
       let far-left : length r ≡ c .end - o = ap length (there .left-there) ∙ length-slice o (c .end) s (i .within) in

@@ -107,12 +107,12 @@ module _ {B : Type 0} (Fine : B → Type 0) where
     pub sorted : Sorted RowFine 0 t
 
 module _ {A B : Type 0} {read : Reader A} {plain : A → B} {write : B → List ℕ} {Fine : B → Type 0} (codec : Codec read plain write Fine) where
-  record RowsRead (n least : ℕ) (t : Table B) (rest bs : List ℕ) : Type 0 where
-    sorted : Sorted (RowFine Fine) least t
-    count : size t ≡ n
-    shorter : length (writeRows write t) + length rest ≤ length bs
+  pub record RowsRead (n least : ℕ) (t : Table B) (rest bs : List ℕ) : Type 0 where
+    pub sorted : Sorted (RowFine Fine) least t
+    pub count : size t ≡ n
+    pub shorter : length (writeRows write t) + length rest ≤ length bs
 
-  rows-sound : (n least o : ℕ) (bs : List ℕ) {t : Table A} {o′ : ℕ} {rest : List ℕ} → rows read n least o bs ≡ got t o′ rest → RowsRead n least (mapTable plain t) rest bs
+  pub rows-sound : (n least o : ℕ) (bs : List ℕ) {t : Table A} {o′ : ℕ} {rest : List ℕ} → rows read n least o bs ≡ got t o′ rest → RowsRead n least (mapTable plain t) rest bs
   unfolding rows mapTable writeRows size
   rows-sound zero least o bs e = rw (← got-value e, ← got-rest e) (record { sorted = end; count = refl; shorter = omega arith })
   rows-sound (suc n) least o bs e =

@@ -1,0 +1,56 @@
+-- What stands at a cursor and was accepted before, how long it is in its fewest bytes, and what a write leaves of it. Assumes nothing.
+use Prim.Native.Nat.{ℕ, _+_, _≤_}
+use mathlib.Core.List.{List}
+use mathlib.Core.Path.{_≡_}
+use lib.ListN.{length}
+use Rattle.format.specs.Reading.{got, Reader}
+use Rattle.format.specs.Parts.{Part, sized}
+use Rattle.format.specs.Tables.{Table, size, rows, table}
+use Rattle.reading.specs.Cursors.{Inside, left, partOf}
+use Rattle.reading.specs.declared.Cursor.{Cursor}
+use Rattle.writing.specs.Wrote.{Wrote}
+use Rattle.copying.specs.Bytes.{keptGroups, groupsOf}
+use Rattle.copying.specs.declared.Piece.{Piece}
+use Rattle.copying.specs.declared.Measured.{Measured}
+use Rattle.copying.specs.declared.Groups.{Groups}
+use Rattle.copying.specs.declared.Put.{Put}
+
+-- the value that is read there, and the cursor behind it
+pub record Stands {A : Type 0} (read : Reader A) (s : List ℕ) (c : Cursor) (v : A) (next : Cursor) : Type 0 where
+  pub inside : Inside s c
+  pub reads : read (c .at) (left s c) ≡ got v (next .at) (left s next)
+  pub behind : Inside s next
+  pub same-end : next .end ≡ c .end
+
+pub record Known {A : Type 0} (read : Reader A) (s : List ℕ) (c : Cursor) : Type 0 where
+  pub value : A
+  pub next : Cursor
+  pub stands : Stands read s c value next
+
+pub record Measures {A : Type 0} (read : Reader A) (write : A → List ℕ) (s : List ℕ) (c : Cursor) (r : Measured) : Type 0 where
+  pub value : A
+  pub stands : Stands read s c value (r .next)
+  pub long : r .length ≡ length (write value)
+
+-- what is written of it has room behind `at`
+pub record Fits {A : Type 0} (read : Reader A) (write : A → List ℕ) (s : List ℕ) (c : Cursor) (out : List ℕ) (at : ℕ) : Type 0 where
+  pub value : A
+  pub next : Cursor
+  pub stands : Stands read s c value next
+  pub room : at + length (write value) ≤ length out
+
+pub record Puts {A : Type 0} (read : Reader A) (write : A → List ℕ) (s : List ℕ) (c : Cursor) (old new : List ℕ) (at : ℕ) (r : Put) : Type 0 where
+  pub value : A
+  pub stands : Stands read s c value (r .next)
+  pub wrote : Wrote old new at (r .at) (write value)
+
+pub record TakesPart (s : List ℕ) (c : Cursor) (r : Piece) : Type 0 where
+  pub stands : Stands sized s c (partOf s (r .part)) (r .next)
+  pub in-part : Inside s (r .part)
+
+-- so many groups: how many have entries, and how long these are
+pub record MeasuresGroups (n : ℕ) (s : List ℕ) (c : Cursor) (r : Groups) : Type 0 where
+  pub value : Table (Table Part)
+  pub stands : Stands (rows (table sized) n 0) s c value (r .next)
+  pub many : r .kept ≡ size (keptGroups value)
+  pub long : r .length ≡ length (groupsOf value)

@@ -1,0 +1,100 @@
+// Tables that were accepted, in their fewest bytes: how long they are then, and written into an output.
+ghost use Prim.Native.Nat.{_+_, _<_, _≤_};
+ghost use mathlib.Core.Path.{_≡_};
+ghost use lib.ListN.{length};
+ghost use Rattle.format.specs.Canonical.{writePart};
+ghost use Rattle.format.specs.Numbers.{number, shortest, limit32};
+ghost use Rattle.format.specs.Parts.{sized};
+ghost use Rattle.format.specs.Tables.{rows, table};
+ghost use Rattle.copying.specs.Standing.{Stands, Known, TakesPart, Measures, MeasuresGroups, Fits, Puts};
+ghost use Rattle.copying.specs.Bytes.{rowsOf, groupOf, groupsOf};
+ghost use Rattle.reading.specs.Cursors.{Inside, left};
+ghost use Rattle.writing.specs.Wrote.{Wrote};
+use reading::Cursor;
+use reading::NumberRead;
+use reading::PartRead;
+use writing::number_length;
+use writing::put_bytes;
+use writing::put_number;
+
+// A number that was read, and the cursor behind it.
+pub struct Number {
+    pub value: u32,
+    pub next: Cursor,
+}
+
+// A sized part that was read, and the cursor behind it.
+pub struct Piece {
+    pub part: Cursor,
+    pub next: Cursor,
+}
+
+// How long something is in its fewest bytes, and the cursor behind it.
+pub struct Measured {
+    pub length: usize,
+    pub next: Cursor,
+}
+
+// How many groups have entries, how long these are in their fewest bytes, and the cursor behind all groups.
+pub struct Groups {
+    pub kept: u32,
+    pub length: usize,
+    pub next: Cursor,
+}
+
+// Where the output goes on, and the cursor behind what was written.
+pub struct Put {
+    pub at: usize,
+    pub next: Cursor,
+}
+
+// The number that stands here: it was accepted, so the other arm is never taken.
+pub fn number_here(c: Cursor, s: &[u8]) -> Number
+    requires { ⌜ Known number (now s) c ⌝ }
+    ensures { λ r. ⌜ Stands number (now (s .entry)) c (r .value) (r .next) ⌝ }
+{
+    match c.number(s) {
+        NumberRead::Value(value, next) => Number { value, next },
+        NumberRead::Refused(_) => Number { value: 0, next: c },
+    }
+}
+
+// The sized part that stands here, likewise.
+pub fn part_here(c: Cursor, s: &[u8]) -> Piece
+    requires { ⌜ Known sized (now s) c ⌝ }
+    ensures { λ r. ⌜ TakesPart (now (s .entry)) c r ⌝ }
+{
+    match c.sized(s) {
+        PartRead::Part(part, next) => Piece { part, next },
+        PartRead::Refused(_) => Piece { part: c, next: c },
+    }
+}
+
+// How long a part is with its size before it.
+pub fn sized_length(size: usize) -> usize
+    requires { ⌜ size < limit32 ⌝ }
+    ensures { λ r. ⌜ r ≡ length (shortest size) + size ⌝ }
+{
+    number_length(size as u32) + size
+}
+
+// So many rows with parts.
+pub fn rows_length(c: Cursor, s: &[u8], n: u32) -> Measured
+    requires { ⌜ Known (rows sized n 0) (now s) c ⌝ }
+    ensures { λ r. ⌜ Measures (rows sized n 0) rowsOf (now (s .entry)) c r ⌝ }
+{
+    let mut next = c;
+    let mut more = n;
+    let mut length = 0;
+    while 0 < more {
+        let index = number_here(next, s);
+        let value = part_here(index.next, s);
+        let part = value.part;
+        let key = number_length(index.value);
+        let text = sized_length(part.end - part.at);
+        length = length + key + text;
+        next = value.next;
+        more = more - 1;
+    }
+    Measured { length, next }
+}
