@@ -1,3 +1,5 @@
 pub mod Laws
+pub mod Along
 pub mod HereSteps
 pub mod Measuring
+pub mod Putting

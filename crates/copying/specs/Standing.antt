@@ -1,11 +1,13 @@
 -- What stands at a cursor and was accepted before, how long it is in its fewest bytes, and what a write leaves of it. Assumes nothing.
-use Prim.Native.Nat.{ℕ, _+_, _≤_}
+use Prim.Native.Nat.{ℕ, _+_, _≤_, _<_}
 use mathlib.Core.List.{List}
 use mathlib.Core.Path.{_≡_}
 use lib.ListN.{length}
 use Rattle.format.specs.Reading.{got, Reader}
+use Rattle.format.specs.Numbers.{limit32}
 use Rattle.format.specs.Parts.{Part, sized}
 use Rattle.format.specs.Tables.{Table, size, rows, table}
+use Rattle.format.specs.Canonical.{writePart}
 use Rattle.reading.specs.Cursors.{Inside, left, partOf}
 use Rattle.reading.specs.declared.Cursor.{Cursor}
 use Rattle.writing.specs.Wrote.{Wrote}
@@ -47,6 +49,12 @@ pub record Puts {A : Type 0} (read : Reader A) (write : A → List ℕ) (s : Lis
 pub record TakesPart (s : List ℕ) (c : Cursor) (r : Piece) : Type 0 where
   pub stands : Stands sized s c (partOf s (r .part)) (r .next)
   pub in-part : Inside s (r .part)
+
+-- a part has room behind `at`, with its size before it
+pub record FitsPart (s : List ℕ) (part : Cursor) (out : List ℕ) (at : ℕ) : Type 0 where
+  pub inside : Inside s part
+  pub small : length (left s part) < limit32
+  pub room : at + length (writePart (left s part)) ≤ length out
 
 -- so many groups: how many have entries, and how long these are
 pub record MeasuresGroups (n : ℕ) (s : List ℕ) (c : Cursor) (r : Groups) : Type 0 where

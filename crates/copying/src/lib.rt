@@ -6,7 +6,7 @@ ghost use Rattle.format.specs.Canonical.{writePart};
 ghost use Rattle.format.specs.Numbers.{number, shortest, limit32};
 ghost use Rattle.format.specs.Parts.{sized};
 ghost use Rattle.format.specs.Tables.{rows, table};
-ghost use Rattle.copying.specs.Standing.{Stands, Known, TakesPart, Measures, MeasuresGroups, Fits, Puts};
+ghost use Rattle.copying.specs.Standing.{Stands, Known, TakesPart, Measures, MeasuresGroups, FitsPart, Fits, Puts};
 ghost use Rattle.copying.specs.Bytes.{rowsOf, groupOf, groupsOf};
 ghost use Rattle.reading.specs.Cursors.{Inside, left};
 ghost use Rattle.writing.specs.Wrote.{Wrote};
@@ -97,4 +97,36 @@ pub fn rows_length(c: Cursor, s: &[u8], n: u32) -> Measured
         more = more - 1;
     }
     Measured { length, next }
+}
+
+// A part with its size before it.
+pub fn put_part(out: &mut [u8], at: usize, part: Cursor, s: &[u8]) -> usize
+    requires { ⌜ FitsPart (now s) part (now out) at ⌝ }
+    ensures { λ r. ⌜ Wrote (now (out .entry)) (now (out .exit)) at r (writePart (left (now (s .entry)) part)) ⌝ }
+{
+    let from = part.at;
+    let to = part.end;
+    let size = to - from;
+    let text = put_number(out, at, size as u32);
+    put_bytes(out, text, &s[from..to])
+}
+
+// So many rows with parts.
+pub fn put_rows(out: &mut [u8], at: usize, c: Cursor, s: &[u8], n: u32) -> Put
+    requires { ⌜ Fits (rows sized n 0) rowsOf (now s) c (now out) at ⌝ }
+    ensures { λ r. ⌜ Puts (rows sized n 0) rowsOf (now (s .entry)) c (now (out .entry)) (now (out .exit)) at r ⌝ }
+{
+    let mut next = c;
+    let mut more = n;
+    let mut place = at;
+    while 0 < more {
+        let index = number_here(next, s);
+        let value = part_here(index.next, s);
+        let part = value.part;
+        let behind = put_number(out, place, index.value);
+        place = put_part(out, behind, part, s);
+        next = value.next;
+        more = more - 1;
+    }
+    Put { at: place, next }
 }

@@ -21,7 +21,7 @@ use Rattle.reading.specs.declared.PartRead.{PartRead}
 use Rattle.reading.specs.declared.PartRead.the-variants.{Part as APart, Refused as NoPart}
 use Rattle.reading.proofs.Laws.{number-means, number-inside, number-ahead, number-end, sized-means, part-behind}
 
-take-drop : (i n : ℕ) (x : List ℕ) → take n (drop i x) ≡ drop i (take (i + n) x)
+pub take-drop : (i n : ℕ) (x : List ℕ) → take n (drop i x) ≡ drop i (take (i + n) x)
 take-drop zero n x = rw zero-add
 take-drop (suc i) n [] = rw take-nil (rw (take-nil (suc i + n)))
 take-drop (suc i) n (b ∷ x) = rw suc-add (take-drop i n x)
