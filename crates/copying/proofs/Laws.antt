@@ -1,9 +1,13 @@
 -- What was accepted, taken apart: a row and the rows behind it, a table and its rows. Nothing here is about code.
 use Prim.Native.Nat.{ℕ, suc, _+_, _≤_, _<_}
-use mathlib.Core.List.{List, [], _∷_, _++_}
+use mathlib.Core.Bool.{false}
+use mathlib.Core.List.{List, [], _∷_, _++_, append-assoc}
 use mathlib.Core.Path.{_≡_, refl, sym, ap, _∙_}
+use native.Mathlib.Nat.{zero-add}
 use native.Mathlib.Omega.{arith}
-use lib.ListN.{length}
+use borrow.Author.Tests.{ne-eqb}
+use lib.Dec.{eqb}
+use lib.ListN.{length, length-append}
 use lib.Seq.{length-slice}
 use Rattle.format.specs.Reading.{got, Reader}
 use Rattle.format.specs.Numbers.{number, shortest, limit32}
@@ -14,11 +18,12 @@ use Rattle.format.specs.Laws.Outcomes.{got-value, got-next, got-rest}
 use Rattle.format.specs.Laws.Turns.{inRow, inTable}
 use Rattle.format.specs.Laws.Passing.{Passes, number-passes, sized-passes, rows-pass, table-passes}
 use Rattle.format.specs.Laws.Codecs.{number-sound, sized-codec, table-codec, rows-sound}
+use Rattle.format.specs.Laws.Tables.{size-keep, kept-rows, rows-shorter as rows-kept-shorter}
 use Rattle.reading.specs.Cursors.{Inside, left, partOf}
 use Rattle.reading.specs.declared.Cursor.{Cursor}
 use Rattle.reading.proofs.Laws.{reached}
 use Rattle.reading.proofs.Same.{same-cursor}
-use Rattle.copying.specs.Bytes.{bareRows, rowsOf, groupOf, keptGroups, groupsOf}
+use Rattle.copying.specs.Bytes.{bareRows, rowsOf, groupOf, groupLength, oneIfSome, keptGroups, groupsOf}
 use Rattle.copying.specs.Standing.{Stands, Known}
 
 abbrev pub Passable : {A : Type 0} → Reader A → Type 1
@@ -138,3 +143,52 @@ module _ {s : List ℕ} {c last : Cursor} where
 
   pub rows-count : (n least : ℕ) {t : Table Part} → Stands (rows sized n least) s c t last → size (bareRows t) ≡ n
   rows-count n least w = rows-sound sized-codec n least (c .at) (left s c) (w .reads) .count
+
+-- Groups, one by one: how each is written, how long that is, and which count
+pub groups-nil : groupsOf nil ≡ []
+unfolding groupsOf keptGroups keepRows writeRows mapTable
+groups-nil = refl
+
+pub none-kept : size (keptGroups nil) ≡ 0
+unfolding keptGroups keepRows mapTable size
+none-kept = refl
+
+pub groups-row : (k : ℕ) (v : Table Part) (t : Table (Table Part)) → groupsOf (row k v t) ≡ groupOf k v ++ groupsOf t
+unfolding groupsOf groupOf keptGroups keepRows unlessEmpty writeRows mapTable
+groups-row k nil t = refl
+groups-row k (row i v u) t = sym (append-assoc (shortest k) (writeTable writePart (bareRows (row i v u))) (groupsOf t))
+
+with-rows : (i : ℕ) (v : Part) (u : Table Part) → eqb (size (bareRows (row i v u))) 0 ≡ false
+unfolding mapTable size
+with-rows i v u = ne-eqb (suc (size (bareRows u))) 0 (λ q. absurd (omega arith))
+
+pub group-bytes : (k : ℕ) (v : Table Part) → (size (bareRows v) ≡ 0 → ⊥) → groupOf k v ≡ shortest k ++ (shortest (size (bareRows v)) ++ rowsOf v)
+unfolding groupOf rowsOf writeTable mapTable size
+group-bytes k nil h = absurd (h refl)
+group-bytes k (row i v u) h = refl
+
+pub group-nil : (k : ℕ) → groupOf k nil ≡ []
+unfolding groupOf
+group-nil k = refl
+
+pub kept-row : (k : ℕ) (v : Table Part) (t : Table (Table Part)) → size (keptGroups (row k v t)) ≡ oneIfSome (size (bareRows v)) + size (keptGroups t)
+unfolding keptGroups keepRows unlessEmpty mapTable size oneIfSome
+kept-row k nil t = sym (zero-add (size (keptGroups t)))
+kept-row k (row i v u) t = rw (with-rows i v u) (omega arith)
+
+pub group-is : (k : ℕ) (v : Table Part) → length (groupOf k v) ≡ groupLength k (size (bareRows v)) (length (rowsOf v))
+unfolding groupOf groupLength rowsOf writeTable writeRows mapTable size
+group-is k nil = refl
+group-is k (row i v u) = rw (with-rows i v u) (simp length-append (omega arith))
+
+module _ {s : List ℕ} {c last : Cursor} where
+  pub groups-count : (n least : ℕ) {t : Table (Table Part)} → Stands (rows (table sized) n least) s c t last → size (keptGroups t) ≤ n
+  unfolding keptGroups
+  groups-count n least {t} w = omega (arith, rows-sound (table-codec sized-codec) n least (c .at) (left s c) (w .reads) .count, size-keep unlessEmpty (bareItems t))
+
+  pub groups-shorter : (n least : ℕ) {t : Table (Table Part)} → Stands (rows (table sized) n least) s c t last → length (groupsOf t) + c .at ≤ last .at
+  unfolding groupsOf keptGroups
+  groups-shorter n least {t} w =
+      let sound = rows-sound (table-codec sized-codec) n least (c .at) (left s c) (w .reads) in
+      let less = rows-kept-shorter unlessEmpty (writeTable writePart) (writeTable writePart) (λ k v u _ e. rw (kept-rows v e .0) (omega arith)) (sound .sorted) in
+      omega (arith, sound .shorter, less, part-length (w .inside), part-length (w .behind), w .same-end)

@@ -5,21 +5,23 @@ use mathlib.Core.Path.{_≡_, refl, sym, ap, _∙_}
 use native.Mathlib.Nat.{zero-add}
 use native.Mathlib.Omega.{arith}
 use borrow.Author.Needs.{needs}
+use borrow.Author.Tests.{eq-eqb, ne-eqb}
 use lib.Dec.{ltb}
 use lib.ListN.{length, length-append}
 use lib.Seq.{length-slice}
 use Rattle.format.specs.Numbers.{number, fewest, shortest, limit32}
 use Rattle.format.specs.Parts.{Part, sized}
-use Rattle.format.specs.Tables.{Table, rows}
+use Rattle.format.specs.Tables.{Table, size, rows, table}
 use Rattle.format.specs.Canonical.{writePart}
 use Rattle.format.specs.Laws.Outcomes.{byTest}
 use Rattle.format.specs.Laws.Passing.{sized-passes}
 use Rattle.reading.specs.Cursors.{Inside, left, partOf}
 use Rattle.reading.specs.declared.Cursor.{Cursor}
-use Rattle.copying.specs.Bytes.{rowsOf}
-use Rattle.copying.specs.Standing.{Stands, Known, TakesPart, Measures}
+use Rattle.copying.specs.Bytes.{bareRows, rowsOf, groupLength, oneIfSome, keptGroups, groupsOf}
+use Rattle.copying.specs.Standing.{Stands, Known, TakesPart, Measures, MeasuresGroups}
 use Rattle.copying.specs.declared.Piece.{Piece}
-use Rattle.copying.proofs.Laws.{rows-row, rows-nil, part-length, part-fits, rows-shorter}
+use Rattle.copying.specs.declared.Measured.{Measured}
+use Rattle.copying.proofs.Laws.{table-passable, known-count, table-rows, rows-table, rows-row, rows-nil, part-length, number-shorter, part-fits, rows-shorter, rows-count, groups-nil, none-kept, groups-row, kept-row, group-is, groups-count, groups-shorter}
 use Rattle.copying.proofs.Along.{Along, setting-out, ended, index-known, value-known, onward}
 
 -- a part with its size before it
@@ -90,3 +92,94 @@ module _ {n : ℕ} {s : List ℕ} {c next : Cursor} {more total : ℕ} (t : Coun
       counting-key-fits = omega (arith, counting-within, t .small)
 
 pub ruleset counting = (counting-none, counting-all, counting-index, counting-value, counting-more, counting-fits, counting-key-fits, size-fits, size-ordered, needs)
+
+-- One group
+module _ (index count rows : ℕ) where
+  pub group-left-out : count ≡ 0 → 0 ≡ groupLength index count rows
+  unfolding groupLength
+  group-left-out e = rw (eq-eqb count 0 e)
+
+  pub group-stays : {a b : ℕ} → (count ≡ 0 → ⊥) → a ≡ length (shortest index) → b ≡ length (shortest count) → a + b + rows ≡ groupLength index count rows
+  unfolding groupLength
+  group-stays e p q = rw (ne-eqb count 0 e, p, q)
+
+  pub group-sum-fits : {a b : ℕ} → length (shortest index) + length (shortest count) + rows < 2 ^ 64 → a ≡ length (shortest index) → b ≡ length (shortest count) → a + b + rows < 2 ^ 64
+  group-sum-fits h p q = omega arith
+
+  pub group-key-fits : {a b : ℕ} → a ≡ length (shortest index) → b ≡ length (shortest count) → a + b < 2 ^ 64
+  group-key-fits p q = omega (arith, shortest-short index, shortest-short count)
+
+pub none-counts : {count : ℕ} → count ≡ 0 → 0 ≡ oneIfSome count
+unfolding oneIfSome
+none-counts {count} e = rw (eq-eqb count 0 e)
+
+pub some-count : {count : ℕ} → (count ≡ 0 → ⊥) → 1 ≡ oneIfSome count
+unfolding oneIfSome
+some-count {count} e = rw (ne-eqb count 0 e)
+
+pub ruleset one-group = (group-left-out, group-stays, group-sum-fits, group-key-fits, none-counts, some-count, needs)
+
+-- Groups
+pub record CountingGroups (n : ℕ) (s : List ℕ) (c next : Cursor) (more kept total : ℕ) : Type 0 where
+  pub along : Along (table sized) n s c next more
+  pub so-far : total + length (groupsOf (along .to-come)) ≡ length (groupsOf (along .all))
+  pub many : kept + size (keptGroups (along .to-come)) ≡ size (keptGroups (along .all))
+  pub small : c .end < 2 ^ 64
+  pub few : n < 2 ^ 32
+
+pub groups-none : (n : ℕ) {s : List ℕ} {c : Cursor} → Known (rows (table sized) n 0) s c → c .end < 2 ^ 64 → n < 2 ^ 32 → CountingGroups n s c c n 0 0
+groups-none n k h f = record { along = setting-out (k .stands); so-far = zero-add (length (groupsOf (k .value))); many = zero-add (size (keptGroups (k .value))); small = h; few = f }
+
+module _ {n : ℕ} {s : List ℕ} {c next : Cursor} {more kept total : ℕ} (t : CountingGroups n s c next more kept total) where
+  pub groups-all : more ≤ 0 → MeasuresGroups n s c (record { kept = kept; length = total; next = next })
+  groups-all h =
+      let end = ended more (t .along) h in
+      let nothing : length (groupsOf (t .along .to-come)) ≡ 0 = rw (end .nothing, groups-nil) in
+      let none : size (keptGroups (t .along .to-come)) ≡ 0 = rw (end .nothing) none-kept in
+      record { value = t .along .all; stands = end .stands; many = omega (arith, none, t .many); long = omega (arith, nothing, t .so-far) }
+
+  pub groups-index : 0 < more → Known number s next
+  groups-index h = index-known more (t .along) h
+
+  module _ {k : ℕ} {d : Cursor} (h : 0 < more) (i : Stands number s next k d) where
+    group-known : Known (table sized) s d
+    group-known = value-known (table-passable sized-passes) more (t .along) h i
+
+    pub groups-count-known : Known number s d
+    groups-count-known = known-count sized (group-known .stands)
+
+    module _ {m : ℕ} {e : Cursor} (j : Stands number s d m e) where
+      pub groups-rows-known : Known (rows sized m 0) s e
+      groups-rows-known = let g = group-known in record { value = g .value; next = g .next; stands = table-rows sized j (g .stands) }
+
+      module _ {r : Measured} (w : Measures (rows sized m 0) rowsOf s e r) where
+        pub group-sum : length (shortest k) + length (shortest m) + r .length < 2 ^ 64
+        group-sum = omega (arith, number-shorter i, number-shorter j, rows-shorter m 0 (w .stands), w .long, w .stands .behind .ahead, w .stands .same-end, j .same-end, i .same-end, t .along .rest .same-end, t .along .whole .same-end, t .small)
+
+        module _ {g u : ℕ} (long : g ≡ groupLength k m (r .length)) (one : u ≡ oneIfSome m) where
+          pub groups-more : CountingGroups n s c (r .next) (more - 1) (kept + u) (total + g)
+          groups-more =
+              let o = onward more (t .along) h i (rows-table sized j (w .stands)) in
+              let count : size (bareRows (w .value)) ≡ m = rows-count m 0 (w .stands) in
+              let bytes : length (groupsOf (t .along .to-come)) ≡ g + length (groupsOf (o .along .to-come)) = ap length (ap groupsOf (o .split) ∙ groups-row k (w .value) (o .along .to-come)) ∙ simp length-append (rw (group-is k (w .value), count, ← w .long, long)) in
+              let counted : size (keptGroups (t .along .to-come)) ≡ u + size (keptGroups (o .along .to-come)) = ap (λ (x : Table (Table Part)). size (keptGroups x)) (o .split) ∙ kept-row k (w .value) (o .along .to-come) ∙ rw (count, one) in
+              record {
+                along = o .along;
+                so-far = rw (o .same-all) (omega (arith, bytes, t .so-far));
+                many = rw (o .same-all) (omega (arith, counted, t .many));
+                small = t .small;
+                few = t .few;
+              }
+
+          pub groups-fit : total + g < 2 ^ 64
+          groups-fit =
+              let a = groups-more in
+              let z = a .along .whole in
+              omega (arith, a .so-far, groups-shorter n 0 z, z .behind .ahead, z .same-end, t .small)
+
+          pub groups-few : kept + u < 2 ^ 32
+          groups-few =
+              let a = groups-more in
+              omega (arith, a .many, groups-count n 0 (a .along .whole), t .few)
+
+pub ruleset counting-groups = (groups-none, groups-all, groups-index, groups-count-known, groups-rows-known, group-sum, groups-more, groups-fit, groups-few, needs)

@@ -1,5 +1,5 @@
 // Tables that were accepted, in their fewest bytes: how long they are then, and written into an output.
-ghost use Prim.Native.Nat.{_+_, _<_, _≤_};
+ghost use Prim.Native.Nat.{_+_, _^_, _<_};
 ghost use mathlib.Core.Path.{_≡_};
 ghost use lib.ListN.{length};
 ghost use Rattle.format.specs.Canonical.{writePart};
@@ -7,7 +7,7 @@ ghost use Rattle.format.specs.Numbers.{number, shortest, limit32};
 ghost use Rattle.format.specs.Parts.{sized};
 ghost use Rattle.format.specs.Tables.{rows, table};
 ghost use Rattle.copying.specs.Standing.{Stands, Known, TakesPart, Measures, MeasuresGroups, FitsPart, Fits, Puts};
-ghost use Rattle.copying.specs.Bytes.{rowsOf, groupOf, groupsOf};
+ghost use Rattle.copying.specs.Bytes.{rowsOf, groupOf, groupLength, oneIfSome, groupsOf};
 ghost use Rattle.reading.specs.Cursors.{Inside, left};
 ghost use Rattle.writing.specs.Wrote.{Wrote};
 use reading::Cursor;
@@ -99,6 +99,52 @@ pub fn rows_length(c: Cursor, s: &[u8], n: u32) -> Measured
     Measured { length, next }
 }
 
+// How long a group is with its index and its count before it. Without entries it is left out.
+fn group_length(index: u32, count: u32, rows: usize) -> usize
+    requires { ⌜ length (shortest index) + length (shortest count) + rows < 2 ^ 64 ⌝ }
+    ensures { λ r. ⌜ r ≡ groupLength index count rows ⌝ }
+{
+    if count == 0 {
+        return 0;
+    }
+    let key = number_length(index);
+    let size = number_length(count);
+    key + size + rows
+}
+
+// One for a group with entries.
+fn one_if_some(count: u32) -> u32
+    ensures { λ r. ⌜ r ≡ oneIfSome count ⌝ }
+{
+    if count == 0 {
+        return 0;
+    }
+    1
+}
+
+// So many groups: lists of rows, each under an index.
+pub fn groups_length(c: Cursor, s: &[u8], n: u32) -> Groups
+    requires { ⌜ Known (rows (table sized) n 0) (now s) c ⌝ }
+    ensures { λ r. ⌜ MeasuresGroups n (now (s .entry)) c r ⌝ }
+{
+    let mut next = c;
+    let mut more = n;
+    let mut kept: u32 = 0;
+    let mut length = 0;
+    while 0 < more {
+        let index = number_here(next, s);
+        let count = number_here(index.next, s);
+        let rows = rows_length(count.next, s, count.value);
+        let group = group_length(index.value, count.value, rows.length);
+        let one = one_if_some(count.value);
+        length = length + group;
+        kept = kept + one;
+        next = rows.next;
+        more = more - 1;
+    }
+    Groups { kept, length, next }
+}
+
 // A part with its size before it.
 pub fn put_part(out: &mut [u8], at: usize, part: Cursor, s: &[u8]) -> usize
     requires { ⌜ FitsPart (now s) part (now out) at ⌝ }
@@ -126,6 +172,38 @@ pub fn put_rows(out: &mut [u8], at: usize, c: Cursor, s: &[u8], n: u32) -> Put
         let behind = put_number(out, place, index.value);
         place = put_part(out, behind, part, s);
         next = value.next;
+        more = more - 1;
+    }
+    Put { at: place, next }
+}
+
+// A group with its index and its count before it. Without entries it is left out.
+fn put_group(out: &mut [u8], at: usize, index: u32, c: Cursor, s: &[u8], count: u32) -> Put
+    requires { ⌜ Fits (rows sized count 0) (groupOf index) (now s) c (now out) at ⌝ }
+    ensures { λ r. ⌜ Puts (rows sized count 0) (groupOf index) (now (s .entry)) c (now (out .entry)) (now (out .exit)) at r ⌝ }
+{
+    if count == 0 {
+        return Put { at, next: c };
+    }
+    let size = put_number(out, at, index);
+    let rows = put_number(out, size, count);
+    put_rows(out, rows, c, s, count)
+}
+
+// So many groups.
+pub fn put_groups(out: &mut [u8], at: usize, c: Cursor, s: &[u8], n: u32) -> Put
+    requires { ⌜ Fits (rows (table sized) n 0) groupsOf (now s) c (now out) at ⌝ }
+    ensures { λ r. ⌜ Puts (rows (table sized) n 0) groupsOf (now (s .entry)) c (now (out .entry)) (now (out .exit)) at r ⌝ }
+{
+    let mut next = c;
+    let mut more = n;
+    let mut place = at;
+    while 0 < more {
+        let index = number_here(next, s);
+        let count = number_here(index.next, s);
+        let group = put_group(out, place, index.value, count.next, s, count.value);
+        place = group.at;
+        next = group.next;
         more = more - 1;
     }
     Put { at: place, next }
