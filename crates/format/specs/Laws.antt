@@ -22,3 +22,4 @@ pub mod Walk
 pub mod Listing
 pub mod Calls
 pub mod Outputs
+pub mod Laxer
