@@ -59,6 +59,7 @@ pub fn put_decimal(out: &mut [u8], at: usize, n: u64) -> usize
 // How many bytes a number takes at least: one for each seven bits.
 pub fn number_length(n: u32) -> usize
     ensures { λ r. ⌜ r ≡ length (shortest n) ⌝ }
+    ensures { λ r. ⌜ r ≤ 5 ⌝ }
 {
     if n < 1 << 7 {
         return 1;

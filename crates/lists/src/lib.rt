@@ -1,0 +1,149 @@
+// Function names, written from three lent lists: indices, name lengths in bytes, and the text of all names joined.
+ghost use mathlib.Core.List.{_++_};
+ghost use mathlib.Core.Path.{_≡_};
+ghost use Prim.Native.Nat.{_≤_, _<_, _+_};
+ghost use lib.Dec.{eqb};
+ghost use lib.ListN.{length};
+ghost use Rattle.format.specs.Canonical.{writePart};
+ghost use Rattle.format.specs.Lists.{sum, functionNames};
+ghost use Rattle.format.specs.Numbers.{shortest, limit32};
+ghost use Rattle.format.specs.Outputs.{Writes};
+ghost use Rattle.format.specs.Reading.{accepted};
+ghost use Rattle.lists.specs.Steps.{agree, checkedAs, indexCheck, textCheck, rowLength, rowsLength, contentsAs, sizeJudged, contents, Measured, payload, rowsOf};
+ghost use Rattle.writing.specs.Wrote.{Wrote};
+use format::Offset;
+use format::Reason;
+use format::Refusal;
+use format::Written;
+use reading::text::is_text;
+use writing::number_length;
+
+// The subsection that holds function names.
+const FUNCTION_NAMES: u8 = 1;
+
+// Contents of so many bytes or more have no size number.
+const TOO_LARGE: usize = 1 << 32;
+
+// What a check of the lists finds.
+enum Checked {
+    Passed,
+    Refused(Refusal),
+}
+
+// How long the subsection's contents are.
+enum Contents {
+    Length(u32),
+    Refused(Refusal),
+}
+
+// A number of the lists, as a size.
+fn wide(n: u32) -> usize
+    ensures { λ r. ⌜ r ≡ n ⌝ }
+    ensures { λ r. ⌜ r < limit32 ⌝ }
+{
+    n as usize
+}
+
+// Whether the lengths add up to `total`: each is taken from what is left, since their sum may pass 64 bits.
+fn adds_up(lengths: &[u32], total: usize) -> bool
+    ensures { λ r. ⌜ r ≡ eqb (sum (now (lengths .entry))) total ⌝ }
+{
+    let mut left = total;
+    let mut k = 0;
+    while k < lengths.len() {
+        let size = wide(lengths[k]);
+        if left < size {
+            return false;
+        }
+        left = left - size;
+        k += 1;
+    }
+    left == 0
+}
+
+// Whether there is a length for each index, and the lengths add up to the text.
+fn all_agree(indices: &[u32], lengths: &[u32], text: &[u8]) -> bool
+    ensures { λ r. ⌜ r ≡ agree (now (indices .entry)) (now (lengths .entry)) (now (text .entry)) ⌝ }
+{
+    if indices.len() == lengths.len() {
+        return adds_up(lengths, text.len());
+    }
+    false
+}
+
+// Each index is above the one before. The refusal points to the position in the list.
+fn check_indices(indices: &[u32]) -> Checked
+    ensures { λ r. ⌜ checkedAs r ≡ indexCheck (now (indices .entry)) ⌝ }
+{
+    let mut least: usize = 0;
+    let mut k = 0;
+    while k < indices.len() {
+        let index = wide(indices[k]);
+        if index < least {
+            return Checked::Refused(Refusal {
+                reason: Reason::NotAbove,
+                offset: Offset(k),
+            });
+        }
+        least = index + 1;
+        k += 1;
+    }
+    Checked::Passed
+}
+
+// Each name is valid UTF-8. The refusal points to where the name starts in the joined text.
+fn check_text(lengths: &[u32], text: &[u8]) -> Checked
+    requires { ⌜ sum (now lengths) ≤ length (now text) ⌝ }
+    ensures { λ r. ⌜ checkedAs r ≡ textCheck (now (lengths .entry)) (now (text .entry)) ⌝ }
+{
+    let mut start: usize = 0;
+    let mut k = 0;
+    while k < lengths.len() {
+        let size = wide(lengths[k]);
+        let end = start + size;
+        if !is_text(text, start, end) {
+            return Checked::Refused(Refusal {
+                reason: Reason::NotText,
+                offset: Offset(start),
+            });
+        }
+        start = end;
+        k += 1;
+    }
+    Checked::Passed
+}
+
+// How many bytes an index, a name's length and the name take.
+fn row_length(index: u32, size: u32) -> usize
+    ensures { λ r. ⌜ r ≡ rowLength index size ⌝ }
+    ensures { λ r. ⌜ r < limit32 + limit32 ⌝ }
+{
+    let before = number_length(index) + number_length(size);
+    before + (size as usize)
+}
+
+// How long the contents are, unless too large. The sum stops at the first row that makes them so.
+fn measure(indices: &[u32], lengths: &[u32]) -> Contents
+    requires { ⌜ length (now indices) ≡ length (now lengths) ⌝ }
+    ensures { λ r. ⌜ contentsAs r ≡ sizeJudged (now (indices .entry)) (now (lengths .entry)) ⌝ }
+{
+    let too_large = Contents::Refused(Refusal {
+        reason: Reason::SubsectionTooLarge,
+        offset: Offset(0),
+    });
+    let count = indices.len();
+    if TOO_LARGE <= count {
+        return too_large;
+    }
+    let mut total = number_length(count as u32);
+    let mut k = 0;
+    while k < count {
+        let row = row_length(indices[k], lengths[k]);
+        total = total + row;
+        if TOO_LARGE <= total {
+            return too_large;
+        }
+        k += 1;
+    }
+    Contents::Length(total as u32)
+}
