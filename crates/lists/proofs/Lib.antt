@@ -1,3 +1,4 @@
 pub mod Laws
 pub mod Checks
 pub mod Sizes
+pub mod Verdicts

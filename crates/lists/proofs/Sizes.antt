@@ -13,17 +13,8 @@ use Rattle.lists.specs.Steps.{rowLength, rowsLength, contentsLength, con
 use Rattle.lists.specs.declared.Contents.the-variants.{Length, Refused}
 use Rattle.lists.proofs.Laws.{rows-next, rows-end}
 
--- One row
-module _ {a b : ℕ} (i n : ℕ) where
-  pub row-is : a ≡ length (shortest i) → b ≡ length (shortest n) → a + b + n ≡ rowLength i n
-  unfolding rowLength
-  row-is p q = rw (p, q)
-
-pub ruleset row-sizes = (row-is, needs)
-
 -- a row has at least its two numbers
 row-least : (i n : ℕ) → 2 ≤ rowLength i n
-unfolding rowLength
 row-least i n = omega (arith, shortest-positive i, shortest-positive n)
 
 rows-least : (is ns : List ℕ) → length is ≡ length ns → length is ≤ rowsLength is ns
@@ -43,11 +34,9 @@ module _ (is ns : List ℕ) where
   large h = rw (le-ltb (contentsLength is ns) limit32 h)
 
 pub too-many : (is ns : List ℕ) → length is ≡ length ns → limit32 ≤ length is → contentsAs (Refused (record { reason = SubsectionTooLarge; offset = record { 0 = 0 } })) ≡ sizeJudged is ns
-unfolding contentsLength
 too-many is ns e h = large is ns (omega (arith, rows-least is ns e))
 
 pub summed-none : {is ns : List ℕ} {total : ℕ} → total ≡ length (shortest (length is)) → total ≤ 5 → Summed is ns total 0
-unfolding contentsLength
 summed-none e h = record { small = omega arith; same = rw e }
 
 module _ {is ns : List ℕ} {total k : ℕ} (t : Summed is ns total k) where

@@ -31,7 +31,7 @@ unfoldable pub textCheck : (lengths text : List ℕ) → Judged (Unit {0})
 textCheck ns text = unless (badTextAt 0 ns text) NotText (accepted tt)
 
 -- how long the contents are, by the numbers of the lists alone
-unfoldable pub rowLength : (index size : ℕ) → ℕ
+abbrev pub rowLength : (index size : ℕ) → ℕ
 rowLength i n = length (shortest i) + length (shortest n) + n
 
 unfoldable pub rowsLength : (indices lengths : List ℕ) → ℕ
@@ -39,7 +39,7 @@ rowsLength [] ns = 0
 rowsLength (i ∷ is) [] = 0
 rowsLength (i ∷ is) (n ∷ ns) = rowLength i n + rowsLength is ns
 
-unfoldable pub contentsLength : (indices lengths : List ℕ) → ℕ
+abbrev pub contentsLength : (indices lengths : List ℕ) → ℕ
 contentsLength is ns = length (shortest (length is)) + rowsLength is ns
 
 abbrev pub contentsAs : Contents → Judged ℕ

@@ -147,3 +147,22 @@ fn measure(indices: &[u32], lengths: &[u32]) -> Contents
     }
     Contents::Length(total as u32)
 }
+
+// Every check in its order, then how long the contents are.
+fn judge(indices: &[u32], lengths: &[u32], text: &[u8]) -> Contents
+    ensures { λ r. ⌜ contentsAs r ≡ contents (now (indices .entry)) (now (lengths .entry)) (now (text .entry)) ⌝ }
+{
+    if !all_agree(indices, lengths, text) {
+        return Contents::Refused(Refusal {
+            reason: Reason::ListsDisagree,
+            offset: Offset(0),
+        });
+    }
+    match check_indices(indices) {
+        Checked::Refused(r) => Contents::Refused(r),
+        Checked::Passed => match check_text(lengths, text) {
+            Checked::Refused(r) => Contents::Refused(r),
+            Checked::Passed => measure(indices, lengths),
+        },
+    }
+}

@@ -1,0 +1,80 @@
+-- The checks one after the other: the first refusal is the judgement, and lists that pass are measured.
+use Prim.Native.Nat.{ℕ, _≤_}
+use mathlib.Core.Bool.{Bool, true, false, not, _&&_}
+use mathlib.Core.List.{List}
+use mathlib.Core.Option.{Option, none, some}
+use mathlib.Core.Path.{_≡_, refl, sym, ap, _∙_}
+use native.Mathlib.Omega.{arith}
+use borrow.Author.Needs.{needs}
+use borrow.Author.Tests.{not-true, not-false, eqb-true}
+use lib.Dec.{eqb}
+use lib.ListN.{length}
+use Rattle.format.specs.Reading.{Judged, accepted, refused}
+use Rattle.format.specs.Lists.{sum, unsortedAt, badTextAt, unless}
+use Rattle.format.specs.Laws.Outcomes.{not-accepted}
+use Rattle.format.specs.declared.Reason.{Reason}
+use Rattle.format.specs.declared.Reason.the-variants.{ListsDisagree, NotAbove, NotText}
+use Rattle.format.specs.declared.Refusal.{Refusal}
+use Rattle.lists.specs.Steps.{agree, checkedAs, indexCheck, textCheck, contentsAs, sizeJudged, contents}
+use Rattle.lists.specs.declared.Checked.{Checked}
+use Rattle.lists.specs.declared.Checked.the-variants.{Passed, Refused as NotPassed}
+use Rattle.lists.specs.declared.Contents.{Contents}
+use Rattle.lists.specs.declared.Contents.the-variants.{Refused}
+
+-- A check that refused, and one that passed
+module _ {A : Type 0} (why : Reason) (next : Judged A) where
+  stopped : (o : Option ℕ) {n at : ℕ} → refused n at ≡ unless o why (accepted (tt {0})) → refused n at ≡ unless o why next
+  stopped none e = absurd (not-accepted e)
+  stopped (some p) e = again e
+    where
+      again : {B : Type 0} {n m p q : ℕ} → _≡_ {A = Judged (Unit {0})} (refused n p) (refused m q) → _≡_ {A = Judged B} (refused n p) (refused m q)
+      again q = cc
+
+  went-on : (o : Option ℕ) → accepted tt ≡ unless o why (accepted (tt {0})) → unless o why next ≡ next
+  went-on none e = refl
+  went-on (some p) e = absurd (not-accepted (sym e))
+
+both {ℓ} : {C : Type ℓ} (a b : Bool) → a && b ≡ true → (a ≡ true → b ≡ true → C) → C
+both true true e k = k refl refl
+both true false e k = k refl e
+both false b e k = k e (absurd (not-same e))
+  where
+    not-same : false ≡ true → ⊥
+    not-same q = let z : _≡_ {A = ℕ} 0 1 = cc in omega arith
+
+module _ (is ns text : List ℕ) {b : Bool} (a : b ≡ agree is ns text) where
+  pub judge-disagree : {r : Refusal} → not b ≡ true → r ≡ record { reason = ListsDisagree; offset = record { 0 = 0 } } → contentsAs (Refused r) ≡ contents is ns text
+  unfolding contents
+  judge-disagree v e = rw (e, ← a, not-true b v)
+
+  module _ (v : not b ≡ false) where
+    agreed : agree is ns text ≡ true
+    agreed = sym a ∙ not-false b v
+
+    pub judge-count : length is ≡ length ns
+    unfolding agree
+    judge-count = both (eqb (length is) (length ns)) (eqb (sum ns) (length text)) agreed λ p q. eqb-true (length is) (length ns) p
+
+    pub judge-sum : sum ns ≤ length text
+    unfolding agree
+    judge-sum = both (eqb (length is) (length ns)) (eqb (sum ns) (length text)) agreed λ p q. omega (arith, eqb-true (sum ns) (length text) q)
+
+    module _ {x : Checked} (i : checkedAs x ≡ indexCheck is) where
+      pub judge-indices : {r : Refusal} → x ≡ NotPassed r → contentsAs (Refused r) ≡ contents is ns text
+      unfolding contents indexCheck
+      judge-indices e = rw agreed (stopped NotAbove _ (unsortedAt 0 0 is) (rw e at i))
+
+      index-passed : x ≡ Passed → unless (unsortedAt 0 0 is) NotAbove (unless (badTextAt 0 ns text) NotText (sizeJudged is ns)) ≡ unless (badTextAt 0 ns text) NotText (sizeJudged is ns)
+      unfolding indexCheck
+      index-passed p = went-on NotAbove _ (unsortedAt 0 0 is) (rw p at i)
+
+      module _ (p : x ≡ Passed) {y : Checked} (j : checkedAs y ≡ textCheck ns text) where
+        pub judge-name : {r : Refusal} → y ≡ NotPassed r → contentsAs (Refused r) ≡ contents is ns text
+        unfolding contents textCheck
+        judge-name e = rw (agreed, index-passed p) (stopped NotText _ (badTextAt 0 ns text) (rw e at j))
+
+        pub judge-measured : (z : Contents) → y ≡ Passed → contentsAs z ≡ sizeJudged is ns → contentsAs z ≡ contents is ns text
+        unfolding contents textCheck
+        judge-measured z q m = rw (agreed, index-passed p) (m ∙ sym (went-on NotText _ (badTextAt 0 ns text) (rw q at j)))
+
+pub ruleset verdicts = (judge-disagree, judge-count, judge-sum, judge-indices, judge-name, judge-measured, needs)
