@@ -9,9 +9,11 @@ use native.Mathlib.Omega.{arith}
 use lib.Dec.{leb}
 use lib.ListN.{length, take, drop, getD, drop-of-length-le}
 use lib.Seq.{drop-cons, drop-drop}
+use Rattle.format.specs.Canonical.{writePart, writeRows}
+use Rattle.format.specs.Numbers.{shortest}
 use Rattle.format.specs.Text.{utf8}
-use Rattle.format.specs.Lists.{sum, unsortedAt, badTextAt}
-use Rattle.lists.specs.Steps.{rowLength, rowsLength}
+use Rattle.format.specs.Lists.{sum, listed, unsortedAt, badTextAt}
+use Rattle.lists.specs.Steps.{rowLength, rowsLength, rowsOf}
 
 module _ (xs : List ℕ) (k : ℕ) where
   pub next-one : k < length xs → drop k xs ≡ getD xs k 0 ∷ drop (k + 1) xs
@@ -49,3 +51,11 @@ module _ (is ns : List ℕ) (k : ℕ) where
   pub rows-end : length is ≤ k → rowsLength (drop k is) (drop k ns) ≡ 0
   unfolding rowsLength
   rows-end h = rw (drop-of-length-le is h)
+
+  pub rows-of-next : (text : List ℕ) (start : ℕ) → k < length is → length is ≡ length ns → rowsOf (drop k is) (drop k ns) (drop start text) ≡ shortest (getD is k 0) ++ (writePart (take (getD ns k 0) (drop start text)) ++ rowsOf (drop (k + 1) is) (drop (k + 1) ns) (drop (start + getD ns k 0) text))
+  unfolding rowsOf listed writeRows
+  rows-of-next text start h e = rw (next-one is k h, next-one ns k (omega arith), listed, writeRows, drop-drop (getD ns k 0) start text)
+
+  pub rows-of-end : (text : List ℕ) → length is ≤ k → rowsOf (drop k is) (drop k ns) text ≡ []
+  unfolding rowsOf listed writeRows
+  rows-of-end text h = rw (drop-of-length-le is h)

@@ -2,3 +2,4 @@ pub mod Laws
 pub mod Checks
 pub mod Sizes
 pub mod Verdicts
+pub mod Puts

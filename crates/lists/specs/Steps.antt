@@ -57,10 +57,14 @@ contents is ns text =
     (unless (badTextAt 0 ns text) NotText
     (sizeJudged is ns)))
 
--- lists that agree, and how long their contents are
-pub record Measured (is ns text : List ℕ) (n : ℕ) : Type 0 where
+-- lists that agree
+pub record Joined (is ns text : List ℕ) : Type 0 where
   pub same-count : length is ≡ length ns
   pub add-up : sum ns ≡ length text
+
+-- and how long their contents are
+pub record Measured (is ns text : List ℕ) (n : ℕ) : Type 0 where
+  pub joined : Joined is ns text
   pub measured : n ≡ contentsLength is ns
   pub small : n < limit32
 

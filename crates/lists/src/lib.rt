@@ -9,7 +9,7 @@ ghost use Rattle.format.specs.Lists.{sum, functionNames};
 ghost use Rattle.format.specs.Numbers.{shortest, limit32};
 ghost use Rattle.format.specs.Outputs.{Writes};
 ghost use Rattle.format.specs.Reading.{accepted};
-ghost use Rattle.lists.specs.Steps.{agree, checkedAs, indexCheck, textCheck, rowLength, rowsLength, contentsAs, sizeJudged, contents, Measured, payload, rowsOf};
+ghost use Rattle.lists.specs.Steps.{agree, checkedAs, indexCheck, textCheck, rowLength, rowsLength, contentsAs, sizeJudged, contents, Joined, Measured, payload, rowsOf};
 ghost use Rattle.writing.specs.Wrote.{Wrote};
 use format::Offset;
 use format::Reason;
@@ -17,6 +17,9 @@ use format::Refusal;
 use format::Written;
 use reading::text::is_text;
 use writing::number_length;
+use writing::put_byte;
+use writing::put_bytes;
+use writing::put_number;
 
 // The subsection that holds function names.
 const FUNCTION_NAMES: u8 = 1;
@@ -165,4 +168,34 @@ fn judge(indices: &[u32], lengths: &[u32], text: &[u8]) -> Contents
             Checked::Passed => measure(indices, lengths),
         },
     }
+}
+
+// An index, a name's length and the name.
+fn put_row(out: &mut [u8], at: usize, index: u32, size: u32, name: &[u8]) -> usize
+    requires { ⌜ (length (now name) ≡ size) × (at + rowLength index size ≤ length (now out)) ⌝ }
+    ensures { λ r. ⌜ Wrote (now (out .entry)) (now (out .exit)) at r (shortest index ++ writePart (now (name .entry))) ⌝ }
+{
+    let size_at = put_number(out, at, index);
+    let name_at = put_number(out, size_at, size);
+    put_bytes(out, name_at, name)
+}
+
+// A row for each index.
+fn put_rows(out: &mut [u8], at: usize, indices: &[u32], lengths: &[u32], text: &[u8]) -> usize
+    requires { ⌜ Joined (now indices) (now lengths) (now text) ⌝ }
+    requires { ⌜ at + rowsLength (now indices) (now lengths) ≤ length (now out) ⌝ }
+    ensures { λ r. ⌜ Wrote (now (out .entry)) (now (out .exit)) at r (rowsOf (now (indices .entry)) (now (lengths .entry)) (now (text .entry))) ⌝ }
+{
+    let mut next = at;
+    let mut start: usize = 0;
+    let mut k = 0;
+    while k < indices.len() {
+        let index = indices[k];
+        let size = lengths[k];
+        let end = start + wide(size);
+        next = put_row(out, next, index, size, &text[start..end]);
+        start = end;
+        k += 1;
+    }
+    next
 }
