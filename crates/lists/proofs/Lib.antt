@@ -3,3 +3,4 @@ pub mod Checks
 pub mod Sizes
 pub mod Verdicts
 pub mod Puts
+pub mod Payloads

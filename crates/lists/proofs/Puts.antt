@@ -6,11 +6,12 @@ use native.Mathlib.Omega.{arith}
 use borrow.Author.Needs.{needs}
 use lib.ListN.{length, take, drop, getD, length-append, length-drop}
 use lib.Seq.{length-take-le}
-use Rattle.format.specs.Numbers.{shortest}
+use Rattle.format.specs.Numbers.{shortest, limit32}
 use Rattle.format.specs.Canonical.{writePart}
 use Rattle.format.specs.Lists.{sum}
-use Rattle.lists.specs.Steps.{rowLength, rowsLength, Joined, rowsOf}
+use Rattle.lists.specs.Steps.{rowLength, rowsLength, Joined, Measured, rowsOf, filled}
 use Rattle.lists.proofs.Laws.{sum-next, rows-next, rows-of-next, rows-of-end}
+use Rattle.lists.proofs.Sizes.{rows-least}
 use Rattle.writing.specs.Wrote.{Wrote}
 use Rattle.writing.proofs.Laws.{wrote-nothing, wrote-join, wrote-length}
 
@@ -75,3 +76,14 @@ module _ {old : List ℕ} {at : ℕ} {is ns text new : List ℕ} {next start k :
       rw all at (t .so-far)
 
 pub ruleset rows-puts = (putting-none, putting-room, putting-inside, putting-name, putting-more, putting-length, putting-ends, needs)
+
+-- The subsection, and that it is the payload
+module _ {is ns text : List ℕ} {size : ℕ} (m : Measured is ns text size) where
+  pub count-small : length is < limit32
+  count-small = omega (arith, rows-least is ns (m .joined .same-count))
+
+  pub subsection-put : {old a b c new : List ℕ} {i j k next : ℕ} → Wrote old a 0 i (1 ∷ []) → Wrote a b i j (shortest size) → Wrote b c j k (shortest (length is)) → Wrote c new k next (rowsOf is ns text) → Wrote old new 0 next (filled is ns text size)
+  unfolding filled
+  subsection-put p q r s = wrote-join p (wrote-join q (wrote-join r s))
+
+pub ruleset subsection-puts = (count-small, subsection-put, needs)

@@ -17,7 +17,7 @@ use Rattle.lists.proofs.Laws.{rows-next, rows-end}
 row-least : (i n : ℕ) → 2 ≤ rowLength i n
 row-least i n = omega (arith, shortest-positive i, shortest-positive n)
 
-rows-least : (is ns : List ℕ) → length is ≡ length ns → length is ≤ rowsLength is ns
+pub rows-least : (is ns : List ℕ) → length is ≡ length ns → length is ≤ rowsLength is ns
 unfolding rowsLength
 rows-least [] ns e = omega arith
 rows-least (i ∷ is) [] e = absurd (omega arith)

@@ -15,7 +15,7 @@ use Rattle.format.specs.Laws.Outcomes.{not-accepted}
 use Rattle.format.specs.declared.Reason.{Reason}
 use Rattle.format.specs.declared.Reason.the-variants.{ListsDisagree, NotAbove, NotText}
 use Rattle.format.specs.declared.Refusal.{Refusal}
-use Rattle.lists.specs.Steps.{agree, checkedAs, indexCheck, textCheck, contentsAs, sizeJudged, contents}
+use Rattle.lists.specs.Steps.{agree, checkedAs, indexCheck, textCheck, contentsAs, sizeJudged, contents, Joined}
 use Rattle.lists.specs.declared.Checked.{Checked}
 use Rattle.lists.specs.declared.Checked.the-variants.{Passed, Refused as NotPassed}
 use Rattle.lists.specs.declared.Contents.{Contents}
@@ -42,6 +42,12 @@ both false b e k = k e (absurd (not-same e))
     not-same : false ≡ true → ⊥
     not-same q = let z : _≡_ {A = ℕ} 0 1 = cc in omega arith
 
+pub agreed-joined : (is ns text : List ℕ) → agree is ns text ≡ true → Joined is ns text
+unfolding agree
+agreed-joined is ns text e =
+    both (eqb (length is) (length ns)) (eqb (sum ns) (length text)) e λ p q.
+    record { same-count = eqb-true (length is) (length ns) p; add-up = eqb-true (sum ns) (length text) q }
+
 module _ (is ns text : List ℕ) {b : Bool} (a : b ≡ agree is ns text) where
   pub judge-disagree : {r : Refusal} → not b ≡ true → r ≡ record { reason = ListsDisagree; offset = record { 0 = 0 } } → contentsAs (Refused r) ≡ contents is ns text
   unfolding contents
@@ -51,13 +57,14 @@ module _ (is ns text : List ℕ) {b : Bool} (a : b ≡ agree is ns text) where
     agreed : agree is ns text ≡ true
     agreed = sym a ∙ not-false b v
 
+    judge-joined : Joined is ns text
+    judge-joined = agreed-joined is ns text agreed
+
     pub judge-count : length is ≡ length ns
-    unfolding agree
-    judge-count = both (eqb (length is) (length ns)) (eqb (sum ns) (length text)) agreed λ p q. eqb-true (length is) (length ns) p
+    judge-count = judge-joined .same-count
 
     pub judge-sum : sum ns ≤ length text
-    unfolding agree
-    judge-sum = both (eqb (length is) (length ns)) (eqb (sum ns) (length text)) agreed λ p q. omega (arith, eqb-true (sum ns) (length text) q)
+    judge-sum = omega (arith, judge-joined)
 
     module _ {x : Checked} (i : checkedAs x ≡ indexCheck is) where
       pub judge-indices : {r : Refusal} → x ≡ NotPassed r → contentsAs (Refused r) ≡ contents is ns text

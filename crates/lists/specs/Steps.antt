@@ -71,5 +71,12 @@ pub record Measured (is ns text : List ℕ) (n : ℕ) : Type 0 where
 unfoldable pub rowsOf : (indices lengths text : List ℕ) → List ℕ
 rowsOf is ns text = writeRows writePart (listed is ns text)
 
+-- the subsection whose contents have `size` bytes
+unfoldable pub filled : (indices lengths text : List ℕ) (size : ℕ) → List ℕ
+filled is ns text size = 1 ∷ (shortest size ++ (shortest (length is) ++ rowsOf is ns text))
+
+abbrev pub neededFor : (size : ℕ) → ℕ
+neededFor size = 1 + length (shortest size) + size
+
 unfoldable pub payload : (indices lengths text : List ℕ) → List ℕ
 payload is ns text = writeSubsections (subsection (listed is ns text))

@@ -9,7 +9,7 @@ ghost use Rattle.format.specs.Lists.{sum, functionNames};
 ghost use Rattle.format.specs.Numbers.{shortest, limit32};
 ghost use Rattle.format.specs.Outputs.{Writes};
 ghost use Rattle.format.specs.Reading.{accepted};
-ghost use Rattle.lists.specs.Steps.{agree, checkedAs, indexCheck, textCheck, rowLength, rowsLength, contentsAs, sizeJudged, contents, Joined, Measured, payload, rowsOf};
+ghost use Rattle.lists.specs.Steps.{agree, checkedAs, indexCheck, textCheck, rowLength, rowsLength, contentsAs, sizeJudged, contents, Joined, Measured, rowsOf, neededFor, filled, payload};
 ghost use Rattle.writing.specs.Wrote.{Wrote};
 use format::Offset;
 use format::Reason;
@@ -23,6 +23,8 @@ use writing::put_number;
 
 // The subsection that holds function names.
 const FUNCTION_NAMES: u8 = 1;
+
+const ID_LENGTH: usize = 1;
 
 // Contents of so many bytes or more have no size number.
 const TOO_LARGE: usize = 1 << 32;
@@ -198,4 +200,46 @@ fn put_rows(out: &mut [u8], at: usize, indices: &[u32], lengths: &[u32], text: &
         k += 1;
     }
     next
+}
+
+// The subsection: its id, how long its contents are, and the contents.
+fn put_subsection(out: &mut [u8], indices: &[u32], lengths: &[u32], text: &[u8], size: u32) -> usize
+    requires { ⌜ Measured (now indices) (now lengths) (now text) size ⌝ }
+    requires { ⌜ neededFor size ≤ length (now out) ⌝ }
+    ensures { λ r. ⌜ Wrote (now (out .entry)) (now (out .exit)) 0 r (filled (now (indices .entry)) (now (lengths .entry)) (now (text .entry)) size) ⌝ }
+{
+    let size_at = put_byte(out, 0, FUNCTION_NAMES);
+    let count_at = put_number(out, size_at, size);
+    let rows_at = put_number(out, count_at, indices.len() as u32);
+    put_rows(out, rows_at, indices, lengths, text)
+}
+
+// Writes the payload, if the output has room for it. Empty lists give an empty payload.
+fn write(out: &mut [u8], indices: &[u32], lengths: &[u32], text: &[u8], size: u32) -> Written
+    requires { ⌜ Measured (now indices) (now lengths) (now text) size ⌝ }
+    ensures { λ r. ⌜ Writes (accepted (payload (now (indices .entry)) (now (lengths .entry)) (now (text .entry)))) (now (out .entry)) (now (out .exit)) r ⌝ }
+{
+    if indices.len() == 0 {
+        return Written::Length(0);
+    }
+    let before = ID_LENGTH + number_length(size);
+    let needed = before + wide(size);
+    if out.len() < needed {
+        return Written::Refused(Refusal {
+            reason: Reason::OutputTooShort,
+            offset: Offset(needed),
+        });
+    }
+    let end = put_subsection(out, indices, lengths, text, size);
+    Written::Length(end)
+}
+
+// Writes one subsection of function names in canonical form. Nothing is stored before all is known to fit.
+pub fn function_names(indices: &[u32], lengths: &[u32], text: &[u8], out: &mut [u8]) -> Written
+    ensures { λ r. ⌜ Writes (functionNames (now (indices .entry)) (now (lengths .entry)) (now (text .entry))) (now (out .entry)) (now (out .exit)) r ⌝ }
+{
+    match judge(indices, lengths, text) {
+        Contents::Refused(r) => Written::Refused(r),
+        Contents::Length(size) => write(out, indices, lengths, text, size),
+    }
 }

@@ -56,11 +56,11 @@ pub record Written (is ns text bs : List ℕ) : Type 0 where
   pub small : length (writeContent (names (listed is ns text))) < limit32
   pub bytes : writeSubsections (subsection (listed is ns text)) ≡ bs
 
-on-provided {ℓ} : {A : Type 0} {C : Type ℓ} (b : Bool) (why : Reason) (j : Judged A) {v : A} → provided b why j ≡ accepted v → (b ≡ true → j ≡ accepted v → C) → C
+pub on-provided {ℓ} : {A : Type 0} {C : Type ℓ} (b : Bool) (why : Reason) (j : Judged A) {v : A} → provided b why j ≡ accepted v → (b ≡ true → j ≡ accepted v → C) → C
 on-provided true why j e k = k refl e
 on-provided false why j e k = absurd (not-accepted e)
 
-on-unless {ℓ} : {A : Type 0} {C : Type ℓ} (x : Option ℕ) (why : Reason) (j : Judged A) {v : A} → unless x why j ≡ accepted v → (x ≡ none → j ≡ accepted v → C) → C
+pub on-unless {ℓ} : {A : Type 0} {C : Type ℓ} (x : Option ℕ) (why : Reason) (j : Judged A) {v : A} → unless x why j ≡ accepted v → (x ≡ none → j ≡ accepted v → C) → C
 on-unless none why j e k = k refl e
 on-unless (some at) why j e k = absurd (not-accepted e)
 
