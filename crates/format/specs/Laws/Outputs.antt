@@ -1,13 +1,16 @@
 -- Writing into a lent output, path by path: refused before, without room, and written; and that one answer and one end state alone meet the promise.
 use Prim.Native.Nat.{ℕ, _≤_, _<_}
+use mathlib.Core.Bool.{cond}
 use mathlib.Core.List.{List, _++_}
 use mathlib.Core.Path.{_≡_, sym, ap, _∙_}
 use borrow.Author.Tests.{le-leb, lt-leb}
-use lib.ListN.{length, drop}
+use lib.Dec.{leb}
+use lib.ListN.{length, take, drop}
+use lib.Seq.{take-at}
 use Rattle.format.specs.Refusals.{numberOf}
 use Rattle.format.specs.Reading.{Judged, accepted, refused}
 use Rattle.format.specs.Outputs.{fitting, writeAnswer, outputAfter, writtenAs, Writes}
-use Rattle.format.specs.Laws.Outcomes.{not-accepted, accepted-is}
+use Rattle.format.specs.Laws.Outcomes.{not-accepted, accepted-is, byTest, mapped, followed}
 use Rattle.format.specs.Laws.Refusals.{same-judgement}
 use Rattle.format.specs.declared.Reason.the-variants.{OutputTooShort}
 use Rattle.format.specs.declared.Refusal.{Refusal}
@@ -41,3 +44,14 @@ same-written (Refused r) (Refused t) e = ap Refused (same-judgement e)
 -- two results that meet one promise are equal, the output included
 pub writes-same : {wanted : Judged (List ℕ)} {old new new′ : List ℕ} {r r′ : Written} → Writes wanted old new r → Writes wanted old new′ r′ → (r ≡ r′) × (new ≡ new′)
 writes-same {r = r} {r′ = r′} p q = (same-written r r′ (p .says ∙ sym (q .says)), p .leaves ∙ sym (q .leaves))
+
+-- a length is that of the bytes wanted, which stand first in the output
+pub on-written {ℓ} : {C : Type ℓ} {wanted : Judged (List ℕ)} {old new : List ℕ} {n : ℕ} → Writes wanted old new (Length n) → ((bs : List ℕ) → wanted ≡ accepted bs → take n new ≡ bs → C) → C
+unfolding fitting writeAnswer outputAfter
+on-written {wanted = wanted} {old} {new} {n} w k =
+    mapped length (fitting (length old) wanted) (sym (w .says)) λ fit e l.
+    followed wanted (λ bs. cond (leb (length bs) (length old)) (accepted bs) (refused (numberOf OutputTooShort) (length bs))) e λ bs e₁ e₂.
+    byTest (leb (length bs) (length old))
+    (λ t. let same : bs ≡ fit = accepted-is (rw t at e₂) in
+    k bs e₁ (ap (take n) (w .leaves) ∙ rw (e₁, t) (take-at bs (drop (length bs) old) n (rw same l))))
+    (λ t. absurd (not-accepted (rw t at e₂)))

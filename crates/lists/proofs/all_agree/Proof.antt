@@ -1,10 +1,9 @@
 use Rattle.lists.proofs.Checks.{agreement}
-use borrow.Author.Needs.{needs}
 use Rattle.lists.proofs.all_agree.Statement.{statement}
 use Rattle.lists.proofs.all_agree.Tie as tie
 
 adds-up-requires : tie.Need-adds-up-requires
-adds-up-requires c κs = search needs
+adds-up-requires c κs = search agreement
 
 returns : tie.Need-returns
 returns c = search agreement

@@ -1,16 +1,15 @@
 use Rattle.lists.proofs.Payloads.{namings}
-use borrow.Author.Needs.{needs}
 use Rattle.lists.proofs.function_names.Statement.{statement}
 use Rattle.lists.proofs.function_names.Tie as tie
 
 judge-requires : tie.Need-judge-requires
-judge-requires c κs = search needs
+judge-requires c κs = search namings
 
 enum-known-r : tie.Need-enum-known-r
-enum-known-r c = search needs
+enum-known-r c = search namings
 
 enum-known-size : tie.Need-enum-known-size
-enum-known-size c = search needs
+enum-known-size c = search namings
 
 write-requires : tie.Need-write-requires
 write-requires c κs = search namings
@@ -19,7 +18,7 @@ returns : tie.Need-returns
 returns c = search namings
 
 same-length : tie.Need-same-length
-same-length c = search needs
+same-length c = search namings
 
 returns-2 : tie.Need-returns-2
 returns-2 c = search namings

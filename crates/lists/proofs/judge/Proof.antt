@@ -1,31 +1,30 @@
 use Rattle.lists.proofs.Verdicts.{verdicts}
-use borrow.Author.Needs.{needs}
 use Rattle.lists.proofs.judge.Statement.{statement}
 use Rattle.lists.proofs.judge.Tie as tie
 
 all-agree-requires : tie.Need-all-agree-requires
-all-agree-requires c κs = search needs
+all-agree-requires c κs = search verdicts
 
 returns : tie.Need-returns
 returns c = search verdicts
 
 check-indices-requires : tie.Need-check-indices-requires
-check-indices-requires c κs = search needs
+check-indices-requires c κs = search verdicts
 
 enum-known-r : tie.Need-enum-known-r
-enum-known-r c = search needs
+enum-known-r c = search verdicts
 
 enum-told : tie.Need-enum-told
-enum-told c = search needs
+enum-told c = search verdicts
 
 check-text-requires : tie.Need-check-text-requires
 check-text-requires c κs = search verdicts
 
 enum-known-r-2 : tie.Need-enum-known-r-2
-enum-known-r-2 c = search needs
+enum-known-r-2 c = search verdicts
 
 enum-told-2 : tie.Need-enum-told-2
-enum-told-2 c = search needs
+enum-told-2 c = search verdicts
 
 measure-requires : tie.Need-measure-requires
 measure-requires c κs = search verdicts
