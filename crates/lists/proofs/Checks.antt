@@ -12,7 +12,6 @@ use lib.Dec.{eqb}
 use lib.ListN.{length, take, drop, getD}
 use lib.Seq.{slice, take-nil}
 use Rattle.format.specs.Lists.{sum, unsortedAt, badTextAt}
-use Rattle.format.specs.Reading.{accepted}
 use Rattle.format.specs.Text.{utf8}
 use Rattle.format.specs.Laws.Outcomes.{byTest}
 use Rattle.format.specs.declared.Reason.the-variants.{NotAbove, NotText}

@@ -1,6 +1,6 @@
 -- The payload is nothing for empty lists and one subsection otherwise; and what the write leaves is what the lists ask for.
 use Prim.Native.Nat.{ℕ, _+_, _≤_, _<_}
-use mathlib.Core.Bool.{Bool, true, false, _&&_}
+use mathlib.Core.Bool.{Bool, true, false}
 use mathlib.Core.List.{List, [], _∷_, _++_, append-nil}
 use mathlib.Core.Option.{Option, none, some}
 use mathlib.Core.Path.{_≡_, refl, sym, ap, _∙_}
@@ -8,9 +8,9 @@ use native.Mathlib.Omega.{arith}
 use borrow.Author.Needs.{needs}
 use borrow.Author.Tests.{ltb-true}
 use lib.Dec.{ltb}
-use lib.ListN.{length, take, drop, length-append, length-drop}
+use lib.ListN.{length, drop, length-append, length-drop}
 use lib.Seq.{length-take-le}
-use Rattle.format.specs.Reading.{Judged, accepted, refused, mapJudged}
+use Rattle.format.specs.Reading.{Judged, accepted, mapJudged}
 use Rattle.format.specs.Numbers.{shortest, limit32}
 use Rattle.format.specs.Tables.{size}
 use Rattle.format.specs.Names.{names}
@@ -25,7 +25,7 @@ use Rattle.format.specs.declared.Reason.the-variants.{OutputTooShort}
 use Rattle.format.specs.declared.Refusal.{Refusal}
 use Rattle.format.specs.declared.Written.{Written}
 use Rattle.format.specs.declared.Written.the-variants.{Length, Refused as NotWritten}
-use Rattle.lists.specs.Steps.{agree, rowsLength, contentsLength, contentsAs, sizeJudged, contents, Joined, Measured, rowsOf, filled, neededFor, payload}
+use Rattle.lists.specs.Steps.{agree, rowsLength, contentsLength, contentsAs, sizeCheck, listsJudged, Joined, Measured, rowsOf, filled, neededFor, payload}
 use Rattle.lists.specs.declared.Contents.{Contents}
 use Rattle.lists.specs.declared.Contents.the-variants.{Length as Measures, Refused}
 use Rattle.lists.proofs.Verdicts.{agreed-joined}
@@ -102,15 +102,15 @@ module _ {A B : Type 0} (f : A → B) (why : Reason) (j : Judged A) where
   map-unless (some at) = refl
 
 module _ (is ns text : List ℕ) where
-  judged-names : functionNames is ns text ≡ mapJudged (λ _. payload is ns text) (contents is ns text)
-  unfolding functionNames contents sizeJudged agree payload
+  judged-names : functionNames is ns text ≡ mapJudged (λ _. payload is ns text) (listsJudged is ns text)
+  unfolding functionNames listsJudged sizeCheck agree payload
   judged-names =
       byTest (agree is ns text)
       (λ t. rw (t, content-long is ns text (agreed-joined is ns text t), map-unless, map-unless, map-provided))
       (λ t. rw t)
 
-  measured-names : {n : ℕ} → contents is ns text ≡ accepted n → Measured is ns text n
-  unfolding contents sizeJudged
+  measured-names : {n : ℕ} → listsJudged is ns text ≡ accepted n → Measured is ns text n
+  unfolding listsJudged sizeCheck
   measured-names e =
       on-provided (agree is ns text) _ _ e λ t e₁.
       on-unless (unsortedAt 0 0 is) _ _ e₁ λ u e₂. on-unless (badTextAt 0 ns text) _ _ e₂ λ b e₃.
@@ -118,7 +118,7 @@ module _ (is ns text : List ℕ) where
       let all = accepted-is e₄ in
       record { joined = agreed-joined is ns text t; measured = sym all; small = omega (arith, ltb-true (contentsLength is ns) limit32 s) }
 
-  module _ {x : Contents} (c : contentsAs x ≡ contents is ns text) where
+  module _ {x : Contents} (c : contentsAs x ≡ listsJudged is ns text) where
     pub names-refused : {old : List ℕ} {r : Refusal} → x ≡ Refused r → Writes (functionNames is ns text) old old (NotWritten r)
     names-refused e = writes-refused (judged-names ∙ rw (← c, e))
 

@@ -9,7 +9,7 @@ use lib.ListN.{length, drop, getD}
 use Rattle.format.specs.Numbers.{shortest, limit32}
 use Rattle.format.specs.Laws.Numbers.{shortest-positive}
 use Rattle.format.specs.declared.Reason.the-variants.{SubsectionTooLarge}
-use Rattle.lists.specs.Steps.{rowLength, rowsLength, contentsLength, contentsAs, sizeJudged}
+use Rattle.lists.specs.Steps.{rowLength, rowsLength, contentsLength, contentsAs, sizeCheck}
 use Rattle.lists.specs.declared.Contents.the-variants.{Length, Refused}
 use Rattle.lists.proofs.Laws.{rows-next, rows-end}
 
@@ -29,11 +29,11 @@ pub record Summed (is ns : List ℕ) (total k : ℕ) : Type 0 where
   pub same : total + rowsLength (drop k is) (drop k ns) ≡ contentsLength is ns
 
 module _ (is ns : List ℕ) where
-  large : limit32 ≤ contentsLength is ns → contentsAs (Refused (record { reason = SubsectionTooLarge; offset = record { 0 = 0 } })) ≡ sizeJudged is ns
-  unfolding sizeJudged
+  large : limit32 ≤ contentsLength is ns → contentsAs (Refused (record { reason = SubsectionTooLarge; offset = record { 0 = 0 } })) ≡ sizeCheck is ns
+  unfolding sizeCheck
   large h = rw (le-ltb (contentsLength is ns) limit32 h)
 
-pub too-many : (is ns : List ℕ) → length is ≡ length ns → limit32 ≤ length is → contentsAs (Refused (record { reason = SubsectionTooLarge; offset = record { 0 = 0 } })) ≡ sizeJudged is ns
+pub too-many : (is ns : List ℕ) → length is ≡ length ns → limit32 ≤ length is → contentsAs (Refused (record { reason = SubsectionTooLarge; offset = record { 0 = 0 } })) ≡ sizeCheck is ns
 too-many is ns e h = large is ns (omega (arith, rows-least is ns e))
 
 pub summed-none : {is ns : List ℕ} {total : ℕ} → total ≡ length (shortest (length is)) → total ≤ 5 → Summed is ns total 0
@@ -44,11 +44,11 @@ module _ {is ns : List ℕ} {total k : ℕ} (t : Summed is ns total k) where
     pub summed-more : total + row < limit32 → Summed is ns (total + row) (k + 1)
     summed-more s = record { small = s; same = omega (arith, rows-next is ns k h l) }
 
-    pub summed-large : limit32 ≤ total + row → contentsAs (Refused (record { reason = SubsectionTooLarge; offset = record { 0 = 0 } })) ≡ sizeJudged is ns
+    pub summed-large : limit32 ≤ total + row → contentsAs (Refused (record { reason = SubsectionTooLarge; offset = record { 0 = 0 } })) ≡ sizeCheck is ns
     summed-large s = large is ns (omega (arith, rows-next is ns k h l))
 
-  pub summed-ends : length is ≤ k → contentsAs (Length total) ≡ sizeJudged is ns
-  unfolding sizeJudged
+  pub summed-ends : length is ≤ k → contentsAs (Length total) ≡ sizeCheck is ns
+  unfolding sizeCheck
   summed-ends h =
       let all : total ≡ contentsLength is ns = omega (arith, rows-end is ns k h) in
       rw (← all, lt-ltb total limit32 (t .small))

@@ -3,7 +3,7 @@ use Prim.Native.Nat.{ℕ, _≤_}
 use mathlib.Core.Bool.{Bool, true, false, not, _&&_}
 use mathlib.Core.List.{List}
 use mathlib.Core.Option.{Option, none, some}
-use mathlib.Core.Path.{_≡_, refl, sym, ap, _∙_}
+use mathlib.Core.Path.{_≡_, refl, sym, _∙_}
 use native.Mathlib.Omega.{arith}
 use borrow.Author.Needs.{needs}
 use borrow.Author.Tests.{not-true, not-false, eqb-true}
@@ -15,7 +15,7 @@ use Rattle.format.specs.Laws.Outcomes.{not-accepted}
 use Rattle.format.specs.declared.Reason.{Reason}
 use Rattle.format.specs.declared.Reason.the-variants.{ListsDisagree, NotAbove, NotText}
 use Rattle.format.specs.declared.Refusal.{Refusal}
-use Rattle.lists.specs.Steps.{agree, checkedAs, indexCheck, textCheck, contentsAs, sizeJudged, contents, Joined}
+use Rattle.lists.specs.Steps.{agree, checkedAs, indexCheck, textCheck, contentsAs, sizeCheck, listsJudged, Joined}
 use Rattle.lists.specs.declared.Checked.{Checked}
 use Rattle.lists.specs.declared.Checked.the-variants.{Passed, Refused as NotPassed}
 use Rattle.lists.specs.declared.Contents.{Contents}
@@ -49,9 +49,9 @@ agreed-joined is ns text e =
     record { same-count = eqb-true (length is) (length ns) p; add-up = eqb-true (sum ns) (length text) q }
 
 module _ (is ns text : List ℕ) {b : Bool} (a : b ≡ agree is ns text) where
-  pub judge-disagree : {r : Refusal} → not b ≡ true → r ≡ record { reason = ListsDisagree; offset = record { 0 = 0 } } → contentsAs (Refused r) ≡ contents is ns text
-  unfolding contents
-  judge-disagree v e = rw (e, ← a, not-true b v)
+  pub judge-disagree : not b ≡ true → contentsAs (Refused (record { reason = ListsDisagree; offset = record { 0 = 0 } })) ≡ listsJudged is ns text
+  unfolding listsJudged
+  judge-disagree v = rw (← a, not-true b v)
 
   module _ (v : not b ≡ false) where
     agreed : agree is ns text ≡ true
@@ -67,21 +67,21 @@ module _ (is ns text : List ℕ) {b : Bool} (a : b ≡ agree is ns text) where
     judge-sum = omega (arith, judge-joined)
 
     module _ {x : Checked} (i : checkedAs x ≡ indexCheck is) where
-      pub judge-indices : {r : Refusal} → x ≡ NotPassed r → contentsAs (Refused r) ≡ contents is ns text
-      unfolding contents indexCheck
+      pub judge-indices : {r : Refusal} → x ≡ NotPassed r → contentsAs (Refused r) ≡ listsJudged is ns text
+      unfolding listsJudged indexCheck
       judge-indices e = rw agreed (stopped NotAbove _ (unsortedAt 0 0 is) (rw e at i))
 
-      index-passed : x ≡ Passed → unless (unsortedAt 0 0 is) NotAbove (unless (badTextAt 0 ns text) NotText (sizeJudged is ns)) ≡ unless (badTextAt 0 ns text) NotText (sizeJudged is ns)
+      index-passed : x ≡ Passed → unless (unsortedAt 0 0 is) NotAbove (unless (badTextAt 0 ns text) NotText (sizeCheck is ns)) ≡ unless (badTextAt 0 ns text) NotText (sizeCheck is ns)
       unfolding indexCheck
       index-passed p = went-on NotAbove _ (unsortedAt 0 0 is) (rw p at i)
 
       module _ (p : x ≡ Passed) {y : Checked} (j : checkedAs y ≡ textCheck ns text) where
-        pub judge-name : {r : Refusal} → y ≡ NotPassed r → contentsAs (Refused r) ≡ contents is ns text
-        unfolding contents textCheck
+        pub judge-name : {r : Refusal} → y ≡ NotPassed r → contentsAs (Refused r) ≡ listsJudged is ns text
+        unfolding listsJudged textCheck
         judge-name e = rw (agreed, index-passed p) (stopped NotText _ (badTextAt 0 ns text) (rw e at j))
 
-        pub judge-measured : (z : Contents) → y ≡ Passed → contentsAs z ≡ sizeJudged is ns → contentsAs z ≡ contents is ns text
-        unfolding contents textCheck
+        pub judge-measured : (z : Contents) → y ≡ Passed → contentsAs z ≡ sizeCheck is ns → contentsAs z ≡ listsJudged is ns text
+        unfolding listsJudged textCheck
         judge-measured z q m = rw (agreed, index-passed p) (m ∙ sym (went-on NotText _ (badTextAt 0 ns text) (rw q at j)))
 
 pub ruleset verdicts = (judge-disagree, judge-count, judge-sum, judge-indices, judge-name, judge-measured, needs)

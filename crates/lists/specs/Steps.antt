@@ -46,16 +46,16 @@ abbrev pub contentsAs : Contents → Judged ℕ
 contentsAs (Length n) = accepted n
 contentsAs (Refused r) = refused (numberOf (r .reason)) (r .offset .0)
 
-unfoldable pub sizeJudged : (indices lengths : List ℕ) → Judged ℕ
-sizeJudged is ns = provided (ltb (contentsLength is ns) limit32) SubsectionTooLarge (accepted (contentsLength is ns))
+unfoldable pub sizeCheck : (indices lengths : List ℕ) → Judged ℕ
+sizeCheck is ns = provided (ltb (contentsLength is ns) limit32) SubsectionTooLarge (accepted (contentsLength is ns))
 
 -- every check in its order, then the length
-unfoldable pub contents : (indices lengths text : List ℕ) → Judged ℕ
-contents is ns text =
+unfoldable pub listsJudged : (indices lengths text : List ℕ) → Judged ℕ
+listsJudged is ns text =
     provided (agree is ns text) ListsDisagree
     (unless (unsortedAt 0 0 is) NotAbove
     (unless (badTextAt 0 ns text) NotText
-    (sizeJudged is ns)))
+    (sizeCheck is ns)))
 
 -- lists that agree
 pub record Joined (is ns text : List ℕ) : Type 0 where

@@ -9,7 +9,7 @@ ghost use Rattle.format.specs.Lists.{sum, functionNames};
 ghost use Rattle.format.specs.Numbers.{shortest, limit32};
 ghost use Rattle.format.specs.Outputs.{Writes};
 ghost use Rattle.format.specs.Reading.{accepted};
-ghost use Rattle.lists.specs.Steps.{agree, checkedAs, indexCheck, textCheck, rowLength, rowsLength, contentsAs, sizeJudged, contents, Joined, Measured, rowsOf, neededFor, filled, payload};
+ghost use Rattle.lists.specs.Steps.{agree, checkedAs, indexCheck, textCheck, rowLength, rowsLength, contentsAs, sizeCheck, listsJudged, Joined, Measured, rowsOf, neededFor, filled, payload};
 ghost use Rattle.writing.specs.Wrote.{Wrote};
 use format::Offset;
 use format::Reason;
@@ -124,19 +124,20 @@ fn row_length(index: u32, size: u32) -> usize
     ensures { λ r. ⌜ r < limit32 + limit32 ⌝ }
 {
     let before = number_length(index) + number_length(size);
-    before + (size as usize)
+    before + wide(size)
 }
 
 // How long the contents are, unless too large. The sum stops at the first row that makes them so.
 fn measure(indices: &[u32], lengths: &[u32]) -> Contents
     requires { ⌜ length (now indices) ≡ length (now lengths) ⌝ }
-    ensures { λ r. ⌜ contentsAs r ≡ sizeJudged (now (indices .entry)) (now (lengths .entry)) ⌝ }
+    ensures { λ r. ⌜ contentsAs r ≡ sizeCheck (now (indices .entry)) (now (lengths .entry)) ⌝ }
 {
     let too_large = Contents::Refused(Refusal {
         reason: Reason::SubsectionTooLarge,
         offset: Offset(0),
     });
     let count = indices.len();
+    // every row has bytes of its own, so that as many rows are too large as well
     if TOO_LARGE <= count {
         return too_large;
     }
@@ -155,7 +156,7 @@ fn measure(indices: &[u32], lengths: &[u32]) -> Contents
 
 // Every check in its order, then how long the contents are.
 fn judge(indices: &[u32], lengths: &[u32], text: &[u8]) -> Contents
-    ensures { λ r. ⌜ contentsAs r ≡ contents (now (indices .entry)) (now (lengths .entry)) (now (text .entry)) ⌝ }
+    ensures { λ r. ⌜ contentsAs r ≡ listsJudged (now (indices .entry)) (now (lengths .entry)) (now (text .entry)) ⌝ }
 {
     if !all_agree(indices, lengths, text) {
         return Contents::Refused(Refusal {
