@@ -1,0 +1,50 @@
+// Code metadata that was accepted, written anew: each number in its fewest bytes, and no function without items.
+ghost use mathlib.Core.Path.{_≡_};
+ghost use Rattle.copying.specs.Standing.{Known};
+ghost use Rattle.format.specs.Parts.{sized};
+ghost use Rattle.format.specs.Tables.{table};
+ghost use Rattle.rewrite.specs.Items.{refusalIn, RewritesItems};
+use copying::groups_length;
+use copying::number_here;
+use copying::put_groups;
+use format::Offset;
+use format::Reason;
+use format::Refusal;
+use format::Written;
+use metadata::Judged;
+use reading::Cursor;
+use writing::number_length;
+use writing::put_number;
+
+// The refusal of a judgement that is not accepted.
+pub fn refusal_of(judged: Judged) -> Refusal
+    ensures { λ r. ⌜ r ≡ refusalIn judged ⌝ }
+{
+    match judged {
+        Judged::Refused(r) => r,
+        Judged::Accepted => Refusal {
+            reason: Reason::NoPreamble,
+            offset: Offset(0),
+        },
+    }
+}
+
+// All functions with their items. They are measured first, so that nothing is stored where the output is too short.
+pub fn put_items(p: &[u8], c: Cursor, out: &mut [u8]) -> Written
+    requires { ⌜ Known (table (table sized)) (now p) c ⌝ }
+    ensures { λ r. ⌜ RewritesItems (now (p .entry)) c (now (out .entry)) (now (out .exit)) r ⌝ }
+{
+    let count = number_here(c, p);
+    let functions = groups_length(count.next, p, count.value);
+    let size = number_length(functions.kept);
+    let needed = size + functions.length;
+    if out.len() < needed {
+        return Written::Refused(Refusal {
+            reason: Reason::OutputTooShort,
+            offset: Offset(needed),
+        });
+    }
+    let first = put_number(out, 0, functions.kept);
+    let all = put_groups(out, first, count.next, p, count.value);
+    Written::Length(all.at)
+}

@@ -1,0 +1,2 @@
+// Canonical rewritings of payloads into a lent output. Every public call takes any bytes.
+pub mod items;
