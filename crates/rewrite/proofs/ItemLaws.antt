@@ -1,32 +1,41 @@
 -- Metadata that stands at a cursor: its count and its functions, how long they are written anew, and the two ways to end.
 use Prim.Native.Nat.{ℕ, _+_, _^_, _≤_, _<_}
-use mathlib.Core.List.{List, _++_}
+use mathlib.Core.List.{List, [], _++_}
 use mathlib.Core.Path.{_≡_, refl, sym, ap, _∙_}
 use native.Mathlib.Nat.{zero-add}
 use native.Mathlib.Omega.{arith}
 use borrow.Author.Needs.{needs}
 use denote.Enum.Declared.{tagOf}
 use lib.ListN.{length, length-append}
-use Rattle.format.specs.Reading.{accepted}
+use lib.Seq.{slice}
+use Rattle.format.specs.Reading.{got, Reader, filling, accepted, verdict}
 use Rattle.format.specs.Numbers.{number, shortest}
 use Rattle.format.specs.Parts.{Part, sized}
 use Rattle.format.specs.Tables.{Table, size, rows, table}
-use Rattle.format.specs.Canonical.{writeTable, rewriteMetadata}
+use Rattle.format.specs.Metadata.{anyItem, hintItem, metadata, judgeMetadata}
+use Rattle.format.specs.Canonical.{writeTable, rewriteMetadata, canonicalOf, canonicalMetadata, canonicalHints}
 use Rattle.format.specs.Outputs.{Writes}
+use Rattle.format.specs.Laws.Laxer.{Laxer, any-laxer, hint-laxer, table-laxer, filled-laxer}
 use Rattle.format.specs.Laws.Numbers.{shortest-mono}
-use Rattle.format.specs.Laws.Outputs.{writes-short}
+use Rattle.format.specs.Laws.Outcomes.{judged, mapped, refused-exactly}
+use Rattle.format.specs.Laws.Outputs.{writes-refused, writes-short}
+use Rattle.format.specs.Laws.Passing.{sized-passes}
 use Rattle.format.specs.declared.Reason.the-variants.{NoPreamble, OutputTooShort}
 use Rattle.format.specs.declared.Refusal.{Refusal}
+use Rattle.format.specs.declared.Written.{Written}
 use Rattle.format.specs.declared.Written.the-variants.{Length, Refused}
 use Rattle.copying.specs.Bytes.{keptGroups, groupsOf}
 use Rattle.copying.specs.Standing.{Stands, Known, Fits, Puts, MeasuresGroups}
 use Rattle.copying.specs.declared.Groups.{Groups}
 use Rattle.copying.specs.declared.Put.{Put}
-use Rattle.copying.proofs.Laws.{one-value, known-count, table-rows, rows-table, number-shorter, groups-count, groups-shorter}
+use Rattle.copying.proofs.Laws.{table-passable, stand, one-value, known-count, table-rows, rows-table, number-shorter, groups-count, groups-shorter}
+use Rattle.metadata.specs.Judgements.{judged as saysOf}
 use Rattle.metadata.specs.declared.Judged.{Judged}
 use Rattle.metadata.specs.declared.Judged.the-variants.{Accepted, Refused as NotAccepted}
 use Rattle.metadata.proofs.Judged as judged-type
+use Rattle.reading.specs.Cursors.{Inside}
 use Rattle.reading.specs.declared.Cursor.{Cursor}
+use Rattle.reading.proofs.Laws.{left-all}
 use Rattle.writing.specs.Wrote.{Wrote}
 use Rattle.writing.proofs.Laws.{wrote-join, wrote-length, writes-wrote}
 use Rattle.rewrite.specs.Items.{refusalIn, RewritesItems}
@@ -88,3 +97,74 @@ module _ {s : List ℕ} {c : Cursor} (known : Known (table (table sized)) s c) w
                 record { value = measured .value; next = g .next; stands = items-stand; writes = writes-wrote refl (rw bytes at (wrote-join wrote (p .wrote))) }
 
 pub ruleset item-steps = (items-count, items-groups, items-fit, items-short, items-number-room, items-groups-room, items-put, wrote-length, needs)
+
+-- A payload that was judged: refused, or its functions stand where it begins
+as-refused : (j : Judged) → tagOf judged-type.the-type j ≡ 1 → j ≡ NotAccepted (refusalIn j)
+as-refused Accepted h = absurd (omega arith)
+as-refused (NotAccepted r) h = refl
+
+as-accepted : (j : Judged) → tagOf judged-type.the-type j ≡ 0 → j ≡ Accepted
+as-accepted Accepted h = refl
+as-accepted (NotAccepted r) h = absurd (omega arith)
+
+abbrev whole : List ℕ → Cursor
+whole p = record { at = 0; end = length p }
+
+module _ {item : Reader Part} (lax : Laxer item sized) (p : List ℕ) (j : Judged) (says : saysOf j ≡ verdict (judgeMetadata item 0 p)) where
+  payload-refused : {old : List ℕ} {r : Refusal} → tagOf judged-type.the-type j ≡ 1 → r ≡ refusalIn j → Writes (canonicalOf item p) old old (Refused r)
+  unfolding canonicalOf
+  payload-refused h is =
+      let told : verdict (judgeMetadata item 0 p) ≡ saysOf (NotAccepted (refusalIn j)) = sym says ∙ ap saysOf (as-refused j h) in
+      let no = refused-exactly (λ _. tt) (judgeMetadata item 0 p) .0 told in
+      rw is (writes-refused (refused-exactly rewriteMetadata (judgeMetadata item 0 p) .1 no))
+
+  module _ (h : tagOf judged-type.the-type j ≡ 0) where
+    -- read without the item's checks, what was accepted stands there
+    payload-stands : (v : Table (Table Part)) × (judgeMetadata item 0 p ≡ accepted v) × (next : Cursor) × Stands (table (table sized)) p (whole p) v next
+    unfolding judgeMetadata metadata
+    payload-stands =
+        let told : verdict (judgeMetadata item 0 p) ≡ accepted tt = sym says ∙ ap saysOf (as-accepted j h) in
+        mapped (λ _. tt) (judgeMetadata item 0 p) told λ v e _.
+        judged (filling (table (table item)) 0 p) e λ o rest e₁.
+        let (o₁, e₂) = filled-laxer (table-laxer (table-laxer lax)) 0 p e₁ in
+        let inside : Inside p (whole p) = record { ahead = omega arith; within = omega arith } in
+        let here : table (table sized) 0 (slice 0 (length p) p) ≡ got v o₁ [] = rw (left-all p) e₂ in
+        (v, e, _, stand (table-passable (table-passable sized-passes)) inside here)
+
+    payload-known : Known (table (table sized)) p (whole p)
+    payload-known = let (v, e, next, stands) = payload-stands in record { value = v; next = next; stands = stands }
+
+    payload-written : {old new : List ℕ} {r : Written} → RewritesItems p (whole p) old new r → Writes (canonicalOf item p) old new r
+    unfolding canonicalOf
+    payload-written w =
+        let (v, e, next, stands) = payload-stands in
+        let same : v ≡ w .value = one-value stands (w .stands) in
+        rw (e, same) (w .writes)
+
+-- of any format, and hints
+module _ (p : List ℕ) (j : Judged) where
+  module _ (says : saysOf j ≡ verdict (judgeMetadata anyItem 0 p)) where
+    pub any-refused : {old : List ℕ} {r : Refusal} → tagOf judged-type.the-type j ≡ 1 → r ≡ refusalIn j → Writes (canonicalMetadata p) old old (Refused r)
+    unfolding canonicalMetadata
+    any-refused h is = payload-refused any-laxer p j says h is
+
+    pub any-known : tagOf judged-type.the-type j ≡ 0 → Known (table (table sized)) p (whole p)
+    any-known h = payload-known any-laxer p j says h
+
+    pub any-written : tagOf judged-type.the-type j ≡ 0 → {old new : List ℕ} {r : Written} → RewritesItems p (whole p) old new r → Writes (canonicalMetadata p) old new r
+    unfolding canonicalMetadata
+    any-written h w = payload-written any-laxer p j says h w
+
+  module _ (says : saysOf j ≡ verdict (judgeMetadata hintItem 0 p)) where
+    pub hints-refused : {old : List ℕ} {r : Refusal} → tagOf judged-type.the-type j ≡ 1 → r ≡ refusalIn j → Writes (canonicalHints p) old old (Refused r)
+    unfolding canonicalHints
+    hints-refused h is = payload-refused hint-laxer p j says h is
+
+    pub hints-known : tagOf judged-type.the-type j ≡ 0 → Known (table (table sized)) p (whole p)
+    hints-known h = payload-known hint-laxer p j says h
+
+    pub hints-written : tagOf judged-type.the-type j ≡ 0 → {old new : List ℕ} {r : Written} → RewritesItems p (whole p) old new r → Writes (canonicalHints p) old new r
+    unfolding canonicalHints
+    hints-written h w = payload-written hint-laxer p j says h w
+
+pub ruleset payload-steps = (any-refused, any-known, any-written, hints-refused, hints-known, hints-written, needs)

@@ -1,0 +1,41 @@
+use Rattle.rewrite.proofs.ItemLaws.{payload-steps}
+use borrow.Author.Needs.{needs}
+use Rattle.rewrite.proofs.hints.Statement.{statement}
+use Rattle.rewrite.proofs.hints.Tie as tie
+
+judge-hints-requires : tie.Need-judge-hints-requires
+judge-hints-requires c κs = search needs
+
+enum-told : tie.Need-enum-told
+enum-told c = search needs
+
+enum-told-2 : tie.Need-enum-told-2
+enum-told-2 c = search needs
+
+refusal-of-requires : tie.Need-refusal-of-requires
+refusal-of-requires c κs = search needs
+
+returns : tie.Need-returns
+returns c = search payload-steps
+
+put-items-requires : tie.Need-put-items-requires
+put-items-requires c κs = search payload-steps
+
+same-length : tie.Need-same-length
+same-length c = search needs
+
+returns-2 : tie.Need-returns-2
+returns-2 c = search payload-steps
+
+pub hints-spec : {M : Type 1} → statement M
+hints-spec =
+    tie.close
+    (tie.spec
+    judge-hints-requires
+    enum-told
+    enum-told-2
+    refusal-of-requires
+    returns
+    put-items-requires
+    same-length
+    returns-2)
