@@ -2,7 +2,6 @@
 use Prim.Native.Nat.{ℕ, _+_, _^_, _≤_, _<_}
 use mathlib.Core.List.{List, [], _++_}
 use mathlib.Core.Path.{_≡_, refl, sym, ap, _∙_}
-use native.Mathlib.Nat.{zero-add}
 use native.Mathlib.Omega.{arith}
 use borrow.Author.Needs.{needs}
 use denote.Enum.Declared.{tagOf}
@@ -82,21 +81,17 @@ module _ {s : List ℕ} {c : Cursor} (known : Known (table (table sized)) s c) w
         pub items-short : length old < size-length + g .length → RewritesItems s c old old (Refused (record { reason = OutputTooShort; offset = record { 0 = size-length + g .length } }))
         items-short h = record { value = measured .value; next = g .next; stands = items-stand; writes = rw (← items-long) (writes-short refl (rw items-long h)) }
 
-        module _ (room : size-length + g .length ≤ length old) where
-          pub items-number-room : 0 + length (shortest (g .kept)) ≤ length old
-          items-number-room = omega (arith, room, long)
+        module _ (room : size-length + g .length ≤ length old) {mid : List ℕ} {first : ℕ} (wrote : Wrote old mid 0 first (shortest (g .kept))) where
+          pub items-groups-room : Fits (rows (table sized) n 0) groupsOf s d mid first
+          items-groups-room = record { value = measured .value; next = g .next; stands = measured .stands; room = omega (arith, room, long, measured .long, wrote .next-is, wrote-length wrote) }
 
-          module _ {mid : List ℕ} {first : ℕ} (wrote : Wrote old mid 0 first (shortest (g .kept))) where
-            pub items-groups-room : Fits (rows (table sized) n 0) groupsOf s d mid first
-            items-groups-room = record { value = measured .value; next = g .next; stands = measured .stands; room = omega (arith, room, long, measured .long, wrote .next-is, wrote-length wrote) }
+          pub items-put : {new : List ℕ} {r : Put} → Puts (rows (table sized) n 0) groupsOf s d mid new first r → RewritesItems s c old new (Length (r .at))
+          items-put p =
+              let same : p .value ≡ measured .value = one-value (p .stands) (measured .stands) in
+              let bytes : shortest (g .kept) ++ groupsOf (p .value) ≡ rewriteMetadata (measured .value) = rw (same, items-bytes (measured .value), measured .many) in
+              record { value = measured .value; next = g .next; stands = items-stand; writes = writes-wrote refl (rw bytes at (wrote-join wrote (p .wrote))) }
 
-            pub items-put : {new : List ℕ} {r : Put} → Puts (rows (table sized) n 0) groupsOf s d mid new first r → RewritesItems s c old new (Length (r .at))
-            items-put p =
-                let same : p .value ≡ measured .value = one-value (p .stands) (measured .stands) in
-                let bytes : shortest (g .kept) ++ groupsOf (p .value) ≡ rewriteMetadata (measured .value) = rw (same, items-bytes (measured .value), measured .many) in
-                record { value = measured .value; next = g .next; stands = items-stand; writes = writes-wrote refl (rw bytes at (wrote-join wrote (p .wrote))) }
-
-pub ruleset item-steps = (items-count, items-groups, items-fit, items-short, items-number-room, items-groups-room, items-put, wrote-length, needs)
+pub ruleset item-steps = (items-count, items-groups, items-fit, items-short, items-groups-room, items-put, needs)
 
 -- A payload that was judged: refused, or its functions stand where it begins
 as-refused : (j : Judged) → tagOf judged-type.the-type j ≡ 1 → j ≡ NotAccepted (refusalIn j)
@@ -110,7 +105,7 @@ as-accepted (NotAccepted r) h = absurd (omega arith)
 abbrev whole : List ℕ → Cursor
 whole p = record { at = 0; end = length p }
 
-module _ {item : Reader Part} (lax : Laxer item sized) (p : List ℕ) (j : Judged) (says : saysOf j ≡ verdict (judgeMetadata item 0 p)) where
+module _ (item : Reader Part) (p : List ℕ) (j : Judged) (says : saysOf j ≡ verdict (judgeMetadata item 0 p)) where
   payload-refused : {old : List ℕ} {r : Refusal} → tagOf judged-type.the-type j ≡ 1 → r ≡ refusalIn j → Writes (canonicalOf item p) old old (Refused r)
   unfolding canonicalOf
   payload-refused h is =
@@ -118,7 +113,7 @@ module _ {item : Reader Part} (lax : Laxer item sized) (p : List ℕ) (j : Judge
       let no = refused-exactly (λ _. tt) (judgeMetadata item 0 p) .0 told in
       rw is (writes-refused (refused-exactly rewriteMetadata (judgeMetadata item 0 p) .1 no))
 
-  module _ (h : tagOf judged-type.the-type j ≡ 0) where
+  module _ (lax : Laxer item sized) (h : tagOf judged-type.the-type j ≡ 0) where
     -- read without the item's checks, what was accepted stands there
     payload-stands : (v : Table (Table Part)) × (judgeMetadata item 0 p ≡ accepted v) × (next : Cursor) × Stands (table (table sized)) p (whole p) v next
     unfolding judgeMetadata metadata
@@ -146,25 +141,25 @@ module _ (p : List ℕ) (j : Judged) where
   module _ (says : saysOf j ≡ verdict (judgeMetadata anyItem 0 p)) where
     pub any-refused : {old : List ℕ} {r : Refusal} → tagOf judged-type.the-type j ≡ 1 → r ≡ refusalIn j → Writes (canonicalMetadata p) old old (Refused r)
     unfolding canonicalMetadata
-    any-refused h is = payload-refused any-laxer p j says h is
+    any-refused h is = payload-refused anyItem p j says h is
 
     pub any-known : tagOf judged-type.the-type j ≡ 0 → Known (table (table sized)) p (whole p)
-    any-known h = payload-known any-laxer p j says h
+    any-known h = payload-known anyItem p j says any-laxer h
 
     pub any-written : tagOf judged-type.the-type j ≡ 0 → {old new : List ℕ} {r : Written} → RewritesItems p (whole p) old new r → Writes (canonicalMetadata p) old new r
     unfolding canonicalMetadata
-    any-written h w = payload-written any-laxer p j says h w
+    any-written h w = payload-written anyItem p j says any-laxer h w
 
   module _ (says : saysOf j ≡ verdict (judgeMetadata hintItem 0 p)) where
     pub hints-refused : {old : List ℕ} {r : Refusal} → tagOf judged-type.the-type j ≡ 1 → r ≡ refusalIn j → Writes (canonicalHints p) old old (Refused r)
     unfolding canonicalHints
-    hints-refused h is = payload-refused hint-laxer p j says h is
+    hints-refused h is = payload-refused hintItem p j says h is
 
     pub hints-known : tagOf judged-type.the-type j ≡ 0 → Known (table (table sized)) p (whole p)
-    hints-known h = payload-known hint-laxer p j says h
+    hints-known h = payload-known hintItem p j says hint-laxer h
 
     pub hints-written : tagOf judged-type.the-type j ≡ 0 → {old new : List ℕ} {r : Written} → RewritesItems p (whole p) old new r → Writes (canonicalHints p) old new r
     unfolding canonicalHints
-    hints-written h w = payload-written hint-laxer p j says h w
+    hints-written h w = payload-written hintItem p j says hint-laxer h w
 
 pub ruleset payload-steps = (any-refused, any-known, any-written, hints-refused, hints-known, hints-written, needs)
