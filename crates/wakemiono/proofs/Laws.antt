@@ -10,6 +10,7 @@ use Rattle.format.specs.Refusals.{numberOf}
 use Rattle.format.specs.Reading.{Judged as Judgement, verdict}
 use Rattle.format.specs.Names.{knownKind, judgeNames}
 use Rattle.format.specs.Metadata.{hintAnswered}
+use Rattle.format.specs.Outputs.{writtenAs, Writes}
 use Rattle.format.specs.Questions.{answered}
 use Rattle.format.specs.declared.Answer.{Answer}
 use Rattle.format.specs.declared.Answer.the-variants.{None, Found, Refused}
@@ -19,6 +20,8 @@ use Rattle.format.specs.declared.HintAnswer.{HintAnswer}
 use Rattle.format.specs.declared.HintAnswer.the-variants.{None as NoHint, Found as AHint, Refused as NotHinted}
 use Rattle.format.specs.declared.Place.{Place}
 use Rattle.format.specs.declared.Refusal.{Refusal}
+use Rattle.format.specs.declared.Written.{Written}
+use Rattle.format.specs.declared.Written.the-variants.{Length, Refused as NotWritten}
 use Rattle.format.proofs.Answer as answer-type
 use Rattle.format.proofs.Hint as likelihood-type
 use Rattle.format.proofs.HintAnswer as hint-type
@@ -38,7 +41,7 @@ use Rattle.walk.specs.declared.survey.SectionAnswer.{SectionAnswer}
 use Rattle.walk.specs.declared.survey.SectionAnswer.the-variants.{None as NoSection, Found as ASection, Refused as NotFound}
 use Rattle.walk.specs.declared.survey.SectionPlace.{SectionPlace}
 use Rattle.walk.proofs.survey.SectionAnswer as section-type
-use Rattle.wakemiono.specs.Boundary.{wmNone, wmFound, wmRefused, wmPlace, wmSection, wmCount, wmJudged, wmHinted, wmHint}
+use Rattle.wakemiono.specs.Boundary.{wmNone, wmFound, wmRefused, wmPlace, wmSection, wmCount, wmJudged, wmHinted, wmHint, WmWrites}
 use Rattle.wakemiono.specs.declared.WmAnswer.{WmAnswer}
 
 pub refusal-is : (r : Refusal) (n : ℕ) → n ≡ numberOf (r .reason) → record { kind = 2; code = n; offset = r .offset .0; length = 0 } ≡ wmRefused (numberOf (r .reason)) (r .offset .0)
@@ -51,6 +54,14 @@ module _ (c : Counted) where
 
   pub count-is : (n : ℕ) → c ≡ Count n → wmFound 0 0 n ≡ wmCount (counted c)
   count-is n e = rw e
+
+-- a write
+module _ (w : Written) where
+  pub written-refused : (a : WmAnswer) (r : Refusal) → w ≡ NotWritten r → a ≡ wmRefused (numberOf (r .reason)) (r .offset .0) → a ≡ wmCount (writtenAs w)
+  written-refused a r e q = rw e q
+
+  pub written-is : (a : WmAnswer) (n : ℕ) → w ≡ Length n → a ≡ wmFound 0 0 n → a ≡ wmCount (writtenAs w)
+  written-is a n e q = rw e q
 
 -- a section
 no-section : (s : SectionAnswer) → tagOf section-type.the-type s ≡ 0 → s ≡ NoSection
@@ -128,7 +139,7 @@ module _ (x : HintAnswer) where
   pub hint-is : (a : WmAnswer) (h : Hint) → x ≡ AHint h → a ≡ wmHinted h → a ≡ wmHint (hintAnswered x)
   hint-is a h e q = rw e q
 
-pub ruleset fields = (refusal-is, count-refused, count-is, section-none, section-refused, section-is, place-none, place-refused, place-is, judged-refused, judged-is, names-refused, names-accepted, unlikely-is, likely-is, hint-none, hint-refused, hint-is, needs)
+pub ruleset fields = (refusal-is, count-refused, count-is, written-refused, written-is, section-none, section-refused, section-is, place-none, place-refused, place-is, judged-refused, judged-is, names-refused, names-accepted, unlikely-is, likely-is, hint-none, hint-refused, hint-is, needs)
 
 -- and so does each call
 pub says-count : (a : WmAnswer) (x y : Judgement ℕ) → a ≡ wmCount x → x ≡ y → a ≡ wmCount y
@@ -149,4 +160,7 @@ says-names s a n j e h = e ∙ ap (wmJudged n) (verdict-is s 0 s j h)
 pub says-hint : (a : WmAnswer) (x y : Judgement (Option Hint)) → a ≡ wmHint x → x ≡ y → a ≡ wmHint y
 says-hint a x y e q = e ∙ ap wmHint q
 
-pub ruleset calls = (says-count, says-section, says-place, says-judged, says-names, says-hint, needs)
+pub says-written : {wanted : Judgement (List ℕ)} {old new : List ℕ} {a : WmAnswer} (w : Written) → a ≡ wmCount (writtenAs w) → Writes wanted old new w → WmWrites wanted old new a
+says-written w e h = record { says = e ∙ ap wmCount (h .says); leaves = h .leaves }
+
+pub ruleset calls = (says-count, says-section, says-place, says-judged, says-names, says-hint, says-written, needs)

@@ -1,6 +1,10 @@
 -- The four fields of an answer at the C boundary. Assumes nothing.
 use Prim.Native.Nat.{ℕ}
+use mathlib.Core.List.{List}
 use mathlib.Core.Option.{Option, none, some}
+use mathlib.Core.Path.{_≡_}
+use lib.ListN.{length}
+use Rattle.format.specs.Outputs.{writeAnswer, outputAfter}
 use Rattle.format.specs.Reading.{Judged, accepted, refused}
 use Rattle.format.specs.declared.Hint.{Hint}
 use Rattle.format.specs.declared.Hint.the-variants.{Unlikely, Likely}
@@ -24,7 +28,7 @@ wmAnswer found (accepted none) = wmNone
 wmAnswer found (accepted (some v)) = found v
 wmAnswer found (refused n at) = wmRefused n at
 
--- a place; a section: its id, the offset of its id byte, the length of its contents; a count of sections
+-- a place; a section: its id, the offset of its id byte, the length of its contents; a count of sections, or of bytes written
 abbrev pub wmPlace : Judged (Option Place) → WmAnswer
 wmPlace j = wmAnswer (λ p. wmFound 0 (p .offset .0) (p .length)) j
 
@@ -47,3 +51,8 @@ wmHinted Likely = record { kind = 4; code = 0; offset = 0; length = 0 }
 
 abbrev pub wmHint : Judged (Option Hint) → WmAnswer
 wmHint j = wmAnswer wmHinted j
+
+-- a write: the answer, and the whole end state of the output
+pub record WmWrites (wanted : Judged (List ℕ)) (old new : List ℕ) (a : WmAnswer) : Type 0 where
+  pub says : a ≡ wmCount (writeAnswer (length old) wanted)
+  pub leaves : new ≡ outputAfter wanted old

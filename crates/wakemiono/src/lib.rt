@@ -1,9 +1,11 @@
 // The C boundary: every call takes any bytes, ends, and asks no prior check. include/wakemiono.h says the same for C.
 ghost use mathlib.Core.Path.{_≡_};
 ghost use lib.ListN.{length};
+ghost use Rattle.format.specs.Lists.{functionNames};
 ghost use Rattle.format.specs.Metadata.{anyItem, hintItem, judgeMetadata, askMetadata, askHint, hintAnswered};
 ghost use Rattle.format.specs.Names.{knownKind, judgeNames};
 ghost use Rattle.format.specs.Options.{mapSome};
+ghost use Rattle.format.specs.Outputs.{writtenAs};
 ghost use Rattle.format.specs.Questions.{answered, asPlace, ask, moduleName, functionName, typeName, tagName, localName, fieldName, keptContents};
 ghost use Rattle.format.specs.Reading.{mapJudged, verdict};
 ghost use Rattle.format.specs.Refusals.{numberOf};
@@ -11,7 +13,7 @@ ghost use Rattle.format.specs.Walk.{sectionCount, sectionAt, customPayload};
 ghost use Rattle.metadata.specs.Judgements;
 ghost use Rattle.names.specs.Places.{verdictOf};
 ghost use Rattle.walk.specs.Surveys.{counted, sectionAnswered, sectionPlace};
-ghost use Rattle.wakemiono.specs.Boundary.{wmFound, wmRefused, wmCount, wmSection, wmPlace, wmJudged, wmHinted, wmHint};
+ghost use Rattle.wakemiono.specs.Boundary.{wmFound, wmRefused, wmCount, wmSection, wmPlace, wmJudged, wmHinted, wmHint, WmWrites};
 use format::Answer;
 use format::CodeOffset;
 use format::FieldIndex;
@@ -22,6 +24,7 @@ use format::LocalIndex;
 use format::Refusal;
 use format::TagIndex;
 use format::TypeIndex;
+use format::Written;
 use metadata::Judged;
 use names::judging;
 use walk::Counted;
@@ -80,6 +83,15 @@ fn of_count(c: Counted) -> WmAnswer
     }
 }
 
+fn of_written(w: Written) -> WmAnswer
+    ensures { λ a. ⌜ a ≡ wmCount (writtenAs w) ⌝ }
+{
+    match w {
+        Written::Refused(r) => of_refusal(r),
+        Written::Length(n) => all_of(n),
+    }
+}
+
 fn of_section(s: SectionAnswer) -> WmAnswer
     ensures { λ a. ⌜ a ≡ wmSection (sectionAnswered s) ⌝ }
 {
@@ -116,7 +128,7 @@ fn of_answer(answer: Answer) -> WmAnswer
     }
 }
 
-// The whole payload, where it was accepted.
+// So many bytes from the front: the whole payload, where it was accepted, or what was written.
 fn all_of(length: usize) -> WmAnswer
     ensures { λ a. ⌜ a ≡ wmFound 0 0 length ⌝ }
 {
@@ -278,4 +290,16 @@ pub extern "C" fn wm_hint(payload: &[u8], function: u32, offset: u32) -> WmAnswe
     ensures { λ a. ⌜ a ≡ wmHint (askHint (record { 0 = function }) (record { 0 = offset }) 0 (now (payload .entry))) ⌝ }
 {
     of_hint(metadata::hint(payload, FunctionIndex(function), CodeOffset(offset)))
+}
+
+#[no_mangle]
+pub extern "C" fn wm_function_names_write(
+    indices: &[u32],
+    lengths: &[u32],
+    text: &[u8],
+    out: &mut [u8],
+) -> WmAnswer
+    ensures { λ a. ⌜ WmWrites (functionNames (now (indices .entry)) (now (lengths .entry)) (now (text .entry))) (now (out .entry)) (now (out .exit)) a ⌝ }
+{
+    of_written(lists::function_names(indices, lengths, text, out))
 }
