@@ -20,6 +20,7 @@ use say::say_section;
 use say::say_text;
 
 mod say;
+mod writes;
 
 fn number(s: &[u8]) -> NumberRead {
     let all = Cursor {
@@ -222,4 +223,5 @@ fn main() {
     name_payloads();
     errors_of_others();
     hints();
+    writes::from_lists();
 }

@@ -3,11 +3,17 @@ use format::Answer;
 use format::Hint;
 use format::HintAnswer;
 use format::Refusal;
+use format::Written;
 use names::judging;
 use reading::NumberRead;
 use reading::PartRead;
 use walk::Counted;
 use walk::survey::SectionAnswer;
+
+// Of hexadecimal digits; from ten on they are letters.
+const BASE: u8 = 16;
+
+const TEN: u8 = 10;
 
 fn say(words: &[u8]) {
     io::write_all(1, words);
@@ -130,4 +136,55 @@ pub fn say_text(case: &[u8], text: &[u8]) {
     say(b"\"");
     say(text);
     say(b"\"\n");
+}
+
+// The last hexadecimal digit of a number, as a letter or a numeral.
+fn digit(n: u8) -> u8 {
+    let low = n % BASE;
+    if low < TEN {
+        b'0' + low
+    } else {
+        b'A' + (low - TEN)
+    }
+}
+
+fn say_byte(b: u8) {
+    say(&[digit(b / BASE), digit(b)]);
+}
+
+fn say_bytes(case: &[u8], bytes: &[u8]) {
+    say_case(case);
+    let mut k = 0;
+    while k < bytes.len() {
+        if k > 0 {
+            say(b" ");
+        }
+        say_byte(bytes[k]);
+        k += 1;
+    }
+    if k == 0 {
+        say(b"no bytes");
+    }
+    say(b"\n");
+}
+
+// What a write left in the output: the bytes it wrote and those behind them, or all after a refusal.
+pub fn say_written(case: &[u8], w: Written, out: &[u8]) {
+    say_case(case);
+    match w {
+        Written::Refused(r) => {
+            say_refusal(r);
+            say_bytes(b"  output", out);
+        }
+        Written::Length(n) => {
+            say(b"length ");
+            say_decimal(n as u64);
+            say(b"\n");
+            // a length past the output would show by the two lines missing
+            if n <= out.len() {
+                say_bytes(b"  written", &out[0..n]);
+                say_bytes(b"  behind", &out[n..]);
+            }
+        }
+    }
 }
