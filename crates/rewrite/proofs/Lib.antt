@@ -1,1 +1,3 @@
+pub mod ContentLaws
+pub mod PutLaws
 pub mod ItemLaws

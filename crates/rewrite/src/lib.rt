@@ -1,4 +1,5 @@
 // Canonical rewritings of payloads into a lent output. Every public call takes any bytes.
+pub mod contents;
 pub mod items;
 
 ghost use Rattle.format.specs.Canonical.{canonicalMetadata, canonicalHints};

@@ -25,11 +25,11 @@ pub data ContentFine : Kind → Content (List ℕ) → Type 0 where
   namesByFine : {t : Table (Table (List ℕ))} → TableFine (TableFine NameFine) t → ContentFine indirectMap (namesBy t)
   wholeFine : {x : List ℕ} → ContentFine kept (whole x)
 
-record ContentRead (k : Kind) (c : Content (List ℕ)) (bs : List ℕ) : Type 0 where
-  fine : ContentFine k c
-  shorter : length (writeContent c) ≤ length bs
+pub record ContentRead (k : Kind) (c : Content (List ℕ)) (bs : List ℕ) : Type 0 where
+  pub fine : ContentFine k c
+  pub shorter : length (writeContent c) ≤ length bs
 
-contents-sound : (k : Kind) (o : ℕ) (bs : List ℕ) {c : Content Part} {o′ : ℕ} {rest : List ℕ} → contents k o bs ≡ got c o′ rest → ContentRead k (bare c) bs
+pub contents-sound : (k : Kind) (o : ℕ) (bs : List ℕ) {c : Content Part} {o′ : ℕ} {rest : List ℕ} → contents k o bs ≡ got c o′ rest → ContentRead k (bare c) bs
 unfolding contents writeContent bare remaining
 contents-sound oneName o bs e =
     inTurn (filling name o bs) _ e λ x o₁ r₁ e₁ e₂.
