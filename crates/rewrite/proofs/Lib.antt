@@ -1,3 +1,5 @@
 pub mod ContentLaws
 pub mod PutLaws
+pub mod SubsectionLaws
+pub mod SubsectionPuts
 pub mod ItemLaws

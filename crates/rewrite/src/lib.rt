@@ -1,6 +1,7 @@
 // Canonical rewritings of payloads into a lent output. Every public call takes any bytes.
 pub mod contents;
 pub mod items;
+pub mod subsections;
 
 ghost use Rattle.format.specs.Canonical.{canonicalMetadata, canonicalHints};
 ghost use Rattle.format.specs.Outputs.{Writes};

@@ -1,0 +1,45 @@
+use Prim.Native.Nat.{_-_}
+use Rattle.rewrite.proofs.SubsectionPuts.{PuttingNames, names-written}
+use Rattle.rewrite.proofs.subsections.put_names.Statement.{statement}
+use Rattle.rewrite.proofs.subsections.put_names.Tie as tie
+
+abbrev Inv-loop : tie.InvT-loop
+Inv-loop out₀ s next₀ place₀ out next place = PuttingNames s next₀ out₀ out place next
+
+abbrev μ-loop : tie.MeasureT-loop
+μ-loop out₀ s next₀ place₀ out next place = next .end - next .at
+
+loop-holds : tie.Need-loop-holds Inv-loop μ-loop
+loop-holds c = search names-written
+
+frame-here-requires : tie.Need-frame-here-requires Inv-loop μ-loop
+frame-here-requires c κs = search names-written
+
+put-subsection-requires : tie.Need-put-subsection-requires Inv-loop μ-loop
+put-subsection-requires c κs = search names-written
+
+loop-less : tie.Need-loop-less Inv-loop μ-loop
+loop-less c = search names-written
+
+loop-again : tie.Need-loop-again Inv-loop μ-loop
+loop-again c = search names-written
+
+same-length : tie.Need-same-length Inv-loop μ-loop
+same-length c = search names-written
+
+returns : tie.Need-returns Inv-loop μ-loop
+returns c = search names-written
+
+pub put-names-spec : {M : Type 1} → statement M
+put-names-spec =
+    tie.close
+    (tie.spec
+    Inv-loop
+    μ-loop
+    loop-holds
+    frame-here-requires
+    put-subsection-requires
+    loop-less
+    loop-again
+    same-length
+    returns)

@@ -1,0 +1,94 @@
+-- Subsections that were accepted, one after the other, what is left of them, and what a write leaves of that. Assumes nothing.
+use Prim.Native.Nat.{ℕ, _+_, _≤_, _<_}
+use mathlib.Core.List.{List, [], _∷_}
+use mathlib.Core.Option.{Option, none, some}
+use mathlib.Core.Path.{_≡_}
+use lib.ListN.{length, getD}
+use Rattle.format.specs.Reading.{got, accepted}
+use Rattle.format.specs.Numbers.{shortest, limit32}
+use Rattle.format.specs.Parts.{Part, sized}
+use Rattle.format.specs.Tables.{Table}
+use Rattle.format.specs.Names.{Content, knownKind, payload}
+use Rattle.format.specs.Canonical.{bare, trim, writePart, writeContent, rewriteNames}
+use Rattle.format.specs.Outputs.{Writes}
+use Rattle.format.specs.declared.Written.{Written}
+use Rattle.reading.specs.Cursors.{Inside, left}
+use Rattle.reading.specs.declared.Cursor.{Cursor}
+use Rattle.writing.specs.Wrote.{Wrote}
+use Rattle.copying.specs.Standing.{Known, TakesPart}
+use Rattle.rewrite.specs.Contents.{ContentStands}
+use Rattle.rewrite.specs.declared.contents.Sizes.{Sizes}
+use Rattle.rewrite.specs.declared.contents.Left.{Left}
+use Rattle.rewrite.specs.declared.contents.Left.the-variants.{Nothing, Contents}
+use Rattle.rewrite.specs.declared.subsections.Frame.{Frame}
+
+-- what is left fits a size number
+abbrev pub smallLeft : Left → Type 0
+smallLeft Nothing = Unit {0}
+smallLeft (Contents x) = x .length < limit32
+
+-- how long it is with id and size
+abbrev pub lengthLeft : Option Sizes → ℕ
+lengthLeft none = 0
+lengthLeft (some x) = 1 + (length (shortest (x .length)) + x .length)
+
+-- its bytes
+abbrev pub subBytes : ℕ → Option (Content (List ℕ)) → List ℕ
+subBytes id none = []
+subBytes id (some d) = id ∷ writePart (writeContent d)
+
+-- the cursor behind an id byte
+abbrev pub behindId : Cursor → Cursor
+behindId c = record { at = c .at + 1; end = c .end }
+
+pub record KnownFrame (s : List ℕ) (c : Cursor) : Type 0 where
+  pub inside : Inside s c
+  pub ahead : c .at < c .end
+  pub contents : Known sized s (behindId c)
+
+pub record FrameStands (s : List ℕ) (c : Cursor) (r : Frame) : Type 0 where
+  pub id-is : r .id ≡ getD s (c .at) 0
+  pub contents : TakesPart s (behindId c) (record { part = r .part; next = r .next })
+
+-- one subsection has room behind `at`; and it is written there
+pub record FitsSubsection (id : ℕ) (s : List ℕ) (part : Cursor) (out : List ℕ) (at : ℕ) : Type 0 where
+  pub value : Content Part
+  pub stands : ContentStands (knownKind id) s part value
+  pub room : at + length (subBytes id (trim (bare value))) ≤ length out
+
+pub record PutsSubsection (id : ℕ) (s : List ℕ) (part : Cursor) (old new : List ℕ) (at next : ℕ) : Type 0 where
+  pub value : Content Part
+  pub stands : ContentStands (knownKind id) s part value
+  pub wrote : Wrote old new at next (subBytes id (trim (bare value)))
+
+-- a whole payload, and that its rewriting is no longer
+pub record PayloadStands (s : List ℕ) (c : Cursor) (t : Table (Content Part)) : Type 0 where
+  pub inside : Inside s c
+  pub next : ℕ
+  pub rest : List ℕ
+  pub reads : payload knownKind (c .at) (left s c) ≡ got t next rest
+  pub shorter : length (rewriteNames t) ≤ length (left s c)
+
+pub record KnownPayload (s : List ℕ) (c : Cursor) : Type 0 where
+  pub value : Table (Content Part)
+  pub stands : PayloadStands s c value
+
+pub record MeasuresPayload (s : List ℕ) (c : Cursor) (r : ℕ) : Type 0 where
+  pub value : Table (Content Part)
+  pub stands : PayloadStands s c value
+  pub long : r ≡ length (rewriteNames value)
+
+pub record FitsPayload (s : List ℕ) (c : Cursor) (out : List ℕ) : Type 0 where
+  pub value : Table (Content Part)
+  pub stands : PayloadStands s c value
+  pub room : length (rewriteNames value) ≤ length out
+
+pub record PutsPayload (s : List ℕ) (c : Cursor) (old new : List ℕ) (next : ℕ) : Type 0 where
+  pub value : Table (Content Part)
+  pub stands : PayloadStands s c value
+  pub wrote : Wrote old new 0 next (rewriteNames value)
+
+pub record RewritesNames (s : List ℕ) (c : Cursor) (old new : List ℕ) (r : Written) : Type 0 where
+  pub value : Table (Content Part)
+  pub stands : PayloadStands s c value
+  pub writes : Writes (accepted (rewriteNames value)) old new r
