@@ -3,11 +3,28 @@ pub mod contents;
 pub mod items;
 pub mod subsections;
 
-ghost use Rattle.format.specs.Canonical.{canonicalMetadata, canonicalHints};
+ghost use Rattle.format.specs.Canonical.{canonicalNames, canonicalMetadata, canonicalHints};
 ghost use Rattle.format.specs.Outputs.{Writes};
 use format::Written;
 use metadata::Judged;
+use names::asking;
+use names::judging;
 use reading::Cursor;
+
+// The canonical form of a name payload.
+pub fn names(p: &[u8], out: &mut [u8]) -> Written
+    ensures { λ r. ⌜ Writes (canonicalNames (now (p .entry))) (now (out .entry)) (now (out .exit)) r ⌝ }
+{
+    let judged = judging::judge(p);
+    let judging::Judged::Accepted(_) = judged else {
+        return Written::Refused(asking::refusal_of(judged));
+    };
+    let all = Cursor {
+        at: 0,
+        end: p.len(),
+    };
+    subsections::put_payload(p, all, out)
+}
 
 // The canonical form of a metadata payload of any format.
 pub fn metadata(p: &[u8], out: &mut [u8]) -> Written

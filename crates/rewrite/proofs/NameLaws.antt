@@ -1,0 +1,79 @@
+-- The name payload: judged whole, then rewritten.
+use Prim.Native.Nat.{ℕ}
+use mathlib.Core.List.{List, []}
+use mathlib.Core.Path.{_≡_, refl, sym, ap, _∙_}
+use native.Mathlib.Omega.{arith}
+use borrow.Author.Needs.{needs}
+use denote.Enum.Declared.{tagOf}
+use lib.ListN.{length}
+use lib.Seq.{slice}
+use Rattle.format.specs.Reading.{got, accepted, refused, Accepted}
+use Rattle.format.specs.Refusals.{numberOf}
+use Rattle.format.specs.Parts.{Part}
+use Rattle.format.specs.Tables.{Table}
+use Rattle.format.specs.Names.{Content, knownKind, payload, judgeNames}
+use Rattle.format.specs.Canonical.{rewriteNames, canonical, canonicalNames}
+use Rattle.format.specs.Outputs.{Writes}
+use Rattle.format.specs.Laws.Outcomes.{judged, accepted-is}
+use Rattle.format.specs.Laws.Outputs.{writes-refused}
+use Rattle.format.specs.Laws.CanonicalNames.{rewriting-shorter}
+use Rattle.format.specs.declared.Refusal.{Refusal}
+use Rattle.format.specs.declared.Written.{Written}
+use Rattle.format.specs.declared.Written.the-variants.{Refused as NotWritten}
+use Rattle.reading.specs.Cursors.{Inside, left}
+use Rattle.reading.specs.declared.Cursor.{Cursor}
+use Rattle.reading.proofs.Laws.{left-all}
+use Rattle.names.specs.Places.{Judges, Accepts, refusalIn}
+use Rattle.names.specs.declared.places.Places.{Places}
+use Rattle.names.specs.declared.judging.Judged.{Judged}
+use Rattle.names.specs.declared.judging.Judged.the-variants.{Accepted as IsAccepted, Refused as IsRefused}
+use Rattle.names.proofs.judging.Judged as judged-type
+use Rattle.rewrite.specs.Subsections.{PayloadStands, KnownPayload, RewritesNames}
+
+as-refused : (j : Judged) → tagOf judged-type.the-type j ≡ 1 → j ≡ IsRefused (refusalIn j)
+as-refused (IsAccepted p) h = absurd (omega arith)
+as-refused (IsRefused r) h = refl
+
+as-accepted : (j : Judged) → tagOf judged-type.the-type j ≡ 0 → (p : Places) × (j ≡ IsAccepted p)
+as-accepted (IsAccepted p) h = (p, refl)
+as-accepted (IsRefused r) h = absurd (omega arith)
+
+abbrev whole : List ℕ → Cursor
+whole p = record { at = 0; end = length p }
+
+module _ (p : List ℕ) (j : Judged) (says : Judges p 0 p j) where
+  pub names-refused : {old : List ℕ} {r : Refusal} → tagOf judged-type.the-type j ≡ 1 → r ≡ refusalIn j → Writes (canonicalNames p) old old (NotWritten r)
+  unfolding canonicalNames canonical
+  names-refused h is =
+      let no : judgeNames knownKind 0 p ≡ refused (numberOf (refusalIn j .reason)) (refusalIn j .offset .0) = rw (as-refused j h) at (says .says) in
+      rw is (writes-refused (rw no))
+
+  module _ (h : tagOf judged-type.the-type j ≡ 0) where
+    accepts : Accepted (judgeNames knownKind 0) p
+    accepts =
+        let (places, e) = as-accepted j h in
+        let a : Accepts p 0 p places = rw e at (says .says) in
+        record { value = a .held; judged = a .judged }
+
+    stands-whole : PayloadStands p (whole p) (accepts .value)
+    unfolding judgeNames
+    stands-whole =
+        judged (payload knownKind 0 p) (accepts .judged) λ o rest e.
+        record {
+          inside = record { ahead = omega arith; within = omega arith };
+          next = o;
+          rest = rest;
+          reads = rw (left-all p) e;
+          shorter = rw (left-all p) (rewriting-shorter knownKind accepts);
+        }
+
+    pub names-known : KnownPayload p (whole p)
+    names-known = record { value = accepts .value; stands = stands-whole }
+
+    pub names-rewritten : {old new : List ℕ} {r : Written} → RewritesNames p (whole p) old new r → Writes (canonicalNames p) old new r
+    unfolding canonicalNames canonical judgeNames
+    names-rewritten w =
+        let e : judgeNames knownKind 0 p ≡ accepted (w .value) = rw (rw (left-all p) at (w .stands .reads)) in
+        rw e (w .writes)
+
+pub ruleset names-steps = (names-refused, names-known, names-rewritten, needs)

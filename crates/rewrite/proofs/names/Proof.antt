@@ -1,0 +1,41 @@
+use Rattle.rewrite.proofs.NameLaws.{names-steps}
+use borrow.Author.Needs.{needs}
+use Rattle.rewrite.proofs.names.Statement.{statement}
+use Rattle.rewrite.proofs.names.Tie as tie
+
+judge-requires : tie.Need-judge-requires
+judge-requires c κs = search needs
+
+enum-told : tie.Need-enum-told
+enum-told c = search needs
+
+enum-told-2 : tie.Need-enum-told-2
+enum-told-2 c = search needs
+
+refusal-of-requires : tie.Need-refusal-of-requires
+refusal-of-requires c κs = search needs
+
+returns : tie.Need-returns
+returns c = search names-steps
+
+put-payload-requires : tie.Need-put-payload-requires
+put-payload-requires c κs = search names-steps
+
+same-length : tie.Need-same-length
+same-length c = search needs
+
+returns-2 : tie.Need-returns-2
+returns-2 c = search names-steps
+
+pub names-spec : {M : Type 1} → statement M
+names-spec =
+    tie.close
+    (tie.spec
+    judge-requires
+    enum-told
+    enum-told-2
+    refusal-of-requires
+    returns
+    put-payload-requires
+    same-length
+    returns-2)
