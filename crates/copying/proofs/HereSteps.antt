@@ -1,7 +1,7 @@
 -- What was accepted is read again. Nothing else can be found there.
 use Prim.Native.Nat.{ℕ}
 use mathlib.Core.List.{List}
-use mathlib.Core.Path.{_≡_, sym, _∙_}
+use mathlib.Core.Path.{_≡_, _∙_}
 use borrow.Author.Needs.{needs}
 use Rattle.format.specs.Numbers.{number}
 use Rattle.format.specs.Parts.{sized}

@@ -2,7 +2,7 @@
 use Prim.Native.Nat.{ℕ, suc, _+_, _≤_, _<_}
 use mathlib.Core.Bool.{false}
 use mathlib.Core.List.{List, [], _∷_, _++_, append-assoc}
-use mathlib.Core.Path.{_≡_, refl, sym, ap, _∙_}
+use mathlib.Core.Path.{_≡_, refl, sym, _∙_}
 use native.Mathlib.Nat.{zero-add}
 use native.Mathlib.Omega.{arith}
 use borrow.Author.Tests.{ne-eqb}
@@ -16,10 +16,10 @@ use Rattle.format.specs.Tables.{Table, nil, row, size, mapTable, rows, table}
 use Rattle.format.specs.Canonical.{writePart, writeRows, writeTable, unlessEmpty, keepRows, bareItems}
 use Rattle.format.specs.Laws.Outcomes.{got-value, got-next, got-rest}
 use Rattle.format.specs.Laws.Turns.{inRow, inTable}
-use Rattle.format.specs.Laws.Passing.{Passes, number-passes, sized-passes, rows-pass, table-passes}
+use Rattle.format.specs.Laws.Passing.{Passes, number-passes, table-passes}
 use Rattle.format.specs.Laws.Codecs.{number-sound, sized-codec, table-codec, rows-sound}
 use Rattle.format.specs.Laws.Tables.{size-keep, kept-rows, rows-shorter as rows-kept-shorter}
-use Rattle.reading.specs.Cursors.{Inside, left, partOf}
+use Rattle.reading.specs.Cursors.{Inside, left}
 use Rattle.reading.specs.declared.Cursor.{Cursor}
 use Rattle.reading.proofs.Laws.{reached}
 use Rattle.reading.proofs.Same.{same-cursor}
@@ -128,9 +128,6 @@ pub part-length : {s : List ℕ} {c : Cursor} → Inside s c → length (left s 
 part-length {s} {c} i = omega (arith, length-slice (c .at) (c .end) s (i .within), i .ahead)
 
 module _ {s : List ℕ} {c last : Cursor} where
-  pub number-fits : {k : ℕ} → Stands number s c k last → k < limit32
-  number-fits w = number-sound (c .at) (left s c) (w .reads) .fine
-
   pub number-shorter : {k : ℕ} → Stands number s c k last → length (shortest k) + c .at ≤ last .at
   number-shorter w = omega (arith, number-sound (c .at) (left s c) (w .reads) .shorter, part-length (w .inside), part-length (w .behind), w .same-end)
 

@@ -3,3 +3,4 @@ pub mod Along
 pub mod HereSteps
 pub mod Measuring
 pub mod Putting
+pub mod Same

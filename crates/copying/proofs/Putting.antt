@@ -1,5 +1,5 @@
 -- The loops that write: what is written so far, and what is still to come.
-use Prim.Native.Nat.{ℕ, zero, suc, _+_, _-_, _^_, _≤_, _<_}
+use Prim.Native.Nat.{ℕ, _+_, _-_, _≤_, _<_}
 use mathlib.Core.List.{List, [], _++_, append-assoc, append-nil}
 use mathlib.Core.Path.{_≡_, refl, sym, ap, _∙_}
 use native.Mathlib.Omega.{arith}
@@ -11,7 +11,7 @@ use Rattle.format.specs.Parts.{Part, sized}
 use Rattle.format.specs.Tables.{Table, rows, table}
 use Rattle.format.specs.Canonical.{writePart}
 use Rattle.format.specs.Laws.Passing.{sized-passes}
-use Rattle.reading.specs.Cursors.{Inside, left, partOf}
+use Rattle.reading.specs.Cursors.{left, partOf}
 use Rattle.reading.specs.declared.Cursor.{Cursor}
 use Rattle.reading.proofs.PartSteps.{take-drop}
 use Rattle.writing.specs.Wrote.{Wrote}

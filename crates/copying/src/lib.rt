@@ -8,7 +8,7 @@ ghost use Rattle.format.specs.Parts.{sized};
 ghost use Rattle.format.specs.Tables.{rows, table};
 ghost use Rattle.copying.specs.Standing.{Stands, Known, TakesPart, Measures, MeasuresGroups, FitsPart, Fits, Puts};
 ghost use Rattle.copying.specs.Bytes.{rowsOf, groupOf, groupLength, oneIfSome, groupsOf};
-ghost use Rattle.reading.specs.Cursors.{Inside, left};
+ghost use Rattle.reading.specs.Cursors.{left};
 ghost use Rattle.writing.specs.Wrote.{Wrote};
 use reading::Cursor;
 use reading::NumberRead;

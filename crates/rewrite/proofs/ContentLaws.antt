@@ -1,24 +1,23 @@
 -- Contents that were accepted, by kind: what stands there, what is left of it, and how long that is.
-use Prim.Native.Nat.{ℕ, suc, _+_, _-_, _^_, _≤_, _<_}
-use mathlib.Core.List.{List, [], _++_}
-use mathlib.Core.Option.{Option, none, some}
+use Prim.Native.Nat.{ℕ, _+_, _-_, _^_, _≤_, _<_}
+use mathlib.Core.List.{List, _++_}
+use mathlib.Core.Option.{none, some}
 use mathlib.Core.Path.{_≡_, refl, sym, ap, _∙_}
 use native.Mathlib.Omega.{arith}
 use borrow.Author.Needs.{needs}
 use lib.ListN.{length, length-append}
 use lib.Seq.{length-slice}
-use Rattle.format.specs.Reading.{got, Reader, filling}
-use Rattle.format.specs.Numbers.{number, shortest, limit32}
-use Rattle.format.specs.Options.{mapSome, thenSome}
+use Rattle.format.specs.Reading.{Reader, filling}
+use Rattle.format.specs.Numbers.{number, shortest}
 use Rattle.format.specs.Parts.{Part, sized, name, remaining}
-use Rattle.format.specs.Tables.{Table, nil, row, size, mapTable, rows, table}
-use Rattle.format.specs.Names.{Kind, oneName, nameMap, indirectMap, kept, Content, single, names, namesBy, whole, contents}
-use Rattle.format.specs.Canonical.{writePart, writeRows, writeTable, unlessEmpty, keepRows, bareItems, bare, trim, writeContent}
+use Rattle.format.specs.Tables.{Table, nil, row, size, rows, table}
+use Rattle.format.specs.Names.{oneName, nameMap, indirectMap, kept, Content, single, names, namesBy, whole, contents}
+use Rattle.format.specs.Canonical.{writeTable, unlessEmpty, keepRows, bareItems, bare, trim, writeContent}
 use Rattle.format.specs.Laws.Outcomes.{got-value, inTurn}
 use Rattle.format.specs.Laws.Numbers.{shortest-mono}
 use Rattle.format.specs.Laws.Passing.{sized-passes}
 use Rattle.format.specs.Laws.Laxer.{name-laxer, table-laxer, filled-laxer}
-use Rattle.reading.specs.Cursors.{Inside, left, partOf}
+use Rattle.reading.specs.Cursors.{left, partOf}
 use Rattle.reading.specs.declared.Cursor.{Cursor}
 use Rattle.copying.specs.Bytes.{bareRows, rowsOf, keptGroups, groupsOf}
 use Rattle.copying.specs.Standing.{Stands, Known, TakesPart, Measures, MeasuresGroups}
@@ -27,7 +26,7 @@ use Rattle.copying.specs.declared.Measured.{Measured}
 use Rattle.copying.specs.declared.Groups.{Groups}
 use Rattle.copying.proofs.Laws.{stand, one-value, table-passable, known-count, table-rows, number-shorter, rows-shorter, rows-count, groups-shorter, groups-count as groups-few}
 use Rattle.copying.proofs.Measuring.{sized-is, size-fits, size-ordered}
-use Rattle.rewrite.specs.Contents.{ContentStands, KnownContent, countOf, sizesOf, leftOf, Trims}
+use Rattle.rewrite.specs.Contents.{ContentStands, KnownContent, countOf, Trims}
 use Rattle.names.specs.Contents.{kindMeant}
 use Rattle.names.specs.declared.kinds.Kind.{Kind as KindHere}
 use Rattle.names.specs.declared.kinds.Kind.the-variants.{OneName, NameMap, IndirectMap, Kept}

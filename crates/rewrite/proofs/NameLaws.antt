@@ -1,26 +1,22 @@
 -- The name payload: judged whole, then rewritten.
 use Prim.Native.Nat.{ℕ}
-use mathlib.Core.List.{List, []}
-use mathlib.Core.Path.{_≡_, refl, sym, ap, _∙_}
+use mathlib.Core.List.{List}
+use mathlib.Core.Path.{_≡_, refl}
 use native.Mathlib.Omega.{arith}
 use borrow.Author.Needs.{needs}
 use denote.Enum.Declared.{tagOf}
 use lib.ListN.{length}
-use lib.Seq.{slice}
-use Rattle.format.specs.Reading.{got, accepted, refused, Accepted}
+use Rattle.format.specs.Reading.{accepted, refused, Accepted}
 use Rattle.format.specs.Refusals.{numberOf}
-use Rattle.format.specs.Parts.{Part}
-use Rattle.format.specs.Tables.{Table}
-use Rattle.format.specs.Names.{Content, knownKind, payload, judgeNames}
-use Rattle.format.specs.Canonical.{rewriteNames, canonical, canonicalNames}
+use Rattle.format.specs.Names.{knownKind, payload, judgeNames}
+use Rattle.format.specs.Canonical.{canonical, canonicalNames}
 use Rattle.format.specs.Outputs.{Writes}
-use Rattle.format.specs.Laws.Outcomes.{judged, accepted-is}
+use Rattle.format.specs.Laws.Outcomes.{judged}
 use Rattle.format.specs.Laws.Outputs.{writes-refused}
 use Rattle.format.specs.Laws.CanonicalNames.{rewriting-shorter}
 use Rattle.format.specs.declared.Refusal.{Refusal}
 use Rattle.format.specs.declared.Written.{Written}
 use Rattle.format.specs.declared.Written.the-variants.{Refused as NotWritten}
-use Rattle.reading.specs.Cursors.{Inside, left}
 use Rattle.reading.specs.declared.Cursor.{Cursor}
 use Rattle.reading.proofs.Laws.{left-all}
 use Rattle.names.specs.Places.{Judges, Accepts, refusalIn}

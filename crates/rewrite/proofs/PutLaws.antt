@@ -1,13 +1,12 @@
 -- Contents that were accepted, by kind: what is left of them, written.
-use Prim.Native.Nat.{ℕ, _+_, _-_, _≤_, _<_}
+use Prim.Native.Nat.{ℕ, _+_, _-_, _≤_}
 use mathlib.Core.List.{List, _++_}
-use mathlib.Core.Option.{none, some}
-use mathlib.Core.Path.{_≡_, refl, sym, ap, _∙_}
+use mathlib.Core.Option.{some}
+use mathlib.Core.Path.{_≡_, sym, ap, _∙_}
 use native.Mathlib.Omega.{arith}
 use borrow.Author.Needs.{needs}
 use lib.ListN.{length, take, drop, length-append}
-use Rattle.format.specs.Reading.{Reader}
-use Rattle.format.specs.Numbers.{number, shortest, limit32}
+use Rattle.format.specs.Numbers.{number, shortest}
 use Rattle.format.specs.Parts.{Part, sized}
 use Rattle.format.specs.Tables.{Table, size, rows, table}
 use Rattle.format.specs.Names.{oneName, nameMap, indirectMap, kept, Content, single, names, namesBy, whole}
@@ -15,7 +14,7 @@ use Rattle.format.specs.Canonical.{writePart, unlessEmpty, keepRows, bareItems,
 use Rattle.format.specs.Laws.Options.{some-is, inThen}
 use Rattle.format.specs.Laws.Outcomes.{got-value}
 use Rattle.format.specs.Laws.Tables.{kept-rows}
-use Rattle.reading.specs.Cursors.{Inside, left, partOf}
+use Rattle.reading.specs.Cursors.{left, partOf}
 use Rattle.reading.specs.declared.Cursor.{Cursor}
 use Rattle.reading.proofs.PartSteps.{take-drop}
 use Rattle.writing.specs.Wrote.{Wrote}
@@ -29,7 +28,7 @@ use Rattle.names.specs.Contents.{kindMeant}
 use Rattle.names.specs.declared.kinds.Kind.{Kind}
 use Rattle.names.specs.declared.kinds.Kind.the-variants.{OneName, NameMap, IndirectMap, Kept}
 use Rattle.rewrite.specs.Contents.{ContentStands, countOf, FitsContent, Counted, PutsContent}
-use Rattle.rewrite.proofs.ContentLaws.{Made, made-known, one-made, map-made, groups-made, whole-is, map-bytes, groups-bytes}
+use Rattle.rewrite.proofs.ContentLaws.{made-known, one-made, map-made, groups-made, whole-is, map-bytes, groups-bytes}
 
 -- What is left is what stands there, without what is empty
 one-remains : (p : Part) {d : Content (List ℕ)} → trim (bare (single p)) ≡ some d → d ≡ single (p .bytes)

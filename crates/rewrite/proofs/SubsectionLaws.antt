@@ -9,7 +9,7 @@ use native.Mathlib.Omega.{arith}
 use borrow.Author.Needs.{needs}
 use denote.Enum.Declared.{tagOf}
 use lib.ListN.{length, getD, length-append}
-use lib.Seq.{slice-cons, slice-empty, length-slice}
+use lib.Seq.{slice-cons, slice-empty}
 use Rattle.format.specs.Reading.{got}
 use Rattle.format.specs.Numbers.{shortest, limit32}
 use Rattle.format.specs.Options.{mapSome}
@@ -26,8 +26,7 @@ use Rattle.format.specs.Laws.Names.{contents-sound}
 use Rattle.format.specs.Laws.Trimming.{trim-shorter}
 use Rattle.reading.specs.Cursors.{Inside, left, partOf}
 use Rattle.reading.specs.declared.Cursor.{Cursor}
-use Rattle.copying.specs.Standing.{Stands, Known, TakesPart}
-use Rattle.copying.proofs.Laws.{stand, one-value, one-end, part-length, part-fits}
+use Rattle.copying.proofs.Laws.{stand, part-length, part-fits}
 use Rattle.copying.proofs.Measuring.{shortest-short}
 use Rattle.names.specs.Contents.{kindMeant}
 use Rattle.names.specs.declared.kinds.Kind.{Kind}

@@ -1,20 +1,17 @@
 -- The subsections of a payload that was accepted, written.
 use Prim.Native.Nat.{ℕ, _+_, _-_, _≤_, _<_}
 use mathlib.Core.List.{List, [], _∷_, _++_, append-assoc, append-nil}
-use mathlib.Core.Option.{Option, none, some}
+use mathlib.Core.Option.{none, some}
 use mathlib.Core.Path.{_≡_, refl, sym, ap, _∙_}
 use native.Mathlib.Omega.{arith}
 use borrow.Author.Needs.{needs}
 use denote.Enum.Declared.{tagOf}
 use lib.ListN.{length, length-append}
-use Rattle.format.specs.Reading.{accepted}
 use Rattle.format.specs.Numbers.{shortest, limit32}
 use Rattle.format.specs.Options.{mapSome}
 use Rattle.format.specs.Parts.{Part}
-use Rattle.format.specs.Tables.{Table}
 use Rattle.format.specs.Names.{Content, knownKind}
 use Rattle.format.specs.Canonical.{bare, trim, writePart, writeContent, rewriteNames}
-use Rattle.format.specs.Outputs.{Writes}
 use Rattle.format.specs.Laws.Options.{some-is, not-some, byOption}
 use Rattle.format.specs.Laws.Outcomes.{got-value}
 use Rattle.format.specs.Laws.Outputs.{writes-short}
@@ -26,10 +23,10 @@ use Rattle.writing.proofs.Laws.{wrote-nothing, wrote-join, wrote-length, writes
 use Rattle.names.specs.Contents.{kindMeant}
 use Rattle.names.specs.declared.kinds.Kind.{Kind}
 use Rattle.rewrite.specs.Contents.{ContentStands, KnownContent, countOf, sizesOf, leftOf, Trims, FitsContent, Counted, PutsContent}
-use Rattle.rewrite.specs.Subsections.{subBytes, KnownFrame, FrameStands, FitsSubsection, PutsSubsection, PayloadStands, KnownPayload, MeasuresPayload, FitsPayload, PutsPayload, RewritesNames}
+use Rattle.rewrite.specs.Subsections.{subBytes, KnownFrame, FrameStands, FitsSubsection, PutsSubsection, MeasuresPayload, FitsPayload, PutsPayload, RewritesNames}
 use Rattle.rewrite.specs.declared.contents.Sizes.{Sizes}
 use Rattle.rewrite.specs.declared.contents.Left.{Left}
-use Rattle.rewrite.specs.declared.contents.Left.the-variants.{Nothing, Contents}
+use Rattle.rewrite.specs.declared.contents.Left.the-variants.{Contents}
 use Rattle.rewrite.specs.declared.subsections.Frame.{Frame}
 use Rattle.rewrite.proofs.contents.Left as left-type
 use Rattle.rewrite.proofs.SubsectionLaws.{as-nothing, length-small, names-nil, names-row, trims-small, Through, setting-out, nothing-to-come, frame-known, frame-less, content-known, onward}
@@ -162,9 +159,6 @@ module _ {s : List ℕ} {c : Cursor} {old new : List ℕ} {place : ℕ} {next : 
 pub ruleset names-written = (names-none, names-put, names-frame, names-less, names-room, names-more, wrote-length, needs)
 
 -- The payload: measured, then written
-one-payload : {s : List ℕ} {c : Cursor} {t u : Table (Content Part)} → PayloadStands s c t → PayloadStands s c u → t ≡ u
-one-payload a b = got-value (sym (a .reads) ∙ b .reads)
-
 module _ {s : List ℕ} {c : Cursor} {needed : ℕ} (m : MeasuresPayload s c needed) {old : List ℕ} where
   pub payload-short : length old < needed → RewritesNames s c old old (Refused (record { reason = OutputTooShort; offset = record { 0 = needed } }))
   payload-short h = record { value = m .value; stands = m .stands; writes = rw (m .long) (writes-short refl (rw (m .long) at h)) }

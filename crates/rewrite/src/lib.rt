@@ -1,7 +1,7 @@
 // Canonical rewritings of payloads into a lent output. Every public call takes any bytes.
-pub mod contents;
-pub mod items;
-pub mod subsections;
+mod contents;
+mod items;
+mod subsections;
 
 ghost use Rattle.format.specs.Canonical.{canonicalNames, canonicalMetadata, canonicalHints};
 ghost use Rattle.format.specs.Outputs.{Writes};

@@ -1,5 +1,4 @@
 use Rattle.copying.proofs.Measuring.{one-group}
-use borrow.Author.Needs.{needs}
 use Rattle.copying.proofs.group_length.Statement.{statement}
 use Rattle.copying.proofs.group_length.Tie as tie
 

@@ -1,10 +1,10 @@
 -- A reader that checks less reads the same where the one that checks more was content: what was accepted may be read again without its checks.
 use Prim.Native.Nat.{ℕ, zero, suc}
 use mathlib.Core.List.{List, []}
-use mathlib.Core.Path.{_≡_, refl}
+use mathlib.Core.Path.{_≡_}
 use borrow.Author.Tests.{le-leb}
 use Rattle.format.specs.Reading.{got, Reader, filling}
-use Rattle.format.specs.Parts.{Part, sized, name}
+use Rattle.format.specs.Parts.{sized, name}
 use Rattle.format.specs.Tables.{Table, rows, table}
 use Rattle.format.specs.Text.{utf8}
 use Rattle.format.specs.Options.{isSome}
