@@ -178,16 +178,16 @@ pub fn put_rows(out: &mut [u8], at: usize, c: Cursor, s: &[u8], n: u32) -> Put
 }
 
 // A group with its index and its count before it. Without entries it is left out.
-fn put_group(out: &mut [u8], at: usize, index: u32, c: Cursor, s: &[u8], count: u32) -> Put
-    requires { ⌜ Fits (rows sized count 0) (groupOf index) (now s) c (now out) at ⌝ }
-    ensures { λ r. ⌜ Puts (rows sized count 0) (groupOf index) (now (s .entry)) c (now (out .entry)) (now (out .exit)) at r ⌝ }
+fn put_group(out: &mut [u8], at: usize, index: u32, c: Cursor, s: &[u8], entries: u32) -> Put
+    requires { ⌜ Fits (rows sized entries 0) (groupOf index) (now s) c (now out) at ⌝ }
+    ensures { λ r. ⌜ Puts (rows sized entries 0) (groupOf index) (now (s .entry)) c (now (out .entry)) (now (out .exit)) at r ⌝ }
 {
-    if count == 0 {
+    if entries == 0 {
         return Put { at, next: c };
     }
     let size = put_number(out, at, index);
-    let rows = put_number(out, size, count);
-    put_rows(out, rows, c, s, count)
+    let rows = put_number(out, size, entries);
+    put_rows(out, rows, c, s, entries)
 }
 
 // So many groups.

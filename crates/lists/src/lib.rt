@@ -164,9 +164,11 @@ fn judge(indices: &[u32], lengths: &[u32], text: &[u8]) -> Contents
             offset: Offset(0),
         });
     }
-    match check_indices(indices) {
+    let order = check_indices(indices);
+    let names = check_text(lengths, text);
+    match order {
         Checked::Refused(r) => Contents::Refused(r),
-        Checked::Passed => match check_text(lengths, text) {
+        Checked::Passed => match names {
             Checked::Refused(r) => Contents::Refused(r),
             Checked::Passed => measure(indices, lengths),
         },

@@ -1,30 +1,31 @@
 use Rattle.lists.proofs.Verdicts.{verdicts}
+use borrow.Author.Needs.{needs}
 use Rattle.lists.proofs.judge.Statement.{statement}
 use Rattle.lists.proofs.judge.Tie as tie
 
 all-agree-requires : tie.Need-all-agree-requires
-all-agree-requires c κs = search verdicts
+all-agree-requires c κs = search needs
 
 returns : tie.Need-returns
 returns c = search verdicts
 
 check-indices-requires : tie.Need-check-indices-requires
-check-indices-requires c κs = search verdicts
-
-enum-known-r : tie.Need-enum-known-r
-enum-known-r c = search verdicts
-
-enum-told : tie.Need-enum-told
-enum-told c = search verdicts
+check-indices-requires c κs = search needs
 
 check-text-requires : tie.Need-check-text-requires
 check-text-requires c κs = search verdicts
 
-enum-known-r-2 : tie.Need-enum-known-r-2
-enum-known-r-2 c = search verdicts
+enum-known-order : tie.Need-enum-known-order
+enum-known-order c = search needs
+
+enum-told : tie.Need-enum-told
+enum-told c = search needs
+
+enum-known-names : tie.Need-enum-known-names
+enum-known-names c = search needs
 
 enum-told-2 : tie.Need-enum-told-2
-enum-told-2 c = search verdicts
+enum-told-2 c = search needs
 
 measure-requires : tie.Need-measure-requires
 measure-requires c κs = search verdicts
@@ -45,10 +46,10 @@ judge-spec =
     all-agree-requires
     returns
     check-indices-requires
-    enum-known-r
-    enum-told
     check-text-requires
-    enum-known-r-2
+    enum-known-order
+    enum-told
+    enum-known-names
     enum-told-2
     measure-requires
     returns-2
