@@ -11,18 +11,13 @@ use format::Reason;
 use format::Refusal;
 use reading::Cursor;
 use reading::PartRead;
+use reading::wide;
 
 // What reading a subsection finds: its id, where its contents lie, and the cursor behind it.
 pub enum FrameRead {
     Frame(u8, Cursor, Cursor),
     End,
     Refused(Refusal),
-}
-
-fn wide(x: u8) -> u32
-    ensures { λ r. ⌜ r ≡ x ⌝ }
-{
-    x as u32
 }
 
 // The subsection that begins here, its id at least `least`. Its contents are not looked into.

@@ -27,7 +27,8 @@ pub enum PartRead {
     Refused(Refusal),
 }
 
-fn wide(x: u8) -> u32
+// A byte as a number: where a byte is read for its value, nothing is left to show of its range.
+pub fn wide(x: u8) -> u32
     ensures { λ r. ⌜ r ≡ x ⌝ }
 {
     x as u32
