@@ -1,6 +1,7 @@
 // The C boundary: every call takes any bytes, ends, and asks no prior check. include/wakemiono.h says the same for C.
 ghost use mathlib.Core.Path.{_≡_};
 ghost use lib.ListN.{length};
+ghost use Rattle.format.specs.Canonical.{canonicalNames, canonicalMetadata, canonicalHints};
 ghost use Rattle.format.specs.Lists.{functionNames};
 ghost use Rattle.format.specs.Metadata.{anyItem, hintItem, judgeMetadata, askMetadata, askHint, hintAnswered};
 ghost use Rattle.format.specs.Names.{knownKind, judgeNames};
@@ -290,6 +291,27 @@ pub extern "C" fn wm_hint(payload: &[u8], function: u32, offset: u32) -> WmAnswe
     ensures { λ a. ⌜ a ≡ wmHint (askHint (record { 0 = function }) (record { 0 = offset }) 0 (now (payload .entry))) ⌝ }
 {
     of_hint(metadata::hint(payload, FunctionIndex(function), CodeOffset(offset)))
+}
+
+#[no_mangle]
+pub extern "C" fn wm_names_canonical(payload: &[u8], out: &mut [u8]) -> WmAnswer
+    ensures { λ a. ⌜ WmWrites (canonicalNames (now (payload .entry))) (now (out .entry)) (now (out .exit)) a ⌝ }
+{
+    of_written(rewrite::names(payload, out))
+}
+
+#[no_mangle]
+pub extern "C" fn wm_metadata_canonical(payload: &[u8], out: &mut [u8]) -> WmAnswer
+    ensures { λ a. ⌜ WmWrites (canonicalMetadata (now (payload .entry))) (now (out .entry)) (now (out .exit)) a ⌝ }
+{
+    of_written(rewrite::metadata(payload, out))
+}
+
+#[no_mangle]
+pub extern "C" fn wm_hints_canonical(payload: &[u8], out: &mut [u8]) -> WmAnswer
+    ensures { λ a. ⌜ WmWrites (canonicalHints (now (payload .entry))) (now (out .entry)) (now (out .exit)) a ⌝ }
+{
+    of_written(rewrite::hints(payload, out))
 }
 
 #[no_mangle]
