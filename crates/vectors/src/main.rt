@@ -19,6 +19,7 @@ use say::say_part;
 use say::say_section;
 use say::say_text;
 
+mod rewrites;
 mod say;
 mod writes;
 
@@ -224,4 +225,5 @@ fn main() {
     errors_of_others();
     hints();
     writes::from_lists();
+    rewrites::of_payloads();
 }

@@ -6,7 +6,7 @@ use format::FunctionIndex;
 use names::judging;
 
 // Every output is full of this byte before a write, so that a byte left alone shows.
-const UNTOUCHED: u8 = 0xEE;
+pub const UNTOUCHED: u8 = 0xEE;
 
 const ROOM: usize = 16;
 
