@@ -5,55 +5,12 @@ use crate::writes::UNTOUCHED;
 // More than any case here takes.
 const ROOM: usize = 24;
 
-// Padded numbers around one name, and how long its canonical form is.
-const E7: [u8; 8] = [0x01, 0x85, 0x00, 0x01, 0x00, 0x81, 0x00, 0x61];
-
+// How long the canonical forms of the padded payloads are.
 const E7_CANONICAL: usize = 6;
 
-// An index again.
-const E12: [u8; 9] = [0x01, 0x07, 0x02, 0x03, 0x01, 0x62, 0x03, 0x01, 0x61];
+const LOCALS_CANONICAL: usize = 8;
 
-// Local names with every number padded; function 1 has none.
-const PADDED_LOCALS: [u8; 16] = [
-    0x02,
-    0x8D,
-    0x00,
-    0x82,
-    0x00,
-    0x01,
-    0x80,
-    0x00,
-    0x83,
-    0x00,
-    0x01,
-    0x80,
-    0x00,
-    0x81,
-    0x00,
-    0x78,
-];
-
-const PADDED_LOCALS_CANONICAL: usize = 8;
-
-// Hints with every number padded; function 1 has none.
-const PADDED_HINTS: [u8; 14] = [
-    0x82,
-    0x00,
-    0x01,
-    0x80,
-    0x00,
-    0x82,
-    0x00,
-    0x81,
-    0x00,
-    0x85,
-    0x00,
-    0x81,
-    0x00,
-    0x01,
-];
-
-const PADDED_HINTS_CANONICAL: usize = 6;
+const HINTS_CANONICAL: usize = 6;
 
 // Rewrites a name payload into an output, and says what that left.
 fn names_into(case: &[u8], payload: &[u8], out: &mut [u8]) {
@@ -86,7 +43,6 @@ fn hints(case: &[u8], payload: &[u8]) {
 }
 
 fn name_examples() {
-    names(b"E7 rewritten", &E7);
     names(b"E8 rewritten", b"\x01\x01\x00");
     names(b"E9 rewritten", b"");
     names(b"E10 rewritten", b"\x00\x01\x00");
@@ -95,19 +51,45 @@ fn name_examples() {
         b"P rewritten",
         b"\x00\x02\x01\x6D\x01\x07\x02\x00\x01\x61\x03\x01\x62\x02\x06\x01\x03\x01\x00\x01\x78",
     );
-    names(b"E12 rewritten", &E12);
 }
 
-fn what_stays() {
-    names(b"padded locals, and a function without any", &PADDED_LOCALS);
+fn e7() {
+    let padded = b"\x01\x85\x00\x01\x00\x81\x00\x61";
+    names(b"E7 rewritten", padded);
+    let mut exact = [UNTOUCHED; E7_CANONICAL];
+    names_into(b"E7 into an output exactly long enough", padded, &mut exact);
+    names(b"what was written, rewritten", &exact);
+    let mut short = [UNTOUCHED; E7_CANONICAL - 1];
+    names_into(b"E7 into an output one byte short", padded, &mut short);
+}
+
+// Every number is padded, and function 1 has no locals.
+fn padded_locals() {
+    let padded = b"\x02\x8F\x00\x82\x00\x81\x00\x80\x00\x83\x00\x81\x00\x80\x00\x81\x00\x78";
+    names(b"padded locals", padded);
+    let mut exact = [UNTOUCHED; LOCALS_CANONICAL];
+    names_into(
+        b"padded locals into an output exactly long enough",
+        padded,
+        &mut exact,
+    );
+    names(b"what was written, rewritten", &exact);
+}
+
+fn empty_maps() {
     names(
         b"two functions without locals",
         b"\x02\x05\x02\x01\x00\x03\x00",
     );
     names(
-        b"an empty map between two that stay",
+        b"an empty map between two subsections that stay",
         b"\x00\x01\x00\x01\x01\x00\x03\x01\xFF",
     );
+    let mut nothing = [UNTOUCHED; 0];
+    names_into(b"E8 into no output", b"\x01\x01\x00", &mut nothing);
+}
+
+fn padded_subsections() {
     names(
         b"an empty module name with padded numbers",
         b"\x00\x82\x00\x80\x00",
@@ -117,6 +99,13 @@ fn what_stays() {
         b"\x03\x82\x00\x81\x00",
     );
     names(b"kept contents of no bytes", b"\x03\x80\x00");
+}
+
+fn refused_names() {
+    let e12 = b"\x01\x07\x02\x03\x01\x62\x03\x01\x61";
+    names(b"E12 rewritten", e12);
+    let mut nothing = [UNTOUCHED; 0];
+    names_into(b"E12 into no output", e12, &mut nothing);
     names(
         b"damage behind a good map",
         b"\x01\x04\x01\x00\x01\x61\x02\x01\x01",
@@ -125,68 +114,61 @@ fn what_stays() {
 
 fn metadata_examples() {
     let e15 = b"\x01\x02\x01\x05\x01\x01";
-    let e16 = b"\x01\x02\x01\x05\x01\x02";
     metadata(b"E15 rewritten as metadata", e15);
     hints(b"E15 rewritten as hints", e15);
+    let e16 = b"\x01\x02\x01\x05\x01\x02";
     metadata(b"E16 rewritten as metadata", e16);
     hints(b"E16 rewritten as hints", e16);
-    metadata(b"padded items, and a function without any", &PADDED_HINTS);
-    hints(b"padded hints, and a function without any", &PADDED_HINTS);
+}
+
+// Every number is padded, and function 1 has no hints.
+fn padded_hints() {
+    let padded = b"\x82\x00\x81\x00\x80\x00\x82\x00\x81\x00\x85\x00\x81\x00\x01";
+    metadata(b"padded hints as metadata", padded);
+    hints(b"padded hints", padded);
+    let mut exact = [UNTOUCHED; HINTS_CANONICAL];
+    metadata_into(
+        b"padded hints into an output exactly long enough",
+        padded,
+        &mut exact,
+    );
+    metadata(b"what was written, rewritten as metadata", &exact);
+    hints(b"what was written, rewritten as hints", &exact);
+    let mut short = [UNTOUCHED; HINTS_CANONICAL - 1];
+    metadata_into(
+        b"padded hints into an output one byte short",
+        padded,
+        &mut short,
+    );
+}
+
+// With nothing left the payload is one byte.
+fn no_items() {
     metadata(b"a function without items", b"\x01\x02\x00");
     hints(b"a function without hints", b"\x01\x02\x00");
     metadata(b"no function", b"\x00");
-    hints(b"no function with hints", b"\x00");
+    hints(b"no function, as hints", b"\x00");
+    let mut nothing = [UNTOUCHED; 0];
+    metadata_into(b"no function into no output", b"\x00", &mut nothing);
+}
+
+fn no_data() {
     metadata(b"metadata of no bytes", b"");
     hints(b"hints of no bytes", b"");
-    let no_data = b"\x01\x02\x01\x05\x80\x00";
-    metadata(b"an item of size 0 stays", no_data);
-    hints(b"a hint of size 0", no_data);
-}
-
-// Outputs exactly long enough; what they then hold is rewritten again.
-fn exact_outputs() {
-    let mut name = [UNTOUCHED; E7_CANONICAL];
-    names_into(b"E7 into an output exactly long enough", &E7, &mut name);
-    names(b"the same again", &name);
-    let mut locals = [UNTOUCHED; PADDED_LOCALS_CANONICAL];
-    names_into(
-        b"padded locals into an output exactly long enough",
-        &PADDED_LOCALS,
-        &mut locals,
-    );
-    names(b"the same again", &locals);
-    let mut items = [UNTOUCHED; PADDED_HINTS_CANONICAL];
-    metadata_into(
-        b"padded items into an output exactly long enough",
-        &PADDED_HINTS,
-        &mut items,
-    );
-    metadata(b"the same again", &items);
-    hints(b"the same again as hints", &items);
-}
-
-fn short_outputs() {
-    let mut short = [UNTOUCHED; E7_CANONICAL - 1];
-    names_into(b"E7 into an output one byte short", &E7, &mut short);
-    names_into(b"E12 into no output", &E12, &mut short[0..0]);
-    names_into(b"E8 into no output", b"\x01\x01\x00", &mut short[0..0]);
-}
-
-fn short_outputs_for_metadata() {
-    let mut short = [UNTOUCHED; PADDED_HINTS_CANONICAL - 1];
-    metadata_into(
-        b"padded items into an output one byte short",
-        &PADDED_HINTS,
-        &mut short,
-    );
-    metadata_into(b"no function into no output", b"\x00", &mut short[0..0]);
+    let padded = b"\x01\x02\x01\x05\x80\x00";
+    metadata(b"an item of size 0, padded", padded);
+    hints(b"a hint of size 0", padded);
 }
 
 pub fn of_payloads() {
+    e7();
     name_examples();
-    what_stays();
+    padded_locals();
+    empty_maps();
+    padded_subsections();
+    refused_names();
     metadata_examples();
-    exact_outputs();
-    short_outputs();
-    short_outputs_for_metadata();
+    padded_hints();
+    no_items();
+    no_data();
 }
