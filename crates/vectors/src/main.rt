@@ -1,4 +1,4 @@
-// Runs the worked cases through the code and prints each result in words. What it prints is held to the file stdout.
+// Runs the worked cases of reading through the code and prints each result in words. What it prints is held to the file stdout.
 use format::CodeOffset;
 use format::FieldIndex;
 use format::FunctionIndex;
@@ -10,18 +10,14 @@ use names::judging;
 use reading::Cursor;
 use reading::NumberRead;
 use reading::PartRead;
-use say::say_answer;
-use say::say_count;
-use say::say_hint;
-use say::say_names;
-use say::say_number;
-use say::say_part;
-use say::say_section;
-use say::say_text;
-
-mod rewrites;
-mod say;
-mod writes;
+use saying::say_answer;
+use saying::say_count;
+use saying::say_hint;
+use saying::say_names;
+use saying::say_number;
+use saying::say_part;
+use saying::say_section;
+use saying::say_text;
 
 fn number(s: &[u8]) -> NumberRead {
     let all = Cursor {
@@ -224,6 +220,4 @@ fn main() {
     name_payloads();
     errors_of_others();
     hints();
-    writes::from_lists();
-    rewrites::of_payloads();
 }

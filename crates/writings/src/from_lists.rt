@@ -1,9 +1,9 @@
 // Payloads written into an output, what is left there, and the payload read back.
-use crate::say::say_answer;
-use crate::say::say_names;
-use crate::say::say_written;
 use format::FunctionIndex;
 use names::judging;
+use saying::say_answer;
+use saying::say_names;
+use saying::say_written;
 
 // Every output is full of this byte before a write, so that a byte left alone shows.
 pub const UNTOUCHED: u8 = 0xEE;
@@ -105,7 +105,7 @@ fn bad_names() {
     );
 }
 
-pub fn from_lists() {
+pub fn all() {
     read_back();
     write_roomy(b"no names", &[], &[], b"");
     write_roomy(b"an empty name", &[7], &[0], b"");

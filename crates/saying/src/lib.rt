@@ -1,4 +1,4 @@
-// Results in words.
+// Results in words, for the programs that run worked cases.
 use format::Answer;
 use format::Hint;
 use format::HintAnswer;

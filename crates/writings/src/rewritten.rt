@@ -1,6 +1,6 @@
 // Payloads rewritten into an output, what that leaves there, and what was written rewritten again.
-use crate::say::say_written;
-use crate::writes::UNTOUCHED;
+use crate::from_lists::UNTOUCHED;
+use saying::say_written;
 
 // More than any case here takes.
 const ROOM: usize = 24;
@@ -160,7 +160,7 @@ fn no_data() {
     hints(b"a hint of size 0", padded);
 }
 
-pub fn of_payloads() {
+pub fn all() {
     e7();
     name_examples();
     padded_locals();

@@ -1,8 +1,8 @@
 use Prim.Native.Nat.{_-_, _≤_}
 use lib.ListN.{length}
 use borrow.Author.Needs.{needs}
-use Rattle.vectors.proofs.say.say_bytes.Statement.{statement}
-use Rattle.vectors.proofs.say.say_bytes.Tie as tie
+use Rattle.saying.proofs.say_bytes.Statement.{statement}
+use Rattle.saying.proofs.say_bytes.Tie as tie
 
 abbrev Inv-loop : tie.InvT-loop
 Inv-loop case bytes k₀ t4 t5 t6 k = k ≤ length bytes
