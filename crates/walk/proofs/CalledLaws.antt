@@ -1,7 +1,7 @@
 -- Comparing a name byte by byte.
 use Prim.Native.Nat.{ℕ, suc, _+_, _-_, _≤_, _<_}
-use mathlib.Core.Bool.{Bool, true, false, false≢true}
-use mathlib.Core.List.{List, [], _∷_}
+use mathlib.Core.Bool.{Bool, true, false, _&&_, false≢true}
+use mathlib.Core.List.{List, [], _∷_, _++_}
 use mathlib.Core.Path.{_≡_, refl, sym, ap, _∙_}
 use native.Mathlib.Nat.{add-zero}
 use native.Mathlib.Numerals.{add-one}
@@ -9,13 +9,14 @@ use native.Mathlib.Omega.{arith}
 use borrow.Author.Needs.{needs}
 use borrow.Author.Tests.{eq-eqb, ne-eqb, eqb-true}
 use lib.Dec.{eqb}
-use lib.ListN.{length, getD, drop}
-use lib.Seq.{slice, slice-cons, slice-empty, length-slice, drop-cons, drop-length}
+use lib.ListN.{length, getD, take, drop, length-append}
+use lib.Seq.{slice, slice-cons, slice-empty, length-slice, drop-cons, drop-length, drop-drop, take-take}
 use Rattle.format.specs.Bytes.{ascii, same}
 use Rattle.format.specs.Walk.{nameSection, hintSection}
 use Rattle.format.specs.Laws.Outcomes.{byTest}
 use Rattle.reading.specs.Cursors.{Inside, left}
 use Rattle.reading.specs.declared.Cursor.{Cursor}
+use Rattle.reading.proofs.PartSteps.{take-drop}
 use Rattle.walk.specs.Sections.{Calls}
 use Rattle.walk.specs.declared.rules.Called.the-variants.{Name, Hints, Other}
 
@@ -68,6 +69,41 @@ module _ {s : List ℕ} {part : Cursor} {name : List ℕ} {k : ℕ} (t : Turn s 
       rw (there name i l) (sym (t .rest ∙ rw (end, drop-length, slice-empty)))
 
 pub ruleset called-turns = (other-length, compare, byte-differs, byte-same, all-same, needs)
+
+-- Two slices joined: the part's front is compared with the one, its rest with the other
+same-joined : (x y bs : List ℕ) → length x ≤ length bs → same (x ++ y) bs ≡ (same x (take (length x) bs) && same y (drop (length x) bs))
+unfolding same
+same-joined [] y bs l = refl
+same-joined (a ∷ x) y [] l = absurd (omega arith)
+same-joined (a ∷ x) y (b ∷ bs) l = byTest (eqb a b) (λ t. rw t (same-joined x y bs (omega arith))) (λ t. rw t)
+
+module _ (s : List ℕ) (part : Cursor) (front rest : List ℕ) (i : Inside s part) where
+  pub too-short : part .end - part .at < length front → false ≡ same (front ++ rest) (left s part)
+  too-short h = sym (lengths-differ (front ++ rest) (left s part) (λ e. omega (arith, length-slice (part .at) (part .end) s (i .within), length-append front rest)))
+
+  module _ (h : length front ≤ part .end - part .at) where
+    front-is : take (length front) (left s part) ≡ slice (part .at) (part .at + length front) s
+    front-is = take-drop (part .at) (length front) (take (part .end) s) ∙ ap (drop (part .at)) (take-take (part .at + length front) (part .end) s (omega (arith, i .ahead)))
+
+    both : same (front ++ rest) (left s part) ≡ (same front (slice (part .at) (part .at + length front) s) && same rest (slice (part .at + length front) (part .end) s))
+    both = same-joined front rest (left s part) (omega (arith, length-slice (part .at) (part .end) s (i .within))) ∙ rw (front-is, drop-drop)
+
+    module _ {b : Bool} (e : b ≡ same rest (slice (part .at + length front) (part .end) s)) where
+      pub rest-differs : b ≡ false → false ≡ same (front ++ rest) (left s part)
+      rest-differs t = sym (both ∙ rw (← e, t) (never-both (same front (slice (part .at) (part .at + length front) s))))
+        where
+          never-both : (b : Bool) → (b && false) ≡ false
+          never-both true = refl
+          never-both false = refl
+
+      pub front-decides : {r : Bool} → b ≡ true → r ≡ same front (slice (part .at) (part .at + length front) s) → r ≡ same (front ++ rest) (left s part)
+      front-decides t q = q ∙ sym (both ∙ rw (← e, t) (with-true (same front (slice (part .at) (part .at + length front) s))))
+        where
+          with-true : (b : Bool) → (b && true) ≡ b
+          with-true true = refl
+          with-true false = refl
+
+pub ruleset joined = (too-short, rest-differs, front-decides, needs)
 
 -- The two names that the rules know, as the code has them
 abbrev nameBytes : List ℕ

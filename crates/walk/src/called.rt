@@ -1,4 +1,5 @@
 // Names of custom sections, compared byte by byte.
+ghost use mathlib.Core.List.{_++_};
 ghost use mathlib.Core.Path.{_≡_};
 ghost use Rattle.format.specs.Bytes.{same};
 ghost use Rattle.reading.specs.Cursors.{Inside, left};
@@ -23,6 +24,23 @@ pub fn is_called(s: &[u8], part: Cursor, name: &[u8]) -> bool
         k += 1;
     }
     true
+}
+
+// Whether a part of `s` is two slices joined. What is common to many names belongs into the first: the second is compared before it.
+pub fn is_joined(s: &[u8], part: Cursor, front: &[u8], rest: &[u8]) -> bool
+    requires { ⌜ Inside (now s) part ⌝ }
+    ensures { λ r. ⌜ r ≡ same (now (front .entry) ++ now (rest .entry)) (left (now (s .entry)) part) ⌝ }
+{
+    let at = part.at;
+    let end = part.end;
+    if end - at < front.len() {
+        return false;
+    }
+    let middle = at + front.len();
+    if is_called(s, Cursor { at: middle, end }, rest) {
+        return is_called(s, Cursor { at, end: middle }, front);
+    }
+    false
 }
 
 // Which of the names that the rules know a part of `s` is.

@@ -1,4 +1,5 @@
 // The framing of a module: its sections, one after the other. Every call takes any bytes.
+ghost use mathlib.Core.List.{_++_};
 ghost use mathlib.Core.Path.{_≡_};
 ghost use Rattle.format.specs.Options.{mapSome};
 ghost use Rattle.format.specs.Questions.{answered, asPlace};
@@ -24,7 +25,7 @@ pub enum Counted {
 pub fn count(m: &[u8]) -> Counted
     ensures { λ r. ⌜ counted r ≡ sectionCount (now (m .entry)) ⌝ }
 {
-    match survey::survey(m, 0, b"") {
+    match survey::survey(m, 0, b"", b"") {
         Surveyed::Refused(r) => Counted::Refused(r),
         Surveyed::Done(found) => Counted::Count(found.count),
     }
@@ -34,7 +35,7 @@ pub fn count(m: &[u8]) -> Counted
 pub fn section_at(m: &[u8], position: u64) -> SectionAnswer
     ensures { λ r. ⌜ sectionAnswered r ≡ mapJudged (mapSome sectionPlace) (sectionAt position (now (m .entry))) ⌝ }
 {
-    match survey::survey(m, position, b"") {
+    match survey::survey(m, position, b"", b"") {
         Surveyed::Refused(r) => SectionAnswer::Refused(r),
         Surveyed::Done(found) => found.section,
     }
@@ -44,7 +45,14 @@ pub fn section_at(m: &[u8], position: u64) -> SectionAnswer
 pub fn custom(m: &[u8], name: &[u8]) -> Answer
     ensures { λ r. ⌜ answered r ≡ asPlace (customPayload (now (name .entry)) (now (m .entry))) ⌝ }
 {
-    match survey::survey(m, 0, name) {
+    custom_joined(m, b"", name)
+}
+
+// The same for a name that stands in two slices.
+pub fn custom_joined(m: &[u8], front: &[u8], rest: &[u8]) -> Answer
+    ensures { λ r. ⌜ answered r ≡ asPlace (customPayload (now (front .entry) ++ now (rest .entry)) (now (m .entry))) ⌝ }
+{
+    match survey::survey(m, 0, front, rest) {
         Surveyed::Refused(r) => Answer::Refused(r),
         Surveyed::Done(found) => found.payload,
     }

@@ -1,10 +1,11 @@
 // One pass over a whole module, on which every question to the walk rests.
 ghost use Prim.Native.Nat.{_≤_, _<_};
 ghost use lib.ListN.{length};
+ghost use mathlib.Core.List.{_++_};
 ghost use Rattle.reading.specs.Cursors.{Inside};
 ghost use Rattle.walk.specs.Sections.{CustomInside, SectionInside};
 ghost use Rattle.walk.specs.Surveys.{SectionKept, PayloadKept, Tallies, SurveysFrom, Surveys};
-use crate::called::is_called;
+use crate::called::is_joined;
 use crate::step::Began;
 use crate::step::Custom;
 use crate::step::Section;
@@ -64,9 +65,9 @@ fn keep_section(m: &[u8], before: SectionAnswer, here: bool, s: Section) -> Sect
 }
 
 // The payload of the first custom section of a name, if it is this one.
-fn keep_payload(m: &[u8], before: Answer, custom: Custom, name: &[u8]) -> Answer
+fn keep_payload(m: &[u8], before: Answer, custom: Custom, front: &[u8], rest: &[u8]) -> Answer
     requires { ⌜ CustomInside (now m) custom ⌝ }
-    ensures { λ r. ⌜ PayloadKept (now (m .entry)) before custom (now (name .entry)) r ⌝ }
+    ensures { λ r. ⌜ PayloadKept (now (m .entry)) before custom (now (front .entry) ++ now (rest .entry)) r ⌝ }
 {
     match before {
         Answer::Found(p) => Answer::Found(p),
@@ -74,10 +75,11 @@ fn keep_payload(m: &[u8], before: Answer, custom: Custom, name: &[u8]) -> Answer
         Answer::None => match custom {
             Custom::None => Answer::None,
             Custom::Named(called, payload) => {
-                if is_called(m, called, name) {
+                if is_joined(m, called, front, rest) {
+                    let length = payload.end - payload.at;
                     return Answer::Found(Place {
                         offset: Offset(payload.at),
-                        length: payload.end - payload.at,
+                        length,
                     });
                 }
                 Answer::None
@@ -87,25 +89,26 @@ fn keep_payload(m: &[u8], before: Answer, custom: Custom, name: &[u8]) -> Answer
 }
 
 // What is found with one section more.
-fn tallied(m: &[u8], t: Tally, s: Section, position: u64, name: &[u8]) -> Tally
+fn tallied(m: &[u8], t: Tally, s: Section, position: u64, front: &[u8], rest: &[u8]) -> Tally
     requires { ⌜ SectionInside (now m) s × (t .count < length (now m)) ⌝ }
-    ensures { λ r. ⌜ Tallies (now (m .entry)) position (now (name .entry)) t s r ⌝ }
+    ensures { λ r. ⌜ Tallies (now (m .entry)) position (now (front .entry) ++ now (rest .entry)) t s r ⌝ }
 {
-    let count = t.count;
+    let before = t.count;
     let section = t.section;
     let payload = t.payload;
     let custom = s.custom;
+    let count = before + 1;
     Tally {
-        count: count + 1,
-        section: keep_section(m, section, count as u64 == position, s),
-        payload: keep_payload(m, payload, custom, name),
+        count,
+        section: keep_section(m, section, before as u64 == position, s),
+        payload: keep_payload(m, payload, custom, front, rest),
     }
 }
 
 // From a section on to the module's end: all of it is judged, whatever was found.
-fn survey_from(m: &[u8], first: Walk, position: u64, name: &[u8]) -> Surveyed
+fn survey_from(m: &[u8], first: Walk, position: u64, front: &[u8], rest: &[u8]) -> Surveyed
     requires { ⌜ first .at ≤ length (now m) ⌝ }
-    ensures { λ r. ⌜ SurveysFrom (now (m .entry)) position (now (name .entry)) first r ⌝ }
+    ensures { λ r. ⌜ SurveysFrom (now (m .entry)) position (now (front .entry) ++ now (rest .entry)) first r ⌝ }
 {
     let mut walk = first;
     let mut tally = Tally {
@@ -122,7 +125,7 @@ fn survey_from(m: &[u8], first: Walk, position: u64, name: &[u8]) -> Surveyed
                 return Surveyed::Done(tally);
             }
             Step::Section(s, next) => {
-                tally = tallied(m, tally, s, position, name);
+                tally = tallied(m, tally, s, position, front, rest);
                 walk = next;
             }
         }
@@ -130,11 +133,11 @@ fn survey_from(m: &[u8], first: Walk, position: u64, name: &[u8]) -> Surveyed
 }
 
 // The count of sections, the section at a position, and the payload of the first custom section of a name.
-pub fn survey(m: &[u8], position: u64, name: &[u8]) -> Surveyed
-    ensures { λ r. ⌜ Surveys (now (m .entry)) position (now (name .entry)) r ⌝ }
+pub fn survey(m: &[u8], position: u64, front: &[u8], rest: &[u8]) -> Surveyed
+    ensures { λ r. ⌜ Surveys (now (m .entry)) position (now (front .entry) ++ now (rest .entry)) r ⌝ }
 {
     match Walk::begin(m) {
         Began::Refused(r) => Surveyed::Refused(r),
-        Began::At(first) => survey_from(m, first, position, name),
+        Began::At(first) => survey_from(m, first, position, front, rest),
     }
 }

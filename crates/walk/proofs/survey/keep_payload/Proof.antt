@@ -17,11 +17,11 @@ enum-told-2 c = search payloads-kept
 enum-known-custom : tie.Need-enum-known-custom
 enum-known-custom c = search payloads-kept
 
-is-called-requires : tie.Need-is-called-requires
-is-called-requires c κs = search payloads-kept
+is-joined-requires : tie.Need-is-joined-requires
+is-joined-requires c κs = search payloads-kept
 
-sub-t13 : tie.Need-sub-t13
-sub-t13 c = search payloads-kept
+sub-length : tie.Need-sub-length
+sub-length c = search payloads-kept
 
 returns : tie.Need-returns
 returns c = search payloads-kept
@@ -47,8 +47,8 @@ keep-payload-spec =
     enum-told
     enum-told-2
     enum-known-custom
-    is-called-requires
-    sub-t13
+    is-joined-requires
+    sub-length
     returns
     returns-2
     returns-3

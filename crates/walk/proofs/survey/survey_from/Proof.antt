@@ -1,14 +1,15 @@
 use Prim.Native.Nat.{_-_}
+use mathlib.Core.List.{_++_}
 use lib.ListN.{length}
 use Rattle.walk.proofs.SurveyLaws.{Turn, survey-turns}
 use Rattle.walk.proofs.survey.survey_from.Statement.{statement}
 use Rattle.walk.proofs.survey.survey_from.Tie as tie
 
 abbrev Inv-loop : tie.InvT-loop
-Inv-loop m position name walk₀ tally₀ walk tally = Turn m position name walk₀ walk tally
+Inv-loop m position front rest walk₀ tally₀ walk tally = Turn m position (front ++ rest) walk₀ walk tally
 
 abbrev μ-loop : tie.MeasureT-loop
-μ-loop m position name walk₀ tally₀ walk tally = length m - walk .at
+μ-loop m position front rest walk₀ tally₀ walk tally = length m - walk .at
 
 loop-holds : tie.Need-loop-holds Inv-loop μ-loop
 loop-holds c = search survey-turns

@@ -3,8 +3,8 @@ use Rattle.walk.proofs.SurveyLaws.{tally-is}
 use Rattle.walk.proofs.survey.tallied.Statement.{statement}
 use Rattle.walk.proofs.survey.tallied.Tie as tie
 
-add-t10 : tie.Need-add-t10
-add-t10 c = search (tally-is, needs)
+add-count : tie.Need-add-count
+add-count c = search (tally-is, needs)
 
 keep-section-requires : tie.Need-keep-section-requires
 keep-section-requires c κs = search (tally-is, needs)
@@ -16,4 +16,4 @@ returns : tie.Need-returns
 returns c = search (tally-is, needs)
 
 pub tallied-spec : {M : Type 1} → statement M
-tallied-spec = tie.close (tie.spec add-t10 keep-section-requires keep-payload-requires returns)
+tallied-spec = tie.close (tie.spec add-count keep-section-requires keep-payload-requires returns)

@@ -1,6 +1,6 @@
 use Rattle.walk.proofs.AnswerLaws.{walk-answers}
-use Rattle.walk.proofs.custom.Statement.{statement}
-use Rattle.walk.proofs.custom.Tie as tie
+use Rattle.walk.proofs.custom_joined.Statement.{statement}
+use Rattle.walk.proofs.custom_joined.Tie as tie
 
 survey-requires : tie.Need-survey-requires
 survey-requires c κs = search walk-answers
@@ -17,5 +17,5 @@ returns c = search walk-answers
 returns-2 : tie.Need-returns-2
 returns-2 c = search walk-answers
 
-pub custom-spec : {M : Type 1} → statement M
-custom-spec = tie.close (tie.spec survey-requires enum-known-r enum-known-found returns returns-2)
+pub custom-joined-spec : {M : Type 1} → statement M
+custom-joined-spec = tie.close (tie.spec survey-requires enum-known-r enum-known-found returns returns-2)
