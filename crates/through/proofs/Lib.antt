@@ -1,0 +1,3 @@
+pub mod SectionLaws
+pub mod ThroughLaws
+pub mod TakenLaws

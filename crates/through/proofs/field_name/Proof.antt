@@ -1,0 +1,32 @@
+use Rattle.through.proofs.ThroughLaws.{name-questions}
+use Rattle.through.proofs.field_name.Statement.{statement}
+use Rattle.through.proofs.field_name.Tie as tie
+
+name-section-requires : tie.Need-name-section-requires
+name-section-requires c κs = search name-questions
+
+enum-known-found : tie.Need-enum-known-found
+enum-known-found c = search name-questions
+
+returns : tie.Need-returns
+returns c = search name-questions
+
+over-requires : tie.Need-over-requires
+over-requires c κs = search name-questions
+
+field-name-in-requires : tie.Need-field-name-in-requires
+field-name-in-requires c κs = search name-questions
+
+returns-2 : tie.Need-returns-2
+returns-2 c = search name-questions
+
+pub field-name-spec : {M : Type 1} → statement M
+field-name-spec =
+    tie.close
+    (tie.spec
+    name-section-requires
+    enum-known-found
+    returns
+    over-requires
+    field-name-in-requires
+    returns-2)
