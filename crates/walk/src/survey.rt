@@ -2,7 +2,6 @@
 ghost use Prim.Native.Nat.{_≤_, _<_};
 ghost use lib.ListN.{length};
 ghost use mathlib.Core.List.{_++_};
-ghost use Rattle.reading.specs.Cursors.{Inside};
 ghost use Rattle.walk.specs.Sections.{CustomInside, SectionInside};
 ghost use Rattle.walk.specs.Surveys.{SectionKept, PayloadKept, Tallies, SurveysFrom, Surveys};
 use crate::called::is_joined;
