@@ -78,10 +78,10 @@ same-joined (a ∷ x) y [] l = absurd (omega arith)
 same-joined (a ∷ x) y (b ∷ bs) l = byTest (eqb a b) (λ t. rw t (same-joined x y bs (omega arith))) (λ t. rw t)
 
 module _ (s : List ℕ) (part : Cursor) (front rest : List ℕ) (i : Inside s part) where
-  pub too-short : part .end - part .at < length front → false ≡ same (front ++ rest) (left s part)
-  too-short h = sym (lengths-differ (front ++ rest) (left s part) (λ e. omega (arith, length-slice (part .at) (part .end) s (i .within), length-append front rest)))
+  pub other-sum : (part .end - part .at ≡ length front + length rest → ⊥) → false ≡ same (front ++ rest) (left s part)
+  other-sum n = other-length s part (front ++ rest) i (λ e. n (e ∙ length-append front rest))
 
-  module _ (h : length front ≤ part .end - part .at) where
+  module _ (h : part .end - part .at ≡ length front + length rest) where
     front-is : take (length front) (left s part) ≡ slice (part .at) (part .at + length front) s
     front-is = take-drop (part .at) (length front) (take (part .end) s) ∙ ap (drop (part .at)) (take-take (part .at + length front) (part .end) s (omega (arith, i .ahead)))
 
@@ -103,7 +103,7 @@ module _ (s : List ℕ) (part : Cursor) (front rest : List ℕ) (i : Inside s pa
           with-true true = refl
           with-true false = refl
 
-pub ruleset joined = (too-short, rest-differs, front-decides, needs)
+pub ruleset joined = (other-sum, rest-differs, front-decides, needs)
 
 -- The two names that the rules know, as the code has them
 abbrev nameBytes : List ℕ

@@ -26,14 +26,14 @@ pub fn is_called(s: &[u8], part: Cursor, name: &[u8]) -> bool
     true
 }
 
-// Whether a part of `s` is two slices joined. What is common to many names belongs into the first: the second is compared before it.
+// Whether a part of `s` is two slices joined. The second is compared first: names with a common front differ there.
 pub fn is_joined(s: &[u8], part: Cursor, front: &[u8], rest: &[u8]) -> bool
     requires { ⌜ Inside (now s) part ⌝ }
     ensures { λ r. ⌜ r ≡ same (now (front .entry) ++ now (rest .entry)) (left (now (s .entry)) part) ⌝ }
 {
     let at = part.at;
     let end = part.end;
-    if end - at < front.len() {
+    if end - at != front.len() + rest.len() {
         return false;
     }
     let middle = at + front.len();

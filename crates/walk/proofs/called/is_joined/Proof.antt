@@ -5,6 +5,9 @@ use Rattle.walk.proofs.called.is_joined.Tie as tie
 sub-if1 : tie.Need-sub-if1
 sub-if1 c = search joined
 
+add-if1 : tie.Need-add-if1
+add-if1 c = search joined
+
 returns : tie.Need-returns
 returns c = search joined
 
@@ -28,6 +31,7 @@ is-joined-spec =
     tie.close
     (tie.spec
     sub-if1
+    add-if1
     returns
     add-middle
     is-called-requires
