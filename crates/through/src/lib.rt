@@ -27,7 +27,7 @@ use names::within::tag_name_in;
 use names::within::type_name_in;
 
 pub mod bytes;
-pub mod sections;
+mod sections;
 
 // The module's name.
 pub fn module_name(m: &[u8]) -> Answer
