@@ -1,11 +1,14 @@
 # What can be done here. `make help` says it in words.
-.PHONY: help list test prove fmt
+.PHONY: help list lib install test prove fmt
 
 export FILE ?= examples/small.wasm
+export PREFIX ?= /usr/local
 
 help:
 	@echo 'make list    lists the sections of a module: FILE=module.wasm, or FILE=- for standard input;'
 	@echo '             without FILE a small module of this repository'
+	@echo 'make lib     proves the library and writes target/staticlib/libwakemiono.a, for C and Rust on x86-64'
+	@echo 'make install lays down header, archive and pkg-config file below PREFIX (/usr/local)'
 	@echo 'make test    the whole gate: proves every crate from nothing, has every must-fail edit refused,'
 	@echo '             runs every program; its last line is "N passed, 0 failed"'
 	@echo 'make prove   proves what changed since the last proof'
@@ -13,6 +16,12 @@ help:
 
 list:
 	@tools/list "$$FILE"
+
+lib:
+	@tools/lib
+
+install:
+	@tools/install "$$PREFIX"
 
 test:
 	@tools/gate

@@ -10,6 +10,7 @@ ghost use Rattle.format.specs.Outputs.{writtenAs};
 ghost use Rattle.format.specs.Questions.{answered, asPlace, ask, moduleName, functionName, typeName, tagName, localName, fieldName, keptContents};
 ghost use Rattle.format.specs.Reading.{mapJudged, verdict};
 ghost use Rattle.format.specs.Refusals.{numberOf};
+ghost use Rattle.format.specs.Through.{askThrough, askMetadataThrough, askHintThrough};
 ghost use Rattle.format.specs.Walk.{sectionCount, sectionAt, customPayload};
 ghost use Rattle.metadata.specs.Judgements;
 ghost use Rattle.names.specs.Places.{verdictOf};
@@ -291,6 +292,74 @@ pub extern "C" fn wm_hint(payload: &[u8], function: u32, offset: u32) -> WmAnswe
     ensures { λ a. ⌜ a ≡ wmHint (askHint (record { 0 = function }) (record { 0 = offset }) 0 (now (payload .entry))) ⌝ }
 {
     of_hint(metadata::hint(payload, FunctionIndex(function), CodeOffset(offset)))
+}
+
+#[no_mangle]
+pub extern "C" fn wm_module_name_in(bytes: &[u8]) -> WmAnswer
+    ensures { λ a. ⌜ a ≡ wmPlace (asPlace (askThrough moduleName (now (bytes .entry)))) ⌝ }
+{
+    of_answer(through::module_name(bytes))
+}
+
+#[no_mangle]
+pub extern "C" fn wm_function_name_in(bytes: &[u8], function: u32) -> WmAnswer
+    ensures { λ a. ⌜ a ≡ wmPlace (asPlace (askThrough (functionName (record { 0 = function })) (now (bytes .entry)))) ⌝ }
+{
+    of_answer(through::function_name(bytes, FunctionIndex(function)))
+}
+
+#[no_mangle]
+pub extern "C" fn wm_type_name_in(bytes: &[u8], index: u32) -> WmAnswer
+    ensures { λ a. ⌜ a ≡ wmPlace (asPlace (askThrough (typeName (record { 0 = index })) (now (bytes .entry)))) ⌝ }
+{
+    of_answer(through::type_name(bytes, TypeIndex(index)))
+}
+
+#[no_mangle]
+pub extern "C" fn wm_tag_name_in(bytes: &[u8], tag: u32) -> WmAnswer
+    ensures { λ a. ⌜ a ≡ wmPlace (asPlace (askThrough (tagName (record { 0 = tag })) (now (bytes .entry)))) ⌝ }
+{
+    of_answer(through::tag_name(bytes, TagIndex(tag)))
+}
+
+#[no_mangle]
+pub extern "C" fn wm_local_name_in(bytes: &[u8], function: u32, local: u32) -> WmAnswer
+    ensures { λ a. ⌜ a ≡ wmPlace (asPlace (askThrough (localName (record { 0 = function }) (record { 0 = local })) (now (bytes .entry)))) ⌝ }
+{
+    of_answer(through::local_name(bytes, FunctionIndex(function), LocalIndex(local)))
+}
+
+#[no_mangle]
+pub extern "C" fn wm_field_name_in(bytes: &[u8], index: u32, field: u32) -> WmAnswer
+    ensures { λ a. ⌜ a ≡ wmPlace (asPlace (askThrough (fieldName (record { 0 = index }) (record { 0 = field })) (now (bytes .entry)))) ⌝ }
+{
+    of_answer(through::field_name(bytes, TypeIndex(index), FieldIndex(field)))
+}
+
+#[no_mangle]
+pub extern "C" fn wm_kept_in(bytes: &[u8], id: u8) -> WmAnswer
+    ensures { λ a. ⌜ a ≡ wmPlace (asPlace (askThrough (keptContents id) (now (bytes .entry)))) ⌝ }
+{
+    of_answer(through::kept(bytes, id))
+}
+
+#[no_mangle]
+pub extern "C" fn wm_metadata_in(
+    bytes: &[u8],
+    format: &[u8],
+    function: u32,
+    offset: u32,
+) -> WmAnswer
+    ensures { λ a. ⌜ a ≡ wmPlace (asPlace (askMetadataThrough (now (format .entry)) (record { 0 = function }) (record { 0 = offset }) (now (bytes .entry)))) ⌝ }
+{
+    of_answer(through::metadata(bytes, format, FunctionIndex(function), CodeOffset(offset)))
+}
+
+#[no_mangle]
+pub extern "C" fn wm_hint_in(bytes: &[u8], function: u32, offset: u32) -> WmAnswer
+    ensures { λ a. ⌜ a ≡ wmHint (askHintThrough (record { 0 = function }) (record { 0 = offset }) (now (bytes .entry))) ⌝ }
+{
+    of_hint(through::hint(bytes, FunctionIndex(function), CodeOffset(offset)))
 }
 
 #[no_mangle]

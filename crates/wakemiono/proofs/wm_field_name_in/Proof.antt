@@ -1,0 +1,15 @@
+use Rattle.wakemiono.proofs.Laws.{calls}
+use Rattle.wakemiono.proofs.wm_field_name_in.Statement.{statement}
+use Rattle.wakemiono.proofs.wm_field_name_in.Tie as tie
+
+field-name-requires : tie.Need-field-name-requires
+field-name-requires c κs = search calls
+
+of-answer-requires : tie.Need-of-answer-requires
+of-answer-requires c κs = search calls
+
+returns : tie.Need-returns
+returns c = search calls
+
+pub wm-field-name-in-spec : {M : Type 1} → statement M
+wm-field-name-in-spec = tie.close (tie.spec field-name-requires of-answer-requires returns)

@@ -1,0 +1,119 @@
+/* Wakemiono: reads, asks and canonically rewrites the metadata of WebAssembly modules. x86-64 System V.
+ *
+ * Every call takes any bytes, ends, and asks no prior check. A byte slice is a pointer and a length; a length of 0 may
+ * come with any non-null pointer. Every answer is one struct by value, so that no call needs a buffer for it. A call
+ * reads what is lent to it and nothing else, and stores nothing but into an output; slices may not overlap an output.
+ *
+ *   kind            code             offset                    length
+ *   WM_NONE      0  0                0                         0
+ *   WM_FOUND     1  0 (section: id)  offset in what was lent   length in bytes (walk: count of sections)
+ *   WM_REFUSED   2  refusal number   where the fault lies      0
+ *   WM_UNLIKELY  3  0                0                         0      (hint questions only)
+ *   WM_LIKELY    4  0                0                         0      (hint questions only)
+ *
+ * The numbers of kinds and refusals are fixed: a host may store them. New calls are added beside these.
+ *
+ * Refusals, and what their offset gives:
+ *    1  preamble missing or different                                       0
+ *    2  a number, name or sized part runs past its enclosing part           first byte of the number, or of the length
+ *    3  fifth byte of a number above 0x0F                                   first byte of the number
+ *    4  text is not UTF-8                                                   first byte of the text (from lists: where the name starts)
+ *    5  section id above 12                                                 id byte
+ *    6  section repeated or out of order                                    id byte
+ *    7  second section `name` or `metadata.code.branch_hint`                its id byte
+ *    8  data after `name`; hints after code                                 id byte of the later section
+ *    9  subsection id not above the one before                              id byte
+ *   10  bytes left over in a subsection or a metadata payload               first of them
+ *   11  index or offset not above the one before                            that number (from lists: its position)
+ *   12  hint of size other than 1, or data above 1                          the size number
+ *   13  output shorter than needed                                          the needed length
+ *   14  lists disagree: unequal counts, or lengths that do not add up       0
+ *   15  subsection would exceed 4,294,967,295 bytes                         0
+ */
+#ifndef WAKEMIONO_H
+#define WAKEMIONO_H
+#include <stddef.h>
+#include <stdint.h>
+
+#ifdef __cplusplus
+extern "C" {
+#endif
+
+enum { WM_NONE = 0, WM_FOUND = 1, WM_REFUSED = 2, WM_UNLIKELY = 3, WM_LIKELY = 4 };
+
+typedef struct { uint32_t kind; uint32_t code; uint64_t offset; uint64_t length; } wm_answer;
+
+/* The walk over a whole module. A module that is damaged anywhere is refused, whatever is asked. */
+
+/* How many sections there are: FOUND with offset 0 and length = count of sections. */
+wm_answer wm_walk(const uint8_t *module, size_t module_len);
+/* The section at a position, from 0: FOUND with code = id, offset of the id byte, contents length; NONE past the last. */
+wm_answer wm_section(const uint8_t *module, size_t module_len, uint64_t position);
+/* Where the payload lies of the first custom section of that name, compared byte by byte; NONE without one. */
+wm_answer wm_custom(const uint8_t *module, size_t module_len, const uint8_t *name, size_t name_len);
+
+/* Questions to a name payload. It is judged whole first; FOUND gives the very bytes of the payload, NONE exactly where
+ * there is no name. An empty name is FOUND with length 0. */
+
+/* Is it accepted? FOUND with offset 0 and the payload's length. */
+wm_answer wm_names_judge(const uint8_t *payload, size_t payload_len);
+/* The module's name. */
+wm_answer wm_module_name(const uint8_t *payload, size_t payload_len);
+/* A function's name. */
+wm_answer wm_function_name(const uint8_t *payload, size_t payload_len, uint32_t function);
+/* A type's name. */
+wm_answer wm_type_name(const uint8_t *payload, size_t payload_len, uint32_t type);
+/* A tag's name. */
+wm_answer wm_tag_name(const uint8_t *payload, size_t payload_len, uint32_t tag);
+/* The name of a local in a function. */
+wm_answer wm_local_name(const uint8_t *payload, size_t payload_len, uint32_t function, uint32_t local);
+/* The name of a field in a type. */
+wm_answer wm_field_name(const uint8_t *payload, size_t payload_len, uint32_t type, uint32_t field);
+/* The contents of the kept subsection with an id; NONE for the ids 0, 1, 2, 4, 10 and 11, which have questions of their own. */
+wm_answer wm_kept(const uint8_t *payload, size_t payload_len, uint8_t id);
+
+/* The same questions through a module: judged after the walk, offsets from the module's start, NONE without the section. */
+
+wm_answer wm_module_name_in(const uint8_t *module, size_t module_len);
+wm_answer wm_function_name_in(const uint8_t *module, size_t module_len, uint32_t function);
+wm_answer wm_type_name_in(const uint8_t *module, size_t module_len, uint32_t type);
+wm_answer wm_tag_name_in(const uint8_t *module, size_t module_len, uint32_t tag);
+wm_answer wm_local_name_in(const uint8_t *module, size_t module_len, uint32_t function, uint32_t local);
+wm_answer wm_field_name_in(const uint8_t *module, size_t module_len, uint32_t type, uint32_t field);
+wm_answer wm_kept_in(const uint8_t *module, size_t module_len, uint8_t id);
+
+/* Code metadata. wm_metadata_*: any format, data of any size. wm_hint*: format branch_hint, read fully (refusal 12). */
+
+/* Is a payload of any format accepted? FOUND with offset 0 and the payload's length. */
+wm_answer wm_metadata_judge(const uint8_t *payload, size_t payload_len);
+/* Is a payload of branch hints accepted? FOUND with offset 0 and the payload's length. */
+wm_answer wm_hints_judge(const uint8_t *payload, size_t payload_len);
+/* The data that belongs to an offset of a function. */
+wm_answer wm_metadata(const uint8_t *payload, size_t payload_len, uint32_t function, uint32_t offset);
+/* The hint for the branch at an offset of a function: NONE, UNLIKELY, LIKELY or REFUSED. */
+wm_answer wm_hint(const uint8_t *payload, size_t payload_len, uint32_t function, uint32_t offset);
+/* The data through a module, from the first section metadata.code.T, where format is T; where T is branch_hint its rules hold too. */
+wm_answer wm_metadata_in(const uint8_t *module, size_t module_len, const uint8_t *format, size_t format_len, uint32_t function, uint32_t offset);
+/* The hint through a module. */
+wm_answer wm_hint_in(const uint8_t *module, size_t module_len, uint32_t function, uint32_t offset);
+
+/* Canonical rewritings. FOUND: offset 0, length = bytes written, at the front of out; the rest of out is unchanged.
+ * REFUSED changes nothing; refusal 13 gives the needed length as its offset. An output as long as the payload is always
+ * enough. Two accepted payloads have equal rewritings exactly when every question gets the same answer from both. */
+
+/* The canonical form of a name payload. */
+wm_answer wm_names_canonical(const uint8_t *payload, size_t payload_len, uint8_t *out, size_t out_len);
+/* The canonical form of a metadata payload of any format. */
+wm_answer wm_metadata_canonical(const uint8_t *payload, size_t payload_len, uint8_t *out, size_t out_len);
+/* The canonical form of a payload of branch hints. */
+wm_answer wm_hints_canonical(const uint8_t *payload, size_t payload_len, uint8_t *out, size_t out_len);
+
+/* Function names written from three lists: indices, name lengths in bytes, and the text of all names joined. The payload
+ * is canonical; answers and output as above. Refusals in this order: 14, all of 11, all of 4, 15, 13. */
+wm_answer wm_function_names_write(const uint32_t *indices, size_t indices_len, const uint32_t *lengths, size_t lengths_len,
+                                  const uint8_t *text, size_t text_len, uint8_t *out, size_t out_len);
+
+#ifdef __cplusplus
+}
+#endif
+#endif
