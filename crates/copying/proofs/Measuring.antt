@@ -46,9 +46,6 @@ pub shortest-short : (v : ℕ) → length (shortest v) ≤ 5
 unfolding shortest
 shortest-short v = fewest-short 4 v
 
-pub sized-fits : {size a : ℕ} → size < limit32 → a ≡ length (shortest size) → a + size < 2 ^ 64
-sized-fits {size} l e = omega (arith, shortest-short size)
-
 -- Rows
 pub record Counting (n : ℕ) (s : List ℕ) (c next : Cursor) (more total : ℕ) : Type 0 where
   pub along : Along sized n s c next more
