@@ -1,0 +1,13 @@
+/* Says the name of a module's first function: cc examples/first.c $(pkg-config --cflags --libs wakemiono) */
+#include <stdio.h>
+#include <wakemiono.h>
+
+int main(void) {
+    static uint8_t module[1 << 20];
+    size_t length = fread(module, 1, sizeof module, stdin);
+    wm_answer a = wm_function_name_in(module, length, 0);
+    if (a.kind == WM_FOUND) printf("%.*s\n", (int)a.length, (const char *)module + a.offset);
+    if (a.kind == WM_NONE) puts("function 0 has no name");
+    if (a.kind == WM_REFUSED) printf("refused %u at byte %llu\n", a.code, (unsigned long long)a.offset);
+    return a.kind == WM_REFUSED;
+}

@@ -1,0 +1,147 @@
+//! The C calls as the header declares them, on slices.
+
+// The crate that links the library is used for nothing else here.
+use wakemiono as _;
+
+/// The answer of every call.
+#[derive(Clone, Copy, Debug, PartialEq, Eq)]
+#[repr(C)]
+pub struct Told {
+    pub kind: u32,
+    pub code: u32,
+    pub offset: u64,
+    pub length: u64,
+}
+
+impl From<second_reader::Answer> for Told {
+    fn from(answer: second_reader::Answer) -> Told {
+        Told {
+            kind: answer.kind as u32,
+            code: answer.code,
+            offset: answer.offset,
+            length: answer.length,
+        }
+    }
+}
+
+/// Declares calls that take one lent slice and numbers, with a safe function for each.
+macro_rules! questions {
+    ($($call:ident = $symbol:ident ($($argument:ident: $of:ty),*);)*) => {
+        mod declared {
+            extern "C" {
+                $(pub fn $symbol(lent: *const u8, lent_len: usize $(, $argument: $of)*) -> super::Told;)*
+            }
+        }
+        $(
+            pub fn $call(lent: &[u8] $(, $argument: $of)*) -> Told {
+                // SAFETY: pointer and length are those of a live slice, which the call only reads.
+                unsafe { declared::$symbol(lent.as_ptr(), lent.len() $(, $argument)*) }
+            }
+        )*
+    };
+}
+
+questions! {
+    walk = wm_walk();
+    section = wm_section(position: u64);
+    names_judge = wm_names_judge();
+    module_name = wm_module_name();
+    function_name = wm_function_name(function: u32);
+    type_name = wm_type_name(index: u32);
+    tag_name = wm_tag_name(tag: u32);
+    local_name = wm_local_name(function: u32, local: u32);
+    field_name = wm_field_name(index: u32, field: u32);
+    kept = wm_kept(id: u8);
+    module_name_in = wm_module_name_in();
+    function_name_in = wm_function_name_in(function: u32);
+    type_name_in = wm_type_name_in(index: u32);
+    tag_name_in = wm_tag_name_in(tag: u32);
+    local_name_in = wm_local_name_in(function: u32, local: u32);
+    field_name_in = wm_field_name_in(index: u32, field: u32);
+    kept_in = wm_kept_in(id: u8);
+    metadata_judge = wm_metadata_judge();
+    hints_judge = wm_hints_judge();
+    metadata = wm_metadata(function: u32, offset: u32);
+    hint = wm_hint(function: u32, offset: u32);
+    hint_in = wm_hint_in(function: u32, offset: u32);
+}
+
+/// Declares calls that rewrite a lent payload into an output.
+macro_rules! rewritings {
+    ($($call:ident = $symbol:ident;)*) => {
+        mod rewriting {
+            extern "C" {
+                $(pub fn $symbol(lent: *const u8, lent_len: usize, out: *mut u8, out_len: usize) -> super::Told;)*
+            }
+        }
+        $(
+            pub fn $call(lent: &[u8], out: &mut [u8]) -> Told {
+                // SAFETY: both are live slices that do not overlap; the call stores into the output alone.
+                unsafe { rewriting::$symbol(lent.as_ptr(), lent.len(), out.as_mut_ptr(), out.len()) }
+            }
+        )*
+    };
+}
+
+rewritings! {
+    names_canonical = wm_names_canonical;
+    metadata_canonical = wm_metadata_canonical;
+    hints_canonical = wm_hints_canonical;
+}
+
+extern "C" {
+    fn wm_custom(module: *const u8, module_len: usize, name: *const u8, name_len: usize) -> Told;
+    fn wm_metadata_in(
+        module: *const u8,
+        module_len: usize,
+        format: *const u8,
+        format_len: usize,
+        function: u32,
+        offset: u32,
+    ) -> Told;
+    fn wm_function_names_write(
+        indices: *const u32,
+        indices_len: usize,
+        lengths: *const u32,
+        lengths_len: usize,
+        text: *const u8,
+        text_len: usize,
+        out: *mut u8,
+        out_len: usize,
+    ) -> Told;
+}
+
+pub fn custom(module: &[u8], name: &[u8]) -> Told {
+    // SAFETY: both are live slices, which the call only reads.
+    unsafe { wm_custom(module.as_ptr(), module.len(), name.as_ptr(), name.len()) }
+}
+
+pub fn metadata_in(module: &[u8], format: &[u8], function: u32, offset: u32) -> Told {
+    // SAFETY: both are live slices, which the call only reads.
+    unsafe {
+        wm_metadata_in(
+            module.as_ptr(),
+            module.len(),
+            format.as_ptr(),
+            format.len(),
+            function,
+            offset,
+        )
+    }
+}
+
+pub fn function_names_write(indices: &[u32], lengths: &[u32], text: &[u8], out: &mut [u8]) -> Told {
+    // SAFETY: all are live slices, the output overlaps none of the others, and the call stores into it alone.
+    unsafe {
+        wm_function_names_write(
+            indices.as_ptr(),
+            indices.len(),
+            lengths.as_ptr(),
+            lengths.len(),
+            text.as_ptr(),
+            text.len(),
+            out.as_mut_ptr(),
+            out.len(),
+        )
+    }
+}

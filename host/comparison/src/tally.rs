@@ -1,0 +1,241 @@
+//! One call put to both readers, what they answer and leave compared, and counted.
+
+use crate::guarded::Guarded;
+use crate::library::{self, Told};
+use second_reader::Answer;
+
+/// More than any input or output of the tests takes.
+const ROOM: usize = 1 << 20;
+
+/// Bytes before an output that must stay as they are.
+const GUARD: usize = 32;
+const GUARD_BYTE: u8 = 0xA5;
+
+/// What an output holds before a call.
+const UNTOUCHED: u8 = 0xEE;
+
+/// Indices and offsets that are asked for; the made payloads use them too.
+pub const KEYS: [u32; 8] = [0, 1, 2, 3, 127, 128, 300, u32::MAX];
+
+/// Fewer of them, for questions with two.
+pub const FEW_KEYS: [u32; 5] = [0, 1, 3, 128, u32::MAX];
+
+/// Ids that are asked for as kept.
+pub const IDS: [u8; 12] = [0, 1, 2, 3, 4, 5, 7, 9, 10, 11, 12, 255];
+
+/// Counts the calls that agreed, and holds the memory that is lent.
+pub struct Tally {
+    pub calls: u64,
+    lent: Guarded,
+    also_lent: Guarded,
+    text: Guarded,
+    output: Guarded,
+}
+
+impl Default for Tally {
+    fn default() -> Self {
+        Tally {
+            calls: 0,
+            lent: Guarded::new(ROOM),
+            also_lent: Guarded::new(ROOM),
+            text: Guarded::new(ROOM),
+            output: Guarded::new(ROOM),
+        }
+    }
+}
+
+/// Puts one question to both readers.
+macro_rules! ask {
+    ($tally:ident, $lent:expr, $call:ident $(, $argument:expr)*) => {
+        $tally.ask(
+            stringify!($call $(, $argument)*),
+            $lent,
+            |lent| library::$call(lent $(, $argument)*),
+            |lent| second_reader::$call(lent $(, $argument)*),
+        )
+    };
+}
+
+/// Puts one rewriting to both readers, with outputs of several lengths.
+macro_rules! rewrite {
+    ($tally:ident, $lent:expr, $call:ident) => {
+        $tally.rewrite(
+            stringify!($call),
+            $lent,
+            library::$call,
+            second_reader::$call,
+        )
+    };
+}
+
+impl Tally {
+    fn ask(
+        &mut self,
+        call: &str,
+        bytes: &[u8],
+        library: impl Fn(&[u8]) -> Told,
+        reader: impl Fn(&[u8]) -> Answer,
+    ) -> Told {
+        let lent = self.lent.lend(bytes);
+        let told = library(lent);
+        assert_eq!(lent, bytes, "{call} changed what was lent");
+        assert_eq!(told, Told::from(reader(bytes)), "{call} of {bytes:02X?}");
+        self.calls += 1;
+        told
+    }
+
+    /// Every question to a name payload.
+    pub fn names(&mut self, p: &[u8]) {
+        ask!(self, p, names_judge);
+        ask!(self, p, module_name);
+        for key in KEYS {
+            ask!(self, p, function_name, key);
+            ask!(self, p, type_name, key);
+            ask!(self, p, tag_name, key);
+        }
+        for key in FEW_KEYS {
+            for inner in FEW_KEYS {
+                ask!(self, p, local_name, key, inner);
+                ask!(self, p, field_name, key, inner);
+            }
+        }
+        for id in IDS {
+            ask!(self, p, kept, id);
+        }
+        rewrite!(self, p, names_canonical);
+    }
+
+    /// Every question to a metadata payload.
+    pub fn metadata(&mut self, p: &[u8]) {
+        ask!(self, p, metadata_judge);
+        ask!(self, p, hints_judge);
+        for key in FEW_KEYS {
+            for inner in FEW_KEYS {
+                ask!(self, p, metadata, key, inner);
+                ask!(self, p, hint, key, inner);
+            }
+        }
+        rewrite!(self, p, metadata_canonical);
+        rewrite!(self, p, hints_canonical);
+    }
+
+    /// Every question to a module.
+    pub fn module(&mut self, m: &[u8]) {
+        let sections = ask!(self, m, walk).length;
+        for position in 0..sections.min(12) + 2 {
+            ask!(self, m, section, position);
+        }
+        ask!(self, m, section, u64::MAX);
+        for name in [
+            &b"name"[..],
+            b"metadata.code.branch_hint",
+            b"metadata.code.x",
+            b"x",
+            b"",
+        ] {
+            ask!(self, m, custom, name);
+        }
+        ask!(self, m, module_name_in);
+        for key in FEW_KEYS {
+            ask!(self, m, function_name_in, key);
+            ask!(self, m, type_name_in, key);
+            ask!(self, m, tag_name_in, key);
+        }
+        for id in IDS {
+            ask!(self, m, kept_in, id);
+        }
+        for key in [0, 3, 128] {
+            for inner in [0, 1, u32::MAX] {
+                ask!(self, m, local_name_in, key, inner);
+                ask!(self, m, field_name_in, key, inner);
+                ask!(self, m, hint_in, key, inner);
+                for format in [&b"branch_hint"[..], b"x", b""] {
+                    ask!(self, m, metadata_in, format, key, inner);
+                }
+            }
+        }
+    }
+
+    fn rewrite(
+        &mut self,
+        call: &str,
+        bytes: &[u8],
+        library: impl Fn(&[u8], &mut [u8]) -> Told,
+        reader: impl Fn(&[u8], &mut [u8]) -> Answer,
+    ) {
+        let needed = reader(bytes, &mut vec![0; bytes.len()]).length as usize;
+        for room in [
+            0,
+            needed.saturating_sub(1),
+            needed,
+            bytes.len(),
+            bytes.len() + 7,
+        ] {
+            let lent = self.lent.lend(bytes);
+            let framed = self.output.last(GUARD + room);
+            framed.fill(UNTOUCHED);
+            framed[..GUARD].fill(GUARD_BYTE);
+            let told = library(lent, &mut framed[GUARD..]);
+            let mut expected = vec![UNTOUCHED; room];
+            let answer = Told::from(reader(bytes, &mut expected));
+            assert_eq!(told, answer, "{call} of {bytes:02X?} into {room}");
+            assert_eq!(
+                &framed[GUARD..],
+                expected,
+                "the output of {call} of {bytes:02X?} into {room}"
+            );
+            assert!(
+                framed[..GUARD].iter().all(|b| *b == GUARD_BYTE),
+                "{call} wrote before its output"
+            );
+            assert_eq!(lent, bytes, "{call} changed what was lent");
+            self.calls += 1;
+        }
+    }
+
+    /// Function names from lists, with outputs of several lengths; what was written is read back by both.
+    pub fn lists(&mut self, indices: &[u32], lengths: &[u32], text: &[u8]) {
+        let most = 16 * indices.len() + text.len() + 16;
+        let needed = second_reader::function_names_write(indices, lengths, text, &mut vec![0; most])
+            .length as usize;
+        for room in [0, needed.saturating_sub(1), needed, most] {
+            let lent = self.lent.lend_numbers(indices);
+            let also_lent = self.also_lent.lend_numbers(lengths);
+            let joined = self.text.lend(text);
+            let framed = self.output.last(GUARD + room);
+            framed.fill(UNTOUCHED);
+            framed[..GUARD].fill(GUARD_BYTE);
+            let told = library::function_names_write(lent, also_lent, joined, &mut framed[GUARD..]);
+            let mut expected = vec![UNTOUCHED; room];
+            let answer = Told::from(second_reader::function_names_write(
+                indices,
+                lengths,
+                text,
+                &mut expected,
+            ));
+            assert_eq!(
+                told, answer,
+                "{indices:?} {lengths:?} {text:02X?} into {room}"
+            );
+            assert_eq!(
+                &framed[GUARD..],
+                expected,
+                "the output of {indices:?} {lengths:?} {text:02X?} into {room}"
+            );
+            assert!(
+                framed[..GUARD].iter().all(|b| *b == GUARD_BYTE),
+                "written before the output"
+            );
+            assert_eq!(
+                (lent, also_lent, joined),
+                (indices, lengths, text),
+                "what was lent changed"
+            );
+            self.calls += 1;
+            if answer.kind == second_reader::Kind::Found as u32 {
+                let written = expected[..answer.length as usize].to_vec();
+                self.names(&written);
+            }
+        }
+    }
+}

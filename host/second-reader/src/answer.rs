@@ -1,0 +1,159 @@
+//! What a call answers: the one struct of the boundary, its kinds, and the numbered reasons of a
+//! refusal.
+
+use crate::reading::Part;
+
+/// The answer to any call. Fields that a kind does not use are 0.
+#[derive(Clone, Copy, Debug, PartialEq, Eq)]
+#[must_use]
+pub struct Answer {
+    /// Which of the five kinds of answer this is.
+    pub kind: Kind,
+    /// The number of the refusal; for a section that was found, its id.
+    pub code: u32,
+    /// Where the thing found lies in what was lent; for a refusal, the offset that the rules give
+    /// with it.
+    pub offset: u64,
+    /// The length in bytes of the thing found; for the walk, the count of sections.
+    pub length: u64,
+}
+
+/// The kinds of answer. Their numbers are fixed.
+#[derive(Clone, Copy, Debug, PartialEq, Eq)]
+#[repr(u32)]
+pub enum Kind {
+    /// Accepted, and there is no such thing.
+    None = 0,
+    /// Accepted and found, or written.
+    Found = 1,
+    /// Refused, for the reason that the code gives.
+    Refused = 2,
+    /// A hint that the branch is unlikely to be taken.
+    Unlikely = 3,
+    /// A hint that the branch is likely to be taken.
+    Likely = 4,
+}
+
+/// The reasons of a refusal. Their numbers are fixed.
+#[derive(Clone, Copy, Debug, PartialEq, Eq)]
+#[repr(u32)]
+pub enum Reason {
+    /// The preamble is missing or different.
+    Preamble = 1,
+    /// A number, name or sized part runs past its enclosing part.
+    PastEnd = 2,
+    /// The fifth byte of a number is above 0x0F.
+    NumberTooLarge = 3,
+    /// Text is not UTF-8.
+    NotUtf8 = 4,
+    /// A section id is above 12.
+    UnknownSection = 5,
+    /// A section is repeated or out of order.
+    SectionOrder = 6,
+    /// A second section of names or of hints.
+    SecondOfItsName = 7,
+    /// Data after names, or hints after code.
+    TooLate = 8,
+    /// A subsection id is not above the one before.
+    SubsectionOrder = 9,
+    /// Bytes are left over in a subsection or a metadata payload.
+    LeftOver = 10,
+    /// An index or offset is not above the one before.
+    NotAscending = 11,
+    /// A hint has a size other than 1, or data above 1.
+    NotAHint = 12,
+    /// The output is shorter than needed.
+    OutputTooShort = 13,
+    /// The lists disagree about their counts or the length of the text.
+    ListsDisagree = 14,
+    /// The subsection to be written would exceed 4,294,967,295 bytes.
+    SubsectionTooLarge = 15,
+    /// A program's input is above 65,536 bytes.
+    InputTooLarge = 16,
+}
+
+impl Reason {
+    pub(crate) fn at(self, offset: usize) -> Refusal {
+        self.with(offset as u64)
+    }
+
+    /// For what is measured and not lent, which may exceed the address space.
+    pub(crate) fn with(self, offset: u64) -> Refusal {
+        Refusal {
+            reason: self,
+            offset,
+        }
+    }
+}
+
+/// Why and where reading stopped.
+#[derive(Clone, Copy, Debug, PartialEq, Eq)]
+pub(crate) struct Refusal {
+    reason: Reason,
+    offset: u64,
+}
+
+impl Answer {
+    const NONE: Answer = Answer {
+        kind: Kind::None,
+        code: 0,
+        offset: 0,
+        length: 0,
+    };
+
+    fn found(offset: u64, length: u64) -> Answer {
+        Answer {
+            kind: Kind::Found,
+            offset,
+            length,
+            ..Answer::NONE
+        }
+    }
+
+    pub(crate) fn of_section(id: u8, offset: usize, length: usize) -> Answer {
+        Answer {
+            code: u32::from(id),
+            ..Answer::found(offset as u64, length as u64)
+        }
+    }
+
+    /// For what is counted from the start: sections walked, bytes judged, bytes written.
+    pub(crate) fn counted(count: Result<u64, Refusal>) -> Answer {
+        count.map_or_else(Answer::from, |count| Answer::found(0, count))
+    }
+
+    /// For questions whose answer may be missing.
+    pub(crate) fn of<T: Into<Answer>>(asked: Result<Option<T>, Refusal>) -> Answer {
+        match asked {
+            Ok(Some(answer)) => answer.into(),
+            Ok(None) => Answer::NONE,
+            Err(refusal) => refusal.into(),
+        }
+    }
+}
+
+impl From<Kind> for Answer {
+    fn from(kind: Kind) -> Answer {
+        Answer {
+            kind,
+            ..Answer::NONE
+        }
+    }
+}
+
+impl From<Part<'_>> for Answer {
+    fn from(part: Part<'_>) -> Answer {
+        Answer::found(part.offset() as u64, part.bytes().len() as u64)
+    }
+}
+
+impl From<Refusal> for Answer {
+    fn from(refusal: Refusal) -> Answer {
+        Answer {
+            kind: Kind::Refused,
+            code: refusal.reason as u32,
+            offset: refusal.offset,
+            length: 0,
+        }
+    }
+}

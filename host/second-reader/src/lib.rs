@@ -1,0 +1,44 @@
+//! The rules for WebAssembly names and code metadata, in plain Rust.
+//!
+//! This is a second reader, written from the text of the rules alone. It shares no code with the
+//! proved crates and knows nothing of how they work. It is the comparison, not the product: where
+//! the two give different answers for the same bytes, one of them misreads the rules.
+//!
+//! The functions are the calls of the C header under the same names, with slices for pointer and
+//! length. Each takes any bytes, ends in an [`Answer`], and asks for no prior check: a payload is
+//! judged whole before it is asked or rewritten, and a refusal changes no byte of an output.
+//!
+//! ```
+//! use second_reader::{function_name, Kind};
+//!
+//! let payload = [0x01, 0x04, 0x01, 0x07, 0x01, b'f'];
+//! let answer = function_name(&payload, 7);
+//! assert_eq!((answer.kind, answer.offset, answer.length), (Kind::Found, 5, 1));
+//! assert_eq!(function_name(&payload, 6).kind, Kind::None);
+//! ```
+
+#![forbid(unsafe_code)]
+#![warn(missing_docs)]
+
+mod answer;
+mod canonical;
+mod lists;
+mod metadata;
+mod names;
+mod reading;
+mod through;
+mod walk;
+mod writing;
+
+pub use answer::{Answer, Kind, Reason};
+pub use canonical::{hints_canonical, metadata_canonical, names_canonical};
+pub use lists::function_names_write;
+pub use metadata::{hint, hints_judge, metadata, metadata_judge};
+pub use names::{
+    field_name, function_name, kept, local_name, module_name, names_judge, tag_name, type_name,
+};
+pub use through::{
+    field_name_in, function_name_in, hint_in, kept_in, local_name_in, metadata_in, module_name_in,
+    tag_name_in, type_name_in,
+};
+pub use walk::{custom, section, walk};

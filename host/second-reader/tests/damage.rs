@@ -1,0 +1,304 @@
+//! Damaged inputs: cut at every length, every byte changed to every value, and bytes of no plan at
+//! all.
+//!
+//! Nothing may panic, every call must give the judgement's refusal, and what is accepted must
+//! rewrite well.
+
+mod support;
+
+use second_reader::*;
+use support::inputs::*;
+use support::random::{for_seeds, Random};
+use support::*;
+
+const INDICES: [u32; 4] = [0, 1, 127, u32::MAX];
+
+type Rewrite = fn(&[u8], &mut [u8]) -> Answer;
+
+/// Every question to a name payload, for a few indices.
+fn name_answers(payload: &[u8]) -> Vec<Answer> {
+    let mut answers = vec![module_name(payload), kept(payload, 3), kept(payload, 1)];
+    for index in INDICES {
+        answers.push(function_name(payload, index));
+        answers.push(type_name(payload, index));
+        answers.push(tag_name(payload, index));
+        answers.push(local_name(payload, 1, index));
+        answers.push(field_name(payload, index, 0));
+    }
+    answers
+}
+
+fn metadata_answers(payload: &[u8]) -> Vec<Answer> {
+    INDICES.map(|index| metadata(payload, index, 0)).to_vec()
+}
+
+fn hint_answers(payload: &[u8]) -> Vec<Answer> {
+    INDICES.map(|index| hint(payload, 0, index)).to_vec()
+}
+
+/// What an answer says apart from where: two payloads answer alike where these are the same.
+fn said(lent: &[u8], answers: Vec<Answer>) -> Vec<(Kind, Option<&[u8]>)> {
+    let said = |answer: Answer| (answer.kind, bytes_of(lent, answer));
+    answers.into_iter().map(said).collect()
+}
+
+/// Puts every question to one payload, whatever it is.
+fn check_payload(
+    payload: &[u8],
+    judge: fn(&[u8]) -> Answer,
+    ask: fn(&[u8]) -> Vec<Answer>,
+    rewrite: Rewrite,
+) {
+    let judged = judge(payload);
+    if judged.kind == Kind::Refused {
+        assert!((2..=12).contains(&judged.code));
+        assert!(judged.offset <= payload.len() as u64);
+        assert!(ask(payload).iter().all(|answer| *answer == judged));
+        assert_eq!(rewritten(rewrite, payload), Err(judged));
+        return;
+    }
+    assert_eq!(judged, found(0, payload.len() as u64));
+    let canonical = rewritten(rewrite, payload).unwrap();
+    assert!(canonical.len() <= payload.len());
+    assert_eq!(judge(&canonical), found(0, canonical.len() as u64));
+    assert_eq!(
+        said(payload, ask(payload)),
+        said(&canonical, ask(&canonical))
+    );
+    assert_eq!(rewritten(rewrite, &canonical), Ok(canonical));
+}
+
+fn check_names(payload: &[u8]) {
+    check_payload(payload, names_judge, name_answers, names_canonical);
+}
+
+fn check_metadata(payload: &[u8]) {
+    check_payload(
+        payload,
+        metadata_judge,
+        metadata_answers,
+        metadata_canonical,
+    );
+    check_payload(payload, hints_judge, hint_answers, hints_canonical);
+    // The rules for hints refuse more, and only by 12.
+    let (any, hints) = (metadata_judge(payload), hints_judge(payload));
+    assert!(any == hints || hints.code == 12);
+}
+
+/// Puts every question through one module, whatever it is.
+fn check_module(module: &[u8]) {
+    let walked = walk(module);
+    if walked.kind == Kind::Refused {
+        assert!((1..=8).contains(&walked.code));
+        assert!(walked.offset <= module.len() as u64);
+        assert_eq!(section(module, 0), walked);
+        assert_eq!(custom(module, b"name"), walked);
+        assert!(through_answers(module)
+            .iter()
+            .all(|answer| *answer == walked));
+        return;
+    }
+    check_sections(module, walked.length);
+    for answer in through_answers(module) {
+        assert!(answer.offset + answer.length <= module.len() as u64);
+    }
+}
+
+fn through_answers(module: &[u8]) -> [Answer; 10] {
+    [
+        module_name_in(module),
+        function_name_in(module, 0),
+        type_name_in(module, 0),
+        tag_name_in(module, 0),
+        local_name_in(module, 0, 0),
+        field_name_in(module, 0, 0),
+        kept_in(module, 3),
+        hint_in(module, 0, 0),
+        metadata_in(module, b"branch_hint", 0, 0),
+        metadata_in(module, b"x", 0, 0),
+    ]
+}
+
+/// The sections lie one behind the other and fill the module.
+fn check_sections(module: &[u8], count: u64) {
+    let mut least = PREAMBLE.len() as u64;
+    for position in 0..count {
+        let here = section(module, position);
+        assert_eq!(here.kind, Kind::Found);
+        assert_eq!(u32::from(module[here.offset as usize]), here.code);
+        assert!(here.offset >= least);
+        least = here.offset + 2 + here.length;
+    }
+    assert!(least <= module.len() as u64);
+    assert_eq!(section(module, count), NONE);
+}
+
+/// The input cut at every length.
+fn cut_everywhere(input: &[u8], check: fn(&[u8])) {
+    for length in 0..=input.len() {
+        check(&input[..length]);
+    }
+}
+
+/// The input with every byte, one at a time, changed to every other value.
+fn change_everywhere(input: &[u8], check: fn(&[u8])) {
+    let mut changed = input.to_vec();
+    for place in 0..input.len() {
+        for value in 0..=u8::MAX {
+            changed[place] = value;
+            check(&changed);
+        }
+        changed[place] = input[place];
+    }
+}
+
+/// The first input of at most this length that the generator gives.
+fn small(most: usize, mut make: impl FnMut() -> Vec<u8>) -> Vec<u8> {
+    loop {
+        let input = make();
+        if input.len() <= most {
+            return input;
+        }
+    }
+}
+
+fn names_input(random: &mut Random) -> Vec<u8> {
+    let names = random_names(random);
+    encoded_names(&names, random)
+}
+
+fn metadata_input(random: &mut Random) -> Vec<u8> {
+    let list = match random.one_in(3) {
+        true => random_metadata(random),
+        false => random_hints(random),
+    };
+    encoded_nested(&list, random)
+}
+
+fn module_input(random: &mut Random) -> Vec<u8> {
+    let metadata = small(40, || metadata_input(random));
+    let hints = small(60, || {
+        let hints = random_hints(random);
+        encoded_nested(&hints, random)
+    });
+    let names = small(60, || names_input(random));
+    let mut sections = vec![
+        plain_section(1, b"\0"),
+        custom_section(b"metadata.code.x", &metadata),
+        custom_section(HINTS, &hints),
+        plain_section(10, b"\0"),
+        plain_section(11, b"\0"),
+        custom_section(b"name", &names),
+    ];
+    sections.retain(|_| !random.one_in(4));
+    module(&sections)
+}
+
+#[test]
+fn names_cut_short() {
+    cut_everywhere(&P, check_names);
+    for_seeds(200, |random| {
+        cut_everywhere(&names_input(random), check_names)
+    });
+}
+
+#[test]
+fn metadata_cut_short() {
+    for_seeds(200, |random| {
+        cut_everywhere(&metadata_input(random), check_metadata);
+    });
+}
+
+#[test]
+fn modules_cut_short() {
+    for_seeds(100, |random| {
+        cut_everywhere(&module_input(random), check_module)
+    });
+}
+
+#[test]
+fn names_with_a_byte_changed() {
+    change_everywhere(&P, check_names);
+    for_seeds(12, |random| {
+        let input = small(60, || names_input(random));
+        change_everywhere(&input, check_names);
+    });
+}
+
+#[test]
+fn metadata_with_a_byte_changed() {
+    for_seeds(12, |random| {
+        let input = small(60, || metadata_input(random));
+        change_everywhere(&input, check_metadata);
+    });
+}
+
+#[test]
+fn modules_with_a_byte_changed() {
+    change_everywhere(&module(&[custom_section(b"name", &P)]), check_module);
+    for_seeds(4, |random| {
+        change_everywhere(&module_input(random), check_module)
+    });
+}
+
+/// Small bytes are far more often a payload than any bytes are.
+#[test]
+fn bytes_of_no_plan() {
+    for_seeds(20_000, |random| {
+        let most = random.pick(&[4, 8, 16]);
+        let mut bytes = any_bytes(random, most);
+        if !random.one_in(4) {
+            for byte in &mut bytes {
+                *byte %= 4;
+            }
+        }
+        check_names(&bytes);
+        check_metadata(&bytes);
+        check_module(&bytes);
+        check_module(&module(&[bytes]));
+    });
+}
+
+/// All payloads of up to four bytes, over the bytes that matter.
+#[test]
+fn every_short_payload() {
+    const BYTES: [u8; 9] = [0, 1, 2, 3, 4, 0x0B, 0x61, 0x80, 0xFF];
+    let mut payloads = vec![Vec::new()];
+    for _ in 0..4 {
+        let longer = payloads
+            .iter()
+            .flat_map(|payload| BYTES.map(|byte| [&payload[..], &[byte]].concat()))
+            .collect();
+        payloads.iter().for_each(|payload| check_names(payload));
+        payloads.iter().for_each(|payload| check_metadata(payload));
+        payloads = longer;
+    }
+    payloads.iter().for_each(|payload| check_names(payload));
+    payloads.iter().for_each(|payload| check_metadata(payload));
+}
+
+/// Lists of no plan: whatever is refused leaves the output alone, whatever is written reads back.
+#[test]
+fn lists_of_no_plan() {
+    for_seeds(20_000, |random| {
+        let indices: Vec<u32> = (0..random.below(4))
+            .map(|_| random.below(4) as u32)
+            .collect();
+        let lengths: Vec<u32> = (0..random.below(4))
+            .map(|_| random.below(3) as u32)
+            .collect();
+        let text: Vec<u8> = (0..random.below(5))
+            .map(|_| random.pick(&[0x61, 0x62, 0xC3, 0xA9]))
+            .collect();
+        let write = |out: &mut [u8]| function_names_write(&indices, &lengths, &text, out);
+        match written(write, 64) {
+            Ok(payload) => {
+                check_names(&payload);
+                for index in indices {
+                    assert_eq!(function_name(&payload, index).kind, Kind::Found);
+                }
+            }
+            Err(refusal) => assert!([4, 11, 14].contains(&refusal.code)),
+        }
+    });
+}

@@ -1,0 +1,106 @@
+//! Short ways to say which answer is expected, and to build the inputs.
+
+// Every test file uses some of these, and none uses all.
+#![allow(dead_code)]
+
+pub mod inputs;
+pub mod random;
+
+use second_reader::{Answer, Kind};
+
+pub const PREAMBLE: &[u8] = b"\0asm\x01\0\0\0";
+
+pub const HINTS: &[u8] = b"metadata.code.branch_hint";
+
+/// The payload P of the document.
+pub const P: [u8; 21] = [
+    0x00, 0x02, 0x01, 0x6D, 0x01, 0x07, 0x02, 0x00, 0x01, 0x61, 0x03, 0x01, 0x62, 0x02, 0x06, 0x01,
+    0x03, 0x01, 0x00, 0x01, 0x78,
+];
+
+pub const NONE: Answer = answer(Kind::None, 0, 0, 0);
+pub const UNLIKELY: Answer = answer(Kind::Unlikely, 0, 0, 0);
+pub const LIKELY: Answer = answer(Kind::Likely, 0, 0, 0);
+
+const fn answer(kind: Kind, code: u32, offset: u64, length: u64) -> Answer {
+    Answer {
+        kind,
+        code,
+        offset,
+        length,
+    }
+}
+
+pub const fn found(offset: u64, length: u64) -> Answer {
+    answer(Kind::Found, 0, offset, length)
+}
+
+pub const fn section_found(id: u32, offset: u64, length: u64) -> Answer {
+    answer(Kind::Found, id, offset, length)
+}
+
+pub const fn refused(code: u32, offset: u64) -> Answer {
+    answer(Kind::Refused, code, offset, 0)
+}
+
+/// The bytes that an answer points to, or none where it is not a found one.
+pub fn bytes_of(lent: &[u8], answer: Answer) -> Option<&[u8]> {
+    let start = answer.offset as usize;
+    (answer.kind == Kind::Found).then(|| &lent[start..start + answer.length as usize])
+}
+
+/// What a rewriting writes, or its refusal. Around what is written the output must stay as it was.
+pub fn rewritten(
+    rewrite: fn(&[u8], &mut [u8]) -> Answer,
+    payload: &[u8],
+) -> Result<Vec<u8>, Answer> {
+    written(|out| rewrite(payload, out), payload.len() + 1)
+}
+
+/// What a call writes into an output that has room, or its refusal.
+pub fn written(write: impl Fn(&mut [u8]) -> Answer, room: usize) -> Result<Vec<u8>, Answer> {
+    const UNTOUCHED: u8 = 0xA5;
+    let mut out = vec![UNTOUCHED; room];
+    let answer = write(&mut out);
+    let length = match answer.kind {
+        Kind::Found => answer.length as usize,
+        _ => 0,
+    };
+    assert!(out[length..].iter().all(|&byte| byte == UNTOUCHED));
+    if answer.kind == Kind::Refused {
+        return Err(answer);
+    }
+    assert_eq!(answer, found(0, length as u64));
+    check_room(&write, length, UNTOUCHED);
+    out.truncate(length);
+    Ok(out)
+}
+
+/// Exactly enough room is enough; one byte less is refusal 13, gives the needed length and writes
+/// nothing.
+fn check_room(write: &impl Fn(&mut [u8]) -> Answer, needed: usize, untouched: u8) {
+    let mut exact = vec![untouched; needed];
+    assert_eq!(write(&mut exact), found(0, needed as u64));
+    if needed > 0 {
+        let mut short = vec![untouched; needed - 1];
+        assert_eq!(write(&mut short), refused(13, needed as u64));
+        assert!(short.iter().all(|&byte| byte == untouched));
+        assert_eq!(write(&mut []), refused(13, needed as u64));
+    }
+}
+
+/// A section of any id: id, size in its fewest bytes, contents. Only for contents below 128 bytes.
+pub fn plain_section(id: u8, contents: &[u8]) -> Vec<u8> {
+    assert!(contents.len() < 0x80);
+    [&[id, contents.len() as u8], contents].concat()
+}
+
+/// A custom section of a name. Only for contents below 128 bytes.
+pub fn custom_section(name: &[u8], payload: &[u8]) -> Vec<u8> {
+    plain_section(0, &[&[name.len() as u8], name, payload].concat())
+}
+
+/// A module of the given sections.
+pub fn module(sections: &[Vec<u8>]) -> Vec<u8> {
+    [PREAMBLE, &sections.concat()].concat()
+}

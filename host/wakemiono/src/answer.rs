@@ -1,0 +1,160 @@
+//! What the answer of a C call means.
+
+use crate::ffi::{Answer, FOUND, LIKELY, NONE, REFUSED, UNLIKELY};
+use crate::{Hint, Reason, Refusal, Section};
+
+impl Answer {
+    /// The part of what was lent that was found, or none.
+    pub(crate) fn part(self, lent: &[u8]) -> Result<Option<&[u8]>, Refusal> {
+        let part = || {
+            let from = usize::try_from(self.offset).ok()?;
+            let length = usize::try_from(self.length).ok()?;
+            lent.get(from..from.checked_add(length)?)
+        };
+        let found = self.is_found()?;
+        Ok(found.then(|| part().unwrap_or_else(|| self.misfit())))
+    }
+
+    /// The section that was found, or none.
+    pub(crate) fn section(self) -> Result<Option<Section>, Refusal> {
+        let section = || Section {
+            id: u8::try_from(self.code).unwrap_or_else(|_| self.misfit()),
+            offset: self.offset,
+            length: self.length,
+        };
+        Ok(self.is_found()?.then(section))
+    }
+
+    /// A length or a count, where there is always one or a refusal.
+    pub(crate) fn length(self) -> Result<u64, Refusal> {
+        if self.is_found()? {
+            Ok(self.length)
+        } else {
+            self.misfit()
+        }
+    }
+
+    /// How many bytes were written into an output of a length.
+    pub(crate) fn written(self, out_len: usize) -> Result<usize, Refusal> {
+        let written = usize::try_from(self.length()?);
+        match written {
+            Ok(written) if written <= out_len => Ok(written),
+            _ => self.misfit(),
+        }
+    }
+
+    /// The same of a call on lists, whose refusals count other things than bytes.
+    pub(crate) fn written_from_lists(self, out_len: usize) -> Result<usize, Refusal> {
+        let in_lists = |refusal: Refusal| Refusal::in_lists(refusal.reason(), refusal.offset());
+        self.written(out_len).map_err(in_lists)
+    }
+
+    /// The hint, or none.
+    pub(crate) fn hint(self) -> Result<Option<Hint>, Refusal> {
+        match self.kind {
+            NONE => Ok(None),
+            UNLIKELY => Ok(Some(Hint::Unlikely)),
+            LIKELY => Ok(Some(Hint::Likely)),
+            REFUSED => Err(self.refusal()),
+            _ => self.misfit(),
+        }
+    }
+
+    fn is_found(self) -> Result<bool, Refusal> {
+        match self.kind {
+            NONE => Ok(false),
+            FOUND => Ok(true),
+            REFUSED => Err(self.refusal()),
+            _ => self.misfit(),
+        }
+    }
+
+    fn refusal(self) -> Refusal {
+        let reason = Reason::from_number(self.code).unwrap_or_else(|| self.misfit());
+        Refusal::in_bytes(reason, self.offset)
+    }
+
+    /// No call of the archive that belongs to this crate answers so.
+    fn misfit(self) -> ! {
+        panic!("libwakemiono.a gave {self:?}, against its header: is it of another version?")
+    }
+}
+
+#[cfg(test)]
+mod tests {
+    use super::*;
+
+    fn answer(kind: u32, code: u32, offset: u64, length: u64) -> Answer {
+        Answer {
+            kind,
+            code,
+            offset,
+            length,
+        }
+    }
+
+    #[test]
+    fn a_part_is_the_bytes_that_were_lent() {
+        let lent = [1, 2, 3, 4];
+        assert_eq!(answer(FOUND, 0, 1, 2).part(&lent), Ok(Some(&lent[1..3])));
+        assert_eq!(answer(FOUND, 0, 4, 0).part(&lent), Ok(Some(&lent[4..])));
+        assert_eq!(answer(NONE, 0, 0, 0).part(&lent), Ok(None));
+    }
+
+    #[test]
+    #[should_panic(expected = "is it of another version?")]
+    fn a_part_beyond_what_was_lent_is_a_misfit() {
+        let _ = answer(FOUND, 0, 3, 2).part(&[1, 2, 3, 4]);
+    }
+
+    #[test]
+    #[should_panic(expected = "is it of another version?")]
+    fn a_part_whose_end_has_no_number_is_a_misfit() {
+        let _ = answer(FOUND, 0, u64::MAX, 2).part(&[1, 2, 3, 4]);
+    }
+
+    #[test]
+    #[should_panic(expected = "is it of another version?")]
+    fn a_hint_is_no_place() {
+        let _ = answer(LIKELY, 0, 0, 0).part(&[]);
+    }
+
+    #[test]
+    #[should_panic(expected = "is it of another version?")]
+    fn a_place_is_no_hint() {
+        let _ = answer(FOUND, 0, 0, 0).hint();
+    }
+
+    #[test]
+    #[should_panic(expected = "is it of another version?")]
+    fn the_id_of_a_section_is_a_byte() {
+        let _ = answer(FOUND, 256, 8, 0).section();
+    }
+
+    #[test]
+    #[should_panic(expected = "is it of another version?")]
+    fn a_count_is_never_none() {
+        let _ = answer(NONE, 0, 0, 0).length();
+    }
+
+    #[test]
+    #[should_panic(expected = "is it of another version?")]
+    fn no_more_is_written_than_there_is_room() {
+        let _ = answer(FOUND, 0, 0, 5).written(4);
+    }
+
+    #[test]
+    #[should_panic(expected = "is it of another version?")]
+    fn refusals_have_the_numbers_1_to_15() {
+        let _ = answer(REFUSED, 16, 0, 0).length();
+    }
+
+    #[test]
+    fn every_reason_has_its_number() {
+        for number in 1..=15 {
+            let refusal = answer(REFUSED, number, 7, 0).length().unwrap_err();
+            assert_eq!((refusal.number(), refusal.offset()), (number, 7));
+            assert_eq!(answer(REFUSED, number, 7, 0).hint().unwrap_err(), refusal);
+        }
+    }
+}

@@ -1,0 +1,270 @@
+//! The C calls, each behind a safe function on slices. All `unsafe` code of this crate stands here.
+//!
+//! What every block relies on, as the header `wakemiono.h` states it:
+//!
+//! - **lent**: a slice's pointer is never null, also where the slice is empty, and its length
+//!   counts what lies behind the pointer; the borrow keeps it alive and unchanged until the call
+//!   returns. A call reads what is lent to it and nothing else, keeps no pointer, and takes any
+//!   bytes and any numbers.
+//! - **output**: `&mut` is the only way to those bytes during the call, so no lent slice overlaps
+//!   them. A call stores into the output and nowhere else, and stores bytes, of which any is a
+//!   `u8`.
+
+/// The answer of every call, by value: `wm_answer` of the header.
+#[repr(C)]
+#[derive(Clone, Copy, Debug, PartialEq, Eq)]
+pub(crate) struct Answer {
+    pub(crate) kind: u32,
+    pub(crate) code: u32,
+    pub(crate) offset: u64,
+    pub(crate) length: u64,
+}
+
+pub(crate) const NONE: u32 = 0;
+pub(crate) const FOUND: u32 = 1;
+pub(crate) const REFUSED: u32 = 2;
+pub(crate) const UNLIKELY: u32 = 3;
+pub(crate) const LIKELY: u32 = 4;
+
+extern "C" {
+    fn wm_walk(module: *const u8, module_len: usize) -> Answer;
+    fn wm_section(module: *const u8, module_len: usize, position: u64) -> Answer;
+    fn wm_custom(module: *const u8, module_len: usize, name: *const u8, name_len: usize) -> Answer;
+
+    fn wm_names_judge(payload: *const u8, payload_len: usize) -> Answer;
+    fn wm_module_name(payload: *const u8, payload_len: usize) -> Answer;
+    fn wm_function_name(payload: *const u8, payload_len: usize, function: u32) -> Answer;
+    fn wm_type_name(payload: *const u8, payload_len: usize, type_: u32) -> Answer;
+    fn wm_tag_name(payload: *const u8, payload_len: usize, tag: u32) -> Answer;
+    fn wm_local_name(payload: *const u8, payload_len: usize, function: u32, local: u32) -> Answer;
+    fn wm_field_name(payload: *const u8, payload_len: usize, type_: u32, field: u32) -> Answer;
+    fn wm_kept(payload: *const u8, payload_len: usize, id: u8) -> Answer;
+
+    fn wm_module_name_in(module: *const u8, module_len: usize) -> Answer;
+    fn wm_function_name_in(module: *const u8, module_len: usize, function: u32) -> Answer;
+    fn wm_type_name_in(module: *const u8, module_len: usize, type_: u32) -> Answer;
+    fn wm_tag_name_in(module: *const u8, module_len: usize, tag: u32) -> Answer;
+    fn wm_local_name_in(module: *const u8, module_len: usize, function: u32, local: u32) -> Answer;
+    fn wm_field_name_in(module: *const u8, module_len: usize, type_: u32, field: u32) -> Answer;
+    fn wm_kept_in(module: *const u8, module_len: usize, id: u8) -> Answer;
+
+    fn wm_metadata_judge(payload: *const u8, payload_len: usize) -> Answer;
+    fn wm_hints_judge(payload: *const u8, payload_len: usize) -> Answer;
+    fn wm_metadata(payload: *const u8, payload_len: usize, function: u32, offset: u32) -> Answer;
+    fn wm_hint(payload: *const u8, payload_len: usize, function: u32, offset: u32) -> Answer;
+    fn wm_metadata_in(
+        module: *const u8,
+        module_len: usize,
+        format: *const u8,
+        format_len: usize,
+        function: u32,
+        offset: u32,
+    ) -> Answer;
+    fn wm_hint_in(module: *const u8, module_len: usize, function: u32, offset: u32) -> Answer;
+
+    fn wm_names_canonical(
+        payload: *const u8,
+        payload_len: usize,
+        out: *mut u8,
+        out_len: usize,
+    ) -> Answer;
+    fn wm_metadata_canonical(
+        payload: *const u8,
+        payload_len: usize,
+        out: *mut u8,
+        out_len: usize,
+    ) -> Answer;
+    fn wm_hints_canonical(
+        payload: *const u8,
+        payload_len: usize,
+        out: *mut u8,
+        out_len: usize,
+    ) -> Answer;
+
+    fn wm_function_names_write(
+        indices: *const u32,
+        indices_len: usize,
+        lengths: *const u32,
+        lengths_len: usize,
+        text: *const u8,
+        text_len: usize,
+        out: *mut u8,
+        out_len: usize,
+    ) -> Answer;
+}
+
+pub(crate) fn walk(module: &[u8]) -> Answer {
+    // SAFETY: pointer and length of one live slice, lent.
+    unsafe { wm_walk(module.as_ptr(), module.len()) }
+}
+
+pub(crate) fn section(module: &[u8], position: u64) -> Answer {
+    // SAFETY: pointer and length of one live slice, lent; any position may be asked.
+    unsafe { wm_section(module.as_ptr(), module.len(), position) }
+}
+
+pub(crate) fn custom(module: &[u8], name: &[u8]) -> Answer {
+    // SAFETY: pointers and lengths of two live slices, both lent; being only read, they may
+    // overlap.
+    unsafe { wm_custom(module.as_ptr(), module.len(), name.as_ptr(), name.len()) }
+}
+
+pub(crate) fn names_judge(payload: &[u8]) -> Answer {
+    // SAFETY: pointer and length of one live slice, lent.
+    unsafe { wm_names_judge(payload.as_ptr(), payload.len()) }
+}
+
+pub(crate) fn module_name(payload: &[u8]) -> Answer {
+    // SAFETY: pointer and length of one live slice, lent.
+    unsafe { wm_module_name(payload.as_ptr(), payload.len()) }
+}
+
+pub(crate) fn function_name(payload: &[u8], function: u32) -> Answer {
+    // SAFETY: pointer and length of one live slice, lent; any index may be asked.
+    unsafe { wm_function_name(payload.as_ptr(), payload.len(), function) }
+}
+
+pub(crate) fn type_name(payload: &[u8], type_: u32) -> Answer {
+    // SAFETY: pointer and length of one live slice, lent; any index may be asked.
+    unsafe { wm_type_name(payload.as_ptr(), payload.len(), type_) }
+}
+
+pub(crate) fn tag_name(payload: &[u8], tag: u32) -> Answer {
+    // SAFETY: pointer and length of one live slice, lent; any index may be asked.
+    unsafe { wm_tag_name(payload.as_ptr(), payload.len(), tag) }
+}
+
+pub(crate) fn local_name(payload: &[u8], function: u32, local: u32) -> Answer {
+    // SAFETY: pointer and length of one live slice, lent; any indices may be asked.
+    unsafe { wm_local_name(payload.as_ptr(), payload.len(), function, local) }
+}
+
+pub(crate) fn field_name(payload: &[u8], type_: u32, field: u32) -> Answer {
+    // SAFETY: pointer and length of one live slice, lent; any indices may be asked.
+    unsafe { wm_field_name(payload.as_ptr(), payload.len(), type_, field) }
+}
+
+pub(crate) fn kept(payload: &[u8], id: u8) -> Answer {
+    // SAFETY: pointer and length of one live slice, lent; any id may be asked.
+    unsafe { wm_kept(payload.as_ptr(), payload.len(), id) }
+}
+
+pub(crate) fn module_name_in(module: &[u8]) -> Answer {
+    // SAFETY: pointer and length of one live slice, lent.
+    unsafe { wm_module_name_in(module.as_ptr(), module.len()) }
+}
+
+pub(crate) fn function_name_in(module: &[u8], function: u32) -> Answer {
+    // SAFETY: pointer and length of one live slice, lent; any index may be asked.
+    unsafe { wm_function_name_in(module.as_ptr(), module.len(), function) }
+}
+
+pub(crate) fn type_name_in(module: &[u8], type_: u32) -> Answer {
+    // SAFETY: pointer and length of one live slice, lent; any index may be asked.
+    unsafe { wm_type_name_in(module.as_ptr(), module.len(), type_) }
+}
+
+pub(crate) fn tag_name_in(module: &[u8], tag: u32) -> Answer {
+    // SAFETY: pointer and length of one live slice, lent; any index may be asked.
+    unsafe { wm_tag_name_in(module.as_ptr(), module.len(), tag) }
+}
+
+pub(crate) fn local_name_in(module: &[u8], function: u32, local: u32) -> Answer {
+    // SAFETY: pointer and length of one live slice, lent; any indices may be asked.
+    unsafe { wm_local_name_in(module.as_ptr(), module.len(), function, local) }
+}
+
+pub(crate) fn field_name_in(module: &[u8], type_: u32, field: u32) -> Answer {
+    // SAFETY: pointer and length of one live slice, lent; any indices may be asked.
+    unsafe { wm_field_name_in(module.as_ptr(), module.len(), type_, field) }
+}
+
+pub(crate) fn kept_in(module: &[u8], id: u8) -> Answer {
+    // SAFETY: pointer and length of one live slice, lent; any id may be asked.
+    unsafe { wm_kept_in(module.as_ptr(), module.len(), id) }
+}
+
+pub(crate) fn metadata_judge(payload: &[u8]) -> Answer {
+    // SAFETY: pointer and length of one live slice, lent.
+    unsafe { wm_metadata_judge(payload.as_ptr(), payload.len()) }
+}
+
+pub(crate) fn hints_judge(payload: &[u8]) -> Answer {
+    // SAFETY: pointer and length of one live slice, lent.
+    unsafe { wm_hints_judge(payload.as_ptr(), payload.len()) }
+}
+
+pub(crate) fn metadata(payload: &[u8], function: u32, offset: u32) -> Answer {
+    // SAFETY: pointer and length of one live slice, lent; any index and offset may be asked.
+    unsafe { wm_metadata(payload.as_ptr(), payload.len(), function, offset) }
+}
+
+pub(crate) fn hint(payload: &[u8], function: u32, offset: u32) -> Answer {
+    // SAFETY: pointer and length of one live slice, lent; any index and offset may be asked.
+    unsafe { wm_hint(payload.as_ptr(), payload.len(), function, offset) }
+}
+
+pub(crate) fn metadata_in(module: &[u8], format: &[u8], function: u32, offset: u32) -> Answer {
+    // SAFETY: pointers and lengths of two live slices, both lent; being only read, they may
+    // overlap.
+    unsafe {
+        wm_metadata_in(
+            module.as_ptr(),
+            module.len(),
+            format.as_ptr(),
+            format.len(),
+            function,
+            offset,
+        )
+    }
+}
+
+pub(crate) fn hint_in(module: &[u8], function: u32, offset: u32) -> Answer {
+    // SAFETY: pointer and length of one live slice, lent; any index and offset may be asked.
+    unsafe { wm_hint_in(module.as_ptr(), module.len(), function, offset) }
+}
+
+pub(crate) fn names_canonical(payload: &[u8], out: &mut [u8]) -> Answer {
+    // SAFETY: pointers and lengths of one live slice, lent, and of one `&mut` slice, the output.
+    unsafe { wm_names_canonical(payload.as_ptr(), payload.len(), out.as_mut_ptr(), out.len()) }
+}
+
+pub(crate) fn metadata_canonical(payload: &[u8], out: &mut [u8]) -> Answer {
+    // SAFETY: pointers and lengths of one live slice, lent, and of one `&mut` slice, the output.
+    unsafe { wm_metadata_canonical(payload.as_ptr(), payload.len(), out.as_mut_ptr(), out.len()) }
+}
+
+pub(crate) fn hints_canonical(payload: &[u8], out: &mut [u8]) -> Answer {
+    // SAFETY: pointers and lengths of one live slice, lent, and of one `&mut` slice, the output.
+    unsafe { wm_hints_canonical(payload.as_ptr(), payload.len(), out.as_mut_ptr(), out.len()) }
+}
+
+pub(crate) fn function_names_write(
+    indices: &[u32],
+    lengths: &[u32],
+    text: &[u8],
+    out: &mut [u8],
+) -> Answer {
+    // SAFETY: pointers and lengths of three live slices, lent, with numbers aligned as `u32` is,
+    // and of one `&mut` slice, the output. Lists that disagree are refused by the call.
+    unsafe {
+        wm_function_names_write(
+            indices.as_ptr(),
+            indices.len(),
+            lengths.as_ptr(),
+            lengths.len(),
+            text.as_ptr(),
+            text.len(),
+            out.as_mut_ptr(),
+            out.len(),
+        )
+    }
+}
+
+/// The layout that the header gives: two 32-bit fields, then two of 64 bits, without gaps.
+const _: () = {
+    assert!(std::mem::size_of::<Answer>() == 24);
+    assert!(std::mem::offset_of!(Answer, code) == 4);
+    assert!(std::mem::offset_of!(Answer, offset) == 8);
+    assert!(std::mem::offset_of!(Answer, length) == 16);
+};

@@ -1,0 +1,98 @@
+//! One type for each index space and for code offsets, so that none is taken for another.
+
+use std::fmt;
+
+macro_rules! number {
+    ($(#[$doc:meta])* $name:ident) => {
+        $(#[$doc])*
+        #[derive(Clone, Copy, Debug, PartialEq, Eq, PartialOrd, Ord, Hash)]
+        pub struct $name(pub u32);
+
+        impl From<u32> for $name {
+            fn from(number: u32) -> $name {
+                $name(number)
+            }
+        }
+
+        impl fmt::Display for $name {
+            fn fmt(&self, f: &mut fmt::Formatter<'_>) -> fmt::Result {
+                fmt::Display::fmt(&self.0, f)
+            }
+        }
+    };
+}
+
+number! {
+    /// Which function of a module, counted from 0 with its imported functions first.
+    ///
+    /// ```
+    /// use wakemiono::FunctionIndex;
+    ///
+    /// assert_eq!(FunctionIndex(3).to_string(), "3");
+    /// assert!(FunctionIndex::from(3) < FunctionIndex(4));
+    /// ```
+    ///
+    /// No other number is taken for it:
+    ///
+    /// ```compile_fail,E0308
+    /// use wakemiono::{LocalIndex, NamePayload};
+    ///
+    /// NamePayload::new(&[]).function_name(LocalIndex(3));
+    /// ```
+    FunctionIndex
+}
+
+number! {
+    /// Which local of a function, counted from 0 with its parameters first.
+    ///
+    /// ```
+    /// use wakemiono::LocalIndex;
+    ///
+    /// assert_eq!(LocalIndex::from(7).0, 7);
+    /// ```
+    LocalIndex
+}
+
+number! {
+    /// Which type of a module, counted from 0.
+    ///
+    /// ```
+    /// use wakemiono::TypeIndex;
+    ///
+    /// assert_eq!(format!("{:?}", TypeIndex(2)), "TypeIndex(2)");
+    /// ```
+    TypeIndex
+}
+
+number! {
+    /// Which field of a type, counted from 0.
+    ///
+    /// ```
+    /// use wakemiono::FieldIndex;
+    ///
+    /// assert_eq!(FieldIndex(1), FieldIndex::from(1));
+    /// ```
+    FieldIndex
+}
+
+number! {
+    /// Which tag of a module, counted from 0.
+    ///
+    /// ```
+    /// use wakemiono::TagIndex;
+    ///
+    /// assert_eq!(TagIndex(0).max(TagIndex(5)), TagIndex(5));
+    /// ```
+    TagIndex
+}
+
+number! {
+    /// A place in a function's code, in bytes from where its declaration of locals starts.
+    ///
+    /// ```
+    /// use wakemiono::CodeOffset;
+    ///
+    /// assert_eq!(format!("{:>4}", CodeOffset(17)), "  17");
+    /// ```
+    CodeOffset
+}

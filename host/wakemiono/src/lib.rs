@@ -1,0 +1,80 @@
+//! Wakemiono reads, asks and canonically rewrites the metadata of WebAssembly modules: the framing
+//! of sections, the `name` section, and code metadata with branch hints.
+//!
+//! ```
+//! use wakemiono::{FunctionIndex, Module};
+//!
+//! let bytes = b"\0asm\x01\0\0\0\x00\x0B\x04name\x01\x04\x01\x00\x01a"; // any bytes at all
+//! match Module::new(bytes).function_name(FunctionIndex(0)) {
+//!     Ok(Some(name)) => println!("function 0 is called {name}"),
+//!     Ok(None) => println!("function 0 has no name"),
+//!     Err(refusal) => println!("no module of ours: {refusal}"),
+//! }
+//! ```
+//!
+//! The answers come from a proved library, of which this crate is the safe side: whole modules are
+//! asked through [`Module`], payloads apart from their module through [`NamePayload`], [`Metadata`]
+//! and [`Hints`], and function names are written by [`function_names`]. Only the steps of
+//! [`Sections`] over a module that the library has accepted are taken here.
+//!
+//! - Any bytes may be lent. No call asks a prior check, and bad input gets a [`Refusal`] that says
+//!   what is wrong and where.
+//! - What is found is borrowed from the very bytes that were lent; [`offset_in`] says where it
+//!   lies.
+//! - An output is written only by a call that succeeds, at its front; its other bytes are
+//!   unchanged.
+//!
+//! The library is linked as the archive `libwakemiono.a`, for x86-64. A call panics where that
+//! archive gives an answer that its header does not allow, and so is not the one that belongs here.
+
+#![deny(unsafe_code)]
+#![deny(missing_docs)]
+
+mod answer;
+#[allow(unsafe_code)]
+mod ffi;
+mod index;
+mod lists;
+mod metadata;
+mod module;
+mod name;
+mod name_payload;
+mod refusal;
+
+pub use index::{CodeOffset, FieldIndex, FunctionIndex, LocalIndex, TagIndex, TypeIndex};
+pub use lists::{function_names, function_names_into};
+pub use metadata::{Hint, Hints, Metadata};
+pub use module::{Module, Section, Sections};
+pub use name::Name;
+pub use name_payload::NamePayload;
+pub use refusal::{Reason, Refusal};
+
+/// Where a part that was found lies in the bytes that were lent, as an offset from their start;
+/// none for bytes that do not lie there.
+///
+/// ```
+/// use wakemiono::{offset_in, NamePayload};
+///
+/// let lent = [0x00, 0x02, 0x01, 0x6D];
+/// let name = NamePayload::new(&lent).module_name()?.unwrap();
+/// assert_eq!(offset_in(&lent, name.as_bytes()), Some(3));
+/// assert_eq!(offset_in(&lent, &[0x6D]), None);
+/// # Ok::<(), wakemiono::Refusal>(())
+/// ```
+#[must_use]
+pub fn offset_in(lent: &[u8], part: &[u8]) -> Option<usize> {
+    let offset = (part.as_ptr() as usize).checked_sub(lent.as_ptr() as usize)?;
+    let last = lent.len().checked_sub(part.len())?;
+    (offset <= last).then_some(offset)
+}
+
+/// What is written into an output of a length that is enough, and no more than that.
+fn to_vec(
+    enough: usize,
+    write: impl FnOnce(&mut [u8]) -> Result<usize, Refusal>,
+) -> Result<Vec<u8>, Refusal> {
+    let mut out = vec![0; enough];
+    let length = write(&mut out)?;
+    out.truncate(length);
+    Ok(out)
+}

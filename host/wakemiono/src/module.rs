@@ -1,0 +1,441 @@
+//! Whole modules: the walk over their sections, and the questions put through them.
+
+use std::fmt;
+use std::iter::FusedIterator;
+
+use crate::{
+    ffi, CodeOffset, FieldIndex, FunctionIndex, Hint, Hints, LocalIndex, Name, NamePayload,
+    Refusal, TagIndex, TypeIndex,
+};
+
+/// A section, as the walk finds it.
+///
+/// ```
+/// use wakemiono::{Module, Section};
+///
+/// let module = Module::new(b"\0asm\x01\0\0\0\x01\x01\x00");
+/// assert_eq!(module.section(0)?, Some(Section { id: 1, offset: 8, length: 1 }));
+/// # Ok::<(), wakemiono::Refusal>(())
+/// ```
+#[derive(Clone, Copy, Debug, PartialEq, Eq, Hash)]
+pub struct Section {
+    /// The id, from 0 to 12; 0 is a custom section.
+    pub id: u8,
+    /// The offset of the id byte in the module.
+    pub offset: u64,
+    /// The length of the contents, without id and size.
+    pub length: u64,
+}
+
+/// A whole module, borrowed from the caller.
+///
+/// Any bytes may be lent, and nothing is checked beforehand: each call walks over all sections
+/// first, and refuses a module that is damaged anywhere, whatever is asked. A payload is judged
+/// only where it is asked. Each call reads the whole module; a caller with many questions takes
+/// the payload out once, with [`names`](Self::names) or [`hints`](Self::hints), and asks that.
+///
+/// ```
+/// use wakemiono::{FunctionIndex, Module};
+///
+/// let bytes = b"\0asm\x01\0\0\0\x00\x0B\x04name\x01\x04\x01\x00\x01a";
+/// let module = Module::new(bytes);
+/// assert_eq!(module.section_count()?, 1);
+/// assert_eq!(module.function_name(FunctionIndex(0))?.unwrap().to_str(), Ok("a"));
+/// # Ok::<(), wakemiono::Refusal>(())
+/// ```
+#[derive(Clone, Copy)]
+pub struct Module<'a>(&'a [u8]);
+
+impl<'a> Module<'a> {
+    /// Takes any bytes, and checks nothing.
+    ///
+    /// ```
+    /// use wakemiono::Module;
+    ///
+    /// assert!(Module::new(b"no module").section_count().is_err());
+    /// ```
+    #[must_use]
+    pub const fn new(module: &'a [u8]) -> Module<'a> {
+        Module(module)
+    }
+
+    /// The bytes that were lent.
+    ///
+    /// ```
+    /// use wakemiono::Module;
+    ///
+    /// assert_eq!(Module::new(b"\0asm\x01\0\0\0").as_bytes().len(), 8);
+    /// ```
+    #[must_use]
+    pub const fn as_bytes(&self) -> &'a [u8] {
+        self.0
+    }
+
+    /// How many sections there are.
+    ///
+    /// ```
+    /// use wakemiono::Module;
+    ///
+    /// assert_eq!(Module::new(b"\0asm\x01\0\0\0").section_count(), Ok(0));
+    /// ```
+    ///
+    /// # Errors
+    ///
+    /// The first fault of the walk over all sections.
+    pub fn section_count(&self) -> Result<u64, Refusal> {
+        ffi::walk(self.0).length()
+    }
+
+    /// The section at a position, counted from 0; none past the last. Each call walks over the
+    /// whole module: for all sections there is [`sections`](Self::sections).
+    ///
+    /// ```
+    /// use wakemiono::Module;
+    ///
+    /// let module = Module::new(b"\0asm\x01\0\0\0\x01\x01\x00");
+    /// assert_eq!(module.section(0)?.unwrap().id, 1);
+    /// assert_eq!(module.section(1)?, None);
+    /// # Ok::<(), wakemiono::Refusal>(())
+    /// ```
+    ///
+    /// # Errors
+    ///
+    /// As [`section_count`](Self::section_count).
+    pub fn section(&self, position: u64) -> Result<Option<Section>, Refusal> {
+        ffi::section(self.0, position).section()
+    }
+
+    /// All sections in the order of the file, in one pass. The library's walk accepts and counts
+    /// them; the steps from one to the next are this crate's own, by the sizes that were accepted.
+    ///
+    /// ```
+    /// use wakemiono::Module;
+    ///
+    /// let module = Module::new(b"\0asm\x01\0\0\0\x01\x01\x00\x03\x01\x00");
+    /// let ids: Vec<u8> = module.sections()?.map(|section| section.id).collect();
+    /// assert_eq!(ids, [1, 3]);
+    /// # Ok::<(), wakemiono::Refusal>(())
+    /// ```
+    ///
+    /// # Errors
+    ///
+    /// As [`section_count`](Self::section_count).
+    pub fn sections(&self) -> Result<Sections<'a>, Refusal> {
+        let count = self.section_count()?;
+        Ok(Sections {
+            module: self.0,
+            next: PREAMBLE_LENGTH,
+            left: count,
+        })
+    }
+
+    /// The payload of the first custom section of a name, compared byte by byte.
+    ///
+    /// ```
+    /// use wakemiono::Module;
+    ///
+    /// let module = Module::new(b"\0asm\x01\0\0\0\x00\x04\x01xyz");
+    /// assert_eq!(module.custom("x")?, Some(&b"yz"[..]));
+    /// assert_eq!(module.custom("y")?, None);
+    /// # Ok::<(), wakemiono::Refusal>(())
+    /// ```
+    ///
+    /// # Errors
+    ///
+    /// As [`section_count`](Self::section_count).
+    pub fn custom(&self, name: impl AsRef<[u8]>) -> Result<Option<&'a [u8]>, Refusal> {
+        ffi::custom(self.0, name.as_ref()).part(self.0)
+    }
+
+    /// The payload of the `name` section, not judged yet. Its offsets count from its own start.
+    ///
+    /// ```
+    /// use wakemiono::{FunctionIndex, Module};
+    ///
+    /// let module = Module::new(b"\0asm\x01\0\0\0\x00\x0B\x04name\x01\x04\x01\x00\x01a");
+    /// let names = module.names()?.unwrap();
+    /// assert_eq!(names.function_name(FunctionIndex(0))?.unwrap().to_str(), Ok("a"));
+    /// # Ok::<(), wakemiono::Refusal>(())
+    /// ```
+    ///
+    /// # Errors
+    ///
+    /// As [`section_count`](Self::section_count).
+    pub fn names(&self) -> Result<Option<NamePayload<'a>>, Refusal> {
+        Ok(self.custom("name")?.map(NamePayload::new))
+    }
+
+    /// The payload of the section `metadata.code.branch_hint`, not judged yet. Its offsets count
+    /// from its own start.
+    ///
+    /// ```
+    /// use wakemiono::Module;
+    ///
+    /// let module = Module::new(b"\0asm\x01\0\0\0\x00\x1B\x19metadata.code.branch_hint\x00");
+    /// assert_eq!(module.hints()?.unwrap().judge(), Ok(()));
+    /// # Ok::<(), wakemiono::Refusal>(())
+    /// ```
+    ///
+    /// # Errors
+    ///
+    /// As [`section_count`](Self::section_count).
+    pub fn hints(&self) -> Result<Option<Hints<'a>>, Refusal> {
+        Ok(self.custom("metadata.code.branch_hint")?.map(Hints::new))
+    }
+
+    /// The module's name; none also without a `name` section.
+    ///
+    /// ```
+    /// use wakemiono::Module;
+    ///
+    /// let module = Module::new(b"\0asm\x01\0\0\0\x00\x09\x04name\x00\x02\x01m");
+    /// assert_eq!(module.module_name()?.unwrap().to_str(), Ok("m"));
+    /// # Ok::<(), wakemiono::Refusal>(())
+    /// ```
+    ///
+    /// # Errors
+    ///
+    /// As [`section_count`](Self::section_count), and then the first fault of the name payload; all
+    /// offsets count from the module's start.
+    pub fn module_name(&self) -> Result<Option<Name<'a>>, Refusal> {
+        self.name(ffi::module_name_in(self.0))
+    }
+
+    /// A function's name; none also without a `name` section.
+    ///
+    /// ```
+    /// use wakemiono::{FunctionIndex, Module};
+    ///
+    /// let module = Module::new(b"\0asm\x01\0\0\0\x00\x0B\x04name\x01\x04\x01\x00\x01a");
+    /// assert_eq!(module.function_name(FunctionIndex(0))?.unwrap().to_str(), Ok("a"));
+    /// assert_eq!(module.function_name(FunctionIndex(1))?, None);
+    /// # Ok::<(), wakemiono::Refusal>(())
+    /// ```
+    ///
+    /// # Errors
+    ///
+    /// As [`module_name`](Self::module_name).
+    pub fn function_name(&self, function: FunctionIndex) -> Result<Option<Name<'a>>, Refusal> {
+        self.name(ffi::function_name_in(self.0, function.0))
+    }
+
+    /// A type's name; none also without a `name` section.
+    ///
+    /// ```
+    /// use wakemiono::{Module, TypeIndex};
+    ///
+    /// let module = Module::new(b"\0asm\x01\0\0\0\x00\x0B\x04name\x04\x04\x01\x02\x01t");
+    /// assert_eq!(module.type_name(TypeIndex(2))?.unwrap().to_str(), Ok("t"));
+    /// # Ok::<(), wakemiono::Refusal>(())
+    /// ```
+    ///
+    /// # Errors
+    ///
+    /// As [`module_name`](Self::module_name).
+    pub fn type_name(&self, type_: TypeIndex) -> Result<Option<Name<'a>>, Refusal> {
+        self.name(ffi::type_name_in(self.0, type_.0))
+    }
+
+    /// A tag's name; none also without a `name` section.
+    ///
+    /// ```
+    /// use wakemiono::{Module, TagIndex};
+    ///
+    /// let module = Module::new(b"\0asm\x01\0\0\0\x00\x0B\x04name\x0B\x04\x01\x00\x01e");
+    /// assert_eq!(module.tag_name(TagIndex(0))?.unwrap().to_str(), Ok("e"));
+    /// # Ok::<(), wakemiono::Refusal>(())
+    /// ```
+    ///
+    /// # Errors
+    ///
+    /// As [`module_name`](Self::module_name).
+    pub fn tag_name(&self, tag: TagIndex) -> Result<Option<Name<'a>>, Refusal> {
+        self.name(ffi::tag_name_in(self.0, tag.0))
+    }
+
+    /// The name of a local in a function; none also without a `name` section.
+    ///
+    /// ```
+    /// use wakemiono::{FunctionIndex, LocalIndex, Module};
+    ///
+    /// let module = Module::new(b"\0asm\x01\0\0\0\x00\x0D\x04name\x02\x06\x01\x03\x01\x00\x01x");
+    /// let name = module.local_name(FunctionIndex(3), LocalIndex(0))?;
+    /// assert_eq!(name.unwrap().to_str(), Ok("x"));
+    /// # Ok::<(), wakemiono::Refusal>(())
+    /// ```
+    ///
+    /// # Errors
+    ///
+    /// As [`module_name`](Self::module_name).
+    pub fn local_name(
+        &self,
+        function: FunctionIndex,
+        local: LocalIndex,
+    ) -> Result<Option<Name<'a>>, Refusal> {
+        self.name(ffi::local_name_in(self.0, function.0, local.0))
+    }
+
+    /// The name of a field in a type; none also without a `name` section.
+    ///
+    /// ```
+    /// use wakemiono::{FieldIndex, Module, TypeIndex};
+    ///
+    /// let module = Module::new(b"\0asm\x01\0\0\0\x00\x0D\x04name\x0A\x06\x01\x02\x01\x01\x01f");
+    /// let name = module.field_name(TypeIndex(2), FieldIndex(1))?;
+    /// assert_eq!(name.unwrap().to_str(), Ok("f"));
+    /// # Ok::<(), wakemiono::Refusal>(())
+    /// ```
+    ///
+    /// # Errors
+    ///
+    /// As [`module_name`](Self::module_name).
+    pub fn field_name(
+        &self,
+        type_: TypeIndex,
+        field: FieldIndex,
+    ) -> Result<Option<Name<'a>>, Refusal> {
+        self.name(ffi::field_name_in(self.0, type_.0, field.0))
+    }
+
+    /// The contents of the kept subsection of the `name` section with an id; none for the ids 0, 1,
+    /// 2, 4, 10 and 11, which have questions of their own, and none without a `name` section.
+    ///
+    /// ```
+    /// use wakemiono::Module;
+    ///
+    /// let module = Module::new(b"\0asm\x01\0\0\0\x00\x08\x04name\x03\x01\xFF");
+    /// assert_eq!(module.kept(3)?, Some(&[0xFF][..]));
+    /// # Ok::<(), wakemiono::Refusal>(())
+    /// ```
+    ///
+    /// # Errors
+    ///
+    /// As [`module_name`](Self::module_name).
+    pub fn kept(&self, id: u8) -> Result<Option<&'a [u8]>, Refusal> {
+        ffi::kept_in(self.0, id).part(self.0)
+    }
+
+    /// The data that the first section `metadata.code.T`, where the format is T, gives to a place
+    /// in a function's code; none also without such a section. Where the format is `branch_hint`,
+    /// the payload is judged by the rules of branch hints.
+    ///
+    /// ```
+    /// use wakemiono::{CodeOffset, FunctionIndex, Module};
+    ///
+    /// let module =
+    ///     Module::new(b"\0asm\x01\0\0\0\x00\x17\x0Fmetadata.code.x\x01\x02\x01\x05\x02ab");
+    /// let data = module.metadata("x", FunctionIndex(2), CodeOffset(5))?;
+    /// assert_eq!(data, Some(&b"ab"[..]));
+    /// # Ok::<(), wakemiono::Refusal>(())
+    /// ```
+    ///
+    /// # Errors
+    ///
+    /// As [`section_count`](Self::section_count), and then the first fault of that payload; all
+    /// offsets count from the module's start.
+    pub fn metadata(
+        &self,
+        format: impl AsRef<[u8]>,
+        function: FunctionIndex,
+        at: CodeOffset,
+    ) -> Result<Option<&'a [u8]>, Refusal> {
+        ffi::metadata_in(self.0, format.as_ref(), function.0, at.0).part(self.0)
+    }
+
+    /// The hint for the branch at a place in a function's code; none also without the section.
+    ///
+    /// ```
+    /// use wakemiono::{CodeOffset, FunctionIndex, Hint, Module};
+    ///
+    /// let module = Module::new(
+    ///     b"\0asm\x01\0\0\0\x00\x20\x19metadata.code.branch_hint\x01\x02\x01\x05\x01\x01",
+    /// );
+    /// assert_eq!(module.hint(FunctionIndex(2), CodeOffset(5))?, Some(Hint::Likely));
+    /// # Ok::<(), wakemiono::Refusal>(())
+    /// ```
+    ///
+    /// # Errors
+    ///
+    /// As [`metadata`](Self::metadata).
+    pub fn hint(&self, function: FunctionIndex, at: CodeOffset) -> Result<Option<Hint>, Refusal> {
+        ffi::hint_in(self.0, function.0, at.0).hint()
+    }
+
+    fn name(&self, answer: ffi::Answer) -> Result<Option<Name<'a>>, Refusal> {
+        Ok(answer.part(self.0)?.map(Name::from))
+    }
+}
+
+impl fmt::Debug for Module<'_> {
+    fn fmt(&self, f: &mut fmt::Formatter<'_>) -> fmt::Result {
+        write!(f, "Module({} bytes)", self.0.len())
+    }
+}
+
+const PREAMBLE_LENGTH: usize = 8;
+
+/// The sections of an accepted module, in the order of the file.
+///
+/// ```
+/// use wakemiono::Module;
+///
+/// let sections = Module::new(b"\0asm\x01\0\0\0\x01\x01\x00\x03\x01\x00").sections()?;
+/// assert_eq!(sections.len(), 2);
+/// assert_eq!(sections.last().unwrap().offset, 11);
+/// # Ok::<(), wakemiono::Refusal>(())
+/// ```
+#[derive(Clone)]
+pub struct Sections<'a> {
+    /// What the walk has accepted.
+    module: &'a [u8],
+    /// Where the next section starts.
+    next: usize,
+    /// How many sections there still are.
+    left: u64,
+}
+
+impl Iterator for Sections<'_> {
+    type Item = Section;
+
+    fn next(&mut self) -> Option<Section> {
+        self.left = self.left.checked_sub(1)?;
+        let offset = self.next;
+        let (id, behind_id) = self.module.get(offset..)?.split_first()?;
+        let (length, size_bytes) = size(behind_id);
+        self.next = offset + 1 + size_bytes + usize::try_from(length).ok()?;
+        Some(Section {
+            id: *id,
+            offset: u64::try_from(offset).ok()?,
+            length,
+        })
+    }
+
+    fn size_hint(&self) -> (usize, Option<usize>) {
+        let left = usize::try_from(self.left).unwrap_or(usize::MAX);
+        (left, Some(left))
+    }
+}
+
+impl ExactSizeIterator for Sections<'_> {}
+
+impl FusedIterator for Sections<'_> {}
+
+impl fmt::Debug for Sections<'_> {
+    fn fmt(&self, f: &mut fmt::Formatter<'_>) -> fmt::Result {
+        write!(f, "Sections({} left)", self.left)
+    }
+}
+
+/// The size number that starts here in an accepted module, and how many bytes it takes.
+fn size(bytes: &[u8]) -> (u64, usize) {
+    let mut value = 0;
+    let mut taken = 0;
+    for byte in bytes.iter().take(5) {
+        value |= u64::from(byte & 0x7F) << (7 * taken);
+        taken += 1;
+        if byte & 0x80 == 0 {
+            break;
+        }
+    }
+    (value, taken)
+}

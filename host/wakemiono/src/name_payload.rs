@@ -1,0 +1,246 @@
+//! Name payloads: the questions, and the canonical form.
+
+use std::fmt;
+
+use crate::{ffi, FieldIndex, FunctionIndex, LocalIndex, Name, Refusal, TagIndex, TypeIndex};
+
+/// The payload of a `name` section, borrowed from the caller.
+///
+/// Any bytes may be lent, and nothing is checked beforehand: each call judges the whole payload
+/// first, and refuses it where it is damaged anywhere.
+///
+/// ```
+/// use wakemiono::{FunctionIndex, NamePayload};
+///
+/// let bytes = [0x01, 0x07, 0x02, 0x00, 0x01, 0x61, 0x03, 0x01, 0x62];
+/// let payload = NamePayload::new(&bytes);
+/// assert_eq!(payload.function_name(FunctionIndex(3))?.unwrap().as_bytes(), b"b");
+/// assert_eq!(payload.function_name(FunctionIndex(1))?, None);
+/// # Ok::<(), wakemiono::Refusal>(())
+/// ```
+#[derive(Clone, Copy)]
+pub struct NamePayload<'a>(&'a [u8]);
+
+impl<'a> NamePayload<'a> {
+    /// Takes any bytes, and checks nothing.
+    ///
+    /// ```
+    /// use wakemiono::NamePayload;
+    ///
+    /// let empty = NamePayload::new(&[]);
+    /// assert_eq!(empty.module_name(), Ok(None));
+    /// ```
+    #[must_use]
+    pub const fn new(payload: &'a [u8]) -> NamePayload<'a> {
+        NamePayload(payload)
+    }
+
+    /// The bytes that were lent.
+    ///
+    /// ```
+    /// use wakemiono::NamePayload;
+    ///
+    /// assert_eq!(NamePayload::new(&[0x03, 0x01, 0xFF]).as_bytes(), [0x03, 0x01, 0xFF]);
+    /// ```
+    #[must_use]
+    pub const fn as_bytes(&self) -> &'a [u8] {
+        self.0
+    }
+
+    /// Whether the payload is accepted.
+    ///
+    /// ```
+    /// use wakemiono::NamePayload;
+    ///
+    /// assert_eq!(NamePayload::new(&[]).judge(), Ok(()));
+    /// let ids_fall = [0x02, 0x01, 0x00, 0x01, 0x01, 0x00];
+    /// assert_eq!(NamePayload::new(&ids_fall).judge().unwrap_err().number(), 9);
+    /// ```
+    ///
+    /// # Errors
+    ///
+    /// The first fault of the payload, read from left to right.
+    pub fn judge(&self) -> Result<(), Refusal> {
+        ffi::names_judge(self.0).length().map(drop)
+    }
+
+    /// The module's name.
+    ///
+    /// ```
+    /// use wakemiono::NamePayload;
+    ///
+    /// let payload = NamePayload::new(&[0x00, 0x02, 0x01, 0x6D]);
+    /// assert_eq!(payload.module_name()?.unwrap().to_str(), Ok("m"));
+    /// # Ok::<(), wakemiono::Refusal>(())
+    /// ```
+    ///
+    /// # Errors
+    ///
+    /// As [`judge`](Self::judge).
+    pub fn module_name(&self) -> Result<Option<Name<'a>>, Refusal> {
+        self.name(ffi::module_name(self.0))
+    }
+
+    /// A function's name.
+    ///
+    /// ```
+    /// use wakemiono::{FunctionIndex, NamePayload};
+    ///
+    /// let payload = NamePayload::new(&[0x01, 0x04, 0x01, 0x00, 0x01, 0x61]);
+    /// assert_eq!(payload.function_name(FunctionIndex(0))?.unwrap().to_str(), Ok("a"));
+    /// # Ok::<(), wakemiono::Refusal>(())
+    /// ```
+    ///
+    /// # Errors
+    ///
+    /// As [`judge`](Self::judge).
+    pub fn function_name(&self, function: FunctionIndex) -> Result<Option<Name<'a>>, Refusal> {
+        self.name(ffi::function_name(self.0, function.0))
+    }
+
+    /// A type's name.
+    ///
+    /// ```
+    /// use wakemiono::{NamePayload, TypeIndex};
+    ///
+    /// let payload = NamePayload::new(&[0x04, 0x04, 0x01, 0x02, 0x01, 0x74]);
+    /// assert_eq!(payload.type_name(TypeIndex(2))?.unwrap().to_str(), Ok("t"));
+    /// # Ok::<(), wakemiono::Refusal>(())
+    /// ```
+    ///
+    /// # Errors
+    ///
+    /// As [`judge`](Self::judge).
+    pub fn type_name(&self, type_: TypeIndex) -> Result<Option<Name<'a>>, Refusal> {
+        self.name(ffi::type_name(self.0, type_.0))
+    }
+
+    /// A tag's name.
+    ///
+    /// ```
+    /// use wakemiono::{NamePayload, TagIndex};
+    ///
+    /// let payload = NamePayload::new(&[0x0B, 0x04, 0x01, 0x00, 0x01, 0x65]);
+    /// assert_eq!(payload.tag_name(TagIndex(0))?.unwrap().to_str(), Ok("e"));
+    /// # Ok::<(), wakemiono::Refusal>(())
+    /// ```
+    ///
+    /// # Errors
+    ///
+    /// As [`judge`](Self::judge).
+    pub fn tag_name(&self, tag: TagIndex) -> Result<Option<Name<'a>>, Refusal> {
+        self.name(ffi::tag_name(self.0, tag.0))
+    }
+
+    /// The name of a local in a function.
+    ///
+    /// ```
+    /// use wakemiono::{FunctionIndex, LocalIndex, NamePayload};
+    ///
+    /// let payload = NamePayload::new(&[0x02, 0x06, 0x01, 0x03, 0x01, 0x00, 0x01, 0x78]);
+    /// let name = payload.local_name(FunctionIndex(3), LocalIndex(0))?;
+    /// assert_eq!(name.unwrap().to_str(), Ok("x"));
+    /// # Ok::<(), wakemiono::Refusal>(())
+    /// ```
+    ///
+    /// # Errors
+    ///
+    /// As [`judge`](Self::judge).
+    pub fn local_name(
+        &self,
+        function: FunctionIndex,
+        local: LocalIndex,
+    ) -> Result<Option<Name<'a>>, Refusal> {
+        self.name(ffi::local_name(self.0, function.0, local.0))
+    }
+
+    /// The name of a field in a type.
+    ///
+    /// ```
+    /// use wakemiono::{FieldIndex, NamePayload, TypeIndex};
+    ///
+    /// let payload = NamePayload::new(&[0x0A, 0x06, 0x01, 0x02, 0x01, 0x01, 0x01, 0x66]);
+    /// let name = payload.field_name(TypeIndex(2), FieldIndex(1))?;
+    /// assert_eq!(name.unwrap().to_str(), Ok("f"));
+    /// # Ok::<(), wakemiono::Refusal>(())
+    /// ```
+    ///
+    /// # Errors
+    ///
+    /// As [`judge`](Self::judge).
+    pub fn field_name(
+        &self,
+        type_: TypeIndex,
+        field: FieldIndex,
+    ) -> Result<Option<Name<'a>>, Refusal> {
+        self.name(ffi::field_name(self.0, type_.0, field.0))
+    }
+
+    /// The contents of the kept subsection with an id; none for the ids 0, 1, 2, 4, 10 and 11,
+    /// which have questions of their own.
+    ///
+    /// ```
+    /// use wakemiono::NamePayload;
+    ///
+    /// let payload = NamePayload::new(&[0x03, 0x01, 0xFF]);
+    /// assert_eq!(payload.kept(3)?, Some(&[0xFF][..]));
+    /// assert_eq!(payload.kept(5)?, None);
+    /// # Ok::<(), wakemiono::Refusal>(())
+    /// ```
+    ///
+    /// # Errors
+    ///
+    /// As [`judge`](Self::judge).
+    pub fn kept(&self, id: u8) -> Result<Option<&'a [u8]>, Refusal> {
+        ffi::kept(self.0, id).part(self.0)
+    }
+
+    /// Writes the canonical form to the front of an output, and answers its length. The rest of the
+    /// output is unchanged. An output as long as the payload is always enough.
+    ///
+    /// ```
+    /// use wakemiono::NamePayload;
+    ///
+    /// let padded = NamePayload::new(&[0x01, 0x85, 0x00, 0x01, 0x00, 0x81, 0x00, 0x61]);
+    /// let mut out = [0xEE; 8];
+    /// assert_eq!(padded.canonical_into(&mut out), Ok(6));
+    /// assert_eq!(out, [0x01, 0x04, 0x01, 0x00, 0x01, 0x61, 0xEE, 0xEE]);
+    /// ```
+    ///
+    /// # Errors
+    ///
+    /// As [`judge`](Self::judge), and then [`OutputTooShort`](crate::Reason::OutputTooShort) with
+    /// the needed length. A refusal leaves the output as it was.
+    pub fn canonical_into(&self, out: &mut [u8]) -> Result<usize, Refusal> {
+        ffi::names_canonical(self.0, out).written(out.len())
+    }
+
+    /// The canonical form. Those of two payloads are equal exactly when every question gets the
+    /// same answer from both.
+    ///
+    /// ```
+    /// use wakemiono::NamePayload;
+    ///
+    /// let padded = NamePayload::new(&[0x01, 0x85, 0x00, 0x01, 0x00, 0x81, 0x00, 0x61]);
+    /// let shortest = NamePayload::new(&[0x01, 0x04, 0x01, 0x00, 0x01, 0x61]);
+    /// assert_eq!(padded.to_canonical()?, shortest.to_canonical()?);
+    /// # Ok::<(), wakemiono::Refusal>(())
+    /// ```
+    ///
+    /// # Errors
+    ///
+    /// As [`judge`](Self::judge).
+    pub fn to_canonical(&self) -> Result<Vec<u8>, Refusal> {
+        crate::to_vec(self.0.len(), |out| self.canonical_into(out))
+    }
+
+    fn name(&self, answer: ffi::Answer) -> Result<Option<Name<'a>>, Refusal> {
+        Ok(answer.part(self.0)?.map(Name::from))
+    }
+}
+
+impl fmt::Debug for NamePayload<'_> {
+    fn fmt(&self, f: &mut fmt::Formatter<'_>) -> fmt::Result {
+        write!(f, "NamePayload({} bytes)", self.0.len())
+    }
+}

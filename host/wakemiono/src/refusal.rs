@@ -1,0 +1,286 @@
+//! Why a call refused what it was lent, and where the fault lies.
+
+use std::error::Error;
+use std::fmt;
+
+/// Why something was refused: one case for each refusal number of the format's rules.
+///
+/// Later versions may add reasons; the numbers of these stay as they are, so they may be stored.
+///
+/// ```
+/// use wakemiono::{NamePayload, Reason};
+///
+/// let refusal = NamePayload::new(&[0x01, 0x02, 0x00, 0x00]).judge().unwrap_err();
+/// assert_eq!(refusal.reason(), Reason::LeftOver);
+/// ```
+#[derive(Clone, Copy, Debug, PartialEq, Eq, Hash)]
+#[non_exhaustive]
+#[repr(u32)]
+pub enum Reason {
+    /// 1: the module's preamble is missing or different.
+    Preamble = 1,
+    /// 2: a number, name or sized part runs past the part that encloses it. The offset is that of
+    /// the number, for a name or sized part that of its length.
+    RunsPast = 2,
+    /// 3: the fifth byte of a number is above 0x0F. The offset is that of the number.
+    NumberTooLarge = 3,
+    /// 4: text is not UTF-8. The offset is that of the text; from lists, where the name starts in
+    /// the joined text.
+    NotText = 4,
+    /// 5: a section id is above 12. The offset is that of the id.
+    SectionId = 5,
+    /// 6: a section is repeated or out of order. The offset is that of its id.
+    SectionOrder = 6,
+    /// 7: a second section `name` or `metadata.code.branch_hint`. The offset is that of its id.
+    SecondSection = 7,
+    /// 8: a data section after `name`, or branch hints after code. The offset is that of the later
+    /// section's id.
+    SectionTooLate = 8,
+    /// 9: a subsection's id is not above the one before. The offset is that of the id.
+    SubsectionOrder = 9,
+    /// 10: bytes are left over in a subsection or a metadata payload. The offset is that of the
+    /// first of them.
+    LeftOver = 10,
+    /// 11: an index or code offset is not above the one before. The offset is that of the number;
+    /// from lists, its position in the list.
+    NotRising = 11,
+    /// 12: a branch hint has a size other than 1, or data above 1. The offset is that of the size.
+    NotAHint = 12,
+    /// 13: the output is shorter than needed. In place of an offset stands the needed length.
+    OutputTooShort = 13,
+    /// 14: the lists disagree: their counts differ, or the lengths do not add up to the text.
+    ListsDisagree = 14,
+    /// 15: a subsection would exceed 4,294,967,295 bytes.
+    SubsectionTooLong = 15,
+}
+
+impl Reason {
+    /// Every reason, in the order of their numbers.
+    ///
+    /// ```
+    /// use wakemiono::Reason;
+    ///
+    /// assert!(Reason::ALL.iter().zip(1..).all(|(reason, number)| reason.number() == number));
+    /// ```
+    pub const ALL: [Reason; 15] = [
+        Reason::Preamble,
+        Reason::RunsPast,
+        Reason::NumberTooLarge,
+        Reason::NotText,
+        Reason::SectionId,
+        Reason::SectionOrder,
+        Reason::SecondSection,
+        Reason::SectionTooLate,
+        Reason::SubsectionOrder,
+        Reason::LeftOver,
+        Reason::NotRising,
+        Reason::NotAHint,
+        Reason::OutputTooShort,
+        Reason::ListsDisagree,
+        Reason::SubsectionTooLong,
+    ];
+
+    /// The refusal number.
+    ///
+    /// ```
+    /// use wakemiono::Reason;
+    ///
+    /// assert_eq!(Reason::NotText.number(), 4);
+    /// ```
+    #[must_use]
+    pub const fn number(self) -> u32 {
+        self as u32
+    }
+
+    /// The reason with a refusal number, or none where there is no such number.
+    ///
+    /// ```
+    /// use wakemiono::Reason;
+    ///
+    /// assert_eq!(Reason::from_number(13), Some(Reason::OutputTooShort));
+    /// assert_eq!(Reason::from_number(0), None);
+    /// ```
+    #[must_use]
+    pub fn from_number(number: u32) -> Option<Reason> {
+        Reason::ALL
+            .into_iter()
+            .find(|reason| reason.number() == number)
+    }
+}
+
+/// What is wrong, without the place.
+///
+/// ```
+/// use wakemiono::Reason;
+///
+/// assert_eq!(Reason::NotText.to_string(), "text is not UTF-8");
+/// ```
+impl fmt::Display for Reason {
+    fn fmt(&self, f: &mut fmt::Formatter<'_>) -> fmt::Result {
+        f.write_str(match self {
+            Reason::Preamble => "the preamble 00 61 73 6D 01 00 00 00 is missing or different",
+            Reason::RunsPast => "a number, name or sized part runs past the part that encloses it",
+            Reason::NumberTooLarge => "the fifth byte of a number is above 0x0F",
+            Reason::NotText => "text is not UTF-8",
+            Reason::SectionId => "a section id is above 12",
+            Reason::SectionOrder => "a section is repeated or out of order",
+            Reason::SecondSection => {
+                "a section `name` or `metadata.code.branch_hint` is the second"
+            }
+            Reason::SectionTooLate => "a data section follows `name`, or branch hints follow code",
+            Reason::SubsectionOrder => "a subsection id is not above the one before",
+            Reason::LeftOver => "bytes are left over in a subsection or a metadata payload",
+            Reason::NotRising => "an index or code offset is not above the one before",
+            Reason::NotAHint => "a branch hint has a size other than 1, or data above 1",
+            Reason::OutputTooShort => "the output is shorter than needed",
+            Reason::ListsDisagree => {
+                "the lists disagree: their counts differ, or the lengths do not add up to the text"
+            }
+            Reason::SubsectionTooLong => "a subsection would exceed 4,294,967,295 bytes",
+        })
+    }
+}
+
+/// What the offset of a refusal counts.
+#[derive(Clone, Copy, PartialEq, Eq, Hash)]
+enum Lent {
+    Bytes,
+    Lists,
+}
+
+/// A refusal: what is wrong with what was lent, and where. Nothing that was lent has changed.
+///
+/// Offsets count from the start of what was lent: of the payload, or of the module where the
+/// question was put to a [`Module`](crate::Module).
+///
+/// ```
+/// use wakemiono::NamePayload;
+///
+/// let refusal = NamePayload::new(&[0x00, 0x03, 0x02, 0x61, 0xFF]).judge().unwrap_err();
+/// assert_eq!((refusal.number(), refusal.offset()), (4, 3));
+/// assert_eq!(refusal.to_string(), "text is not UTF-8: it starts at byte 0x3 (3)");
+/// ```
+#[derive(Clone, Copy, PartialEq, Eq, Hash)]
+pub struct Refusal {
+    reason: Reason,
+    offset: u64,
+    lent: Lent,
+}
+
+impl Refusal {
+    pub(crate) const fn in_bytes(reason: Reason, offset: u64) -> Refusal {
+        Refusal {
+            reason,
+            offset,
+            lent: Lent::Bytes,
+        }
+    }
+
+    pub(crate) const fn in_lists(reason: Reason, offset: u64) -> Refusal {
+        Refusal {
+            reason,
+            offset,
+            lent: Lent::Lists,
+        }
+    }
+
+    /// The refusal number, which is fixed for each reason.
+    ///
+    /// ```
+    /// use wakemiono::Module;
+    ///
+    /// assert_eq!(Module::new(b"no module").section_count().unwrap_err().number(), 1);
+    /// ```
+    #[must_use]
+    pub const fn number(&self) -> u32 {
+        self.reason.number()
+    }
+
+    /// The offset of the fault; each [`Reason`] says which offset it is.
+    ///
+    /// ```
+    /// use wakemiono::Metadata;
+    ///
+    /// let count_too_large = [0xFF, 0xFF, 0xFF, 0xFF, 0x0F, 0x00];
+    /// assert_eq!(Metadata::new(&count_too_large).judge().unwrap_err().offset(), 6);
+    /// ```
+    #[must_use]
+    pub const fn offset(&self) -> u64 {
+        self.offset
+    }
+
+    /// The reason.
+    ///
+    /// ```
+    /// use wakemiono::{Module, Reason};
+    ///
+    /// assert_eq!(Module::new(&[]).section_count().unwrap_err().reason(), Reason::Preamble);
+    /// ```
+    #[must_use]
+    pub const fn reason(&self) -> Reason {
+        self.reason
+    }
+}
+
+/// As a person reads it in a failed test: number, reason and offset.
+///
+/// ```
+/// use wakemiono::Module;
+///
+/// let refusal = Module::new(&[]).section_count().unwrap_err();
+/// assert_eq!(format!("{refusal:?}"), "Refusal { number: 1, reason: Preamble, offset: 0 }");
+/// ```
+impl fmt::Debug for Refusal {
+    fn fmt(&self, f: &mut fmt::Formatter<'_>) -> fmt::Result {
+        f.debug_struct("Refusal")
+            .field("number", &self.number())
+            .field("reason", &self.reason)
+            .field("offset", &self.offset)
+            .finish()
+    }
+}
+
+/// A sentence that says what is wrong and where.
+///
+/// ```
+/// use wakemiono::Hints;
+///
+/// let refusal = Hints::new(&[0x01, 0x02, 0x01, 0x05, 0x01, 0x02]).judge().unwrap_err();
+/// assert_eq!(
+///     refusal.to_string(),
+///     "a branch hint has a size other than 1, or data above 1: its size stands at byte 0x4 (4)"
+/// );
+/// ```
+impl fmt::Display for Refusal {
+    fn fmt(&self, f: &mut fmt::Formatter<'_>) -> fmt::Result {
+        let at = self.offset;
+        let place = match (self.reason, self.lent) {
+            (Reason::ListsDisagree | Reason::SubsectionTooLong, _) => {
+                return write!(f, "{}", self.reason);
+            }
+            (Reason::OutputTooShort, _) => {
+                return write!(f, "{}: the needed length is {at}", self.reason);
+            }
+            (Reason::NotRising, Lent::Lists) => {
+                return write!(
+                    f,
+                    "{}: its position in the list is {at}, counted from 0",
+                    self.reason
+                );
+            }
+            (Reason::NotText, Lent::Lists) => "in the joined text the name starts at",
+            (Reason::Preamble, _) => "it belongs at",
+            (Reason::RunsPast, _) => "the number, or the length of the part, starts at",
+            (Reason::NumberTooLarge, _) => "the number starts at",
+            (Reason::NotText | Reason::NotRising, _) => "it starts at",
+            (Reason::SectionId | Reason::SubsectionOrder, _) => "it stands at",
+            (Reason::SectionOrder | Reason::SecondSection, _) => "its id stands at",
+            (Reason::SectionTooLate, _) => "the id of the later section stands at",
+            (Reason::LeftOver, _) => "the first of them stands at",
+            (Reason::NotAHint, _) => "its size stands at",
+        };
+        write!(f, "{}: {place} byte {at:#X} ({at})", self.reason)
+    }
+}
+
+impl Error for Refusal {}

@@ -1,0 +1,99 @@
+//! The declarations that this crate calls by are those of the C header, compared text with text: no
+//! compiler sees both.
+
+const HEADER: &str = include_str!("../../../include/wakemiono.h");
+const DECLARED: &str = include_str!("../src/ffi.rs");
+
+/// What stands between two marks, the first time that the opening one occurs.
+fn between<'a>(text: &'a str, opening: &str, closing: &str) -> &'a str {
+    let (_, behind) = text.split_once(opening).expect(opening);
+    behind.split_once(closing).expect(closing).0
+}
+
+fn without_comments(text: &str) -> String {
+    let mut parts = text.split("/*");
+    let first = parts.next().unwrap_or_default();
+    let others = parts.map(|part| part.split_once("*/").expect("a comment ends").1);
+    [first].into_iter().chain(others).collect()
+}
+
+/// A parameter of the header as Rust declares it.
+fn parameter(c: &str) -> String {
+    let at = c.rfind([' ', '*']).expect("a type and a name") + 1;
+    let type_ = match c[..at].trim() {
+        "const uint8_t *" => "*const u8",
+        "const uint32_t *" => "*const u32",
+        "uint8_t *" => "*mut u8",
+        "size_t" => "usize",
+        "uint8_t" => "u8",
+        "uint32_t" => "u32",
+        "uint64_t" => "u64",
+        other => panic!("the header has a type that is not known here: {other}"),
+    };
+    let name = match &c[at..] {
+        "type" => "type_",
+        name => name,
+    };
+    format!("{name}: {type_}")
+}
+
+fn in_header() -> Vec<String> {
+    let text = without_comments(HEADER);
+    let calls = text.split("wm_answer wm_").skip(1);
+    calls
+        .map(|call| {
+            let (name, behind) = call.split_once('(').expect("a call has parameters");
+            let parameters = behind.split_once(')').expect("they end").0.split(',');
+            let parameters: Vec<String> = parameters.map(|c| parameter(c.trim())).collect();
+            format!("fn wm_{name}({}) -> Answer", parameters.join(", "))
+        })
+        .collect()
+}
+
+fn in_crate() -> Vec<String> {
+    let declared = between(DECLARED, "extern \"C\" {", "\n}");
+    let words = |call: &str| call.split_whitespace().collect::<Vec<&str>>().join(" ");
+    let calls = declared
+        .split(';')
+        .map(words)
+        .filter(|call| !call.is_empty());
+    calls
+        .map(|call| call.replace("( ", "(").replace(", )", ")"))
+        .collect()
+}
+
+#[test]
+fn every_call_is_declared_as_the_header_has_it() {
+    assert_eq!(in_crate(), in_header());
+    assert_eq!(in_crate().len(), 28);
+}
+
+#[test]
+fn the_answer_is_declared_as_the_header_has_it() {
+    let c = between(HEADER, "typedef struct {", "} wm_answer;");
+    let fields = c
+        .split(';')
+        .map(str::trim)
+        .filter(|field| !field.is_empty());
+    let fields: Vec<String> = fields.map(parameter).collect();
+    let declared = between(DECLARED, "struct Answer {", "}").replace("pub(crate) ", "");
+    let declared: Vec<&str> = declared.split_terminator(',').map(str::trim).collect();
+    assert_eq!(declared[..fields.len()], fields);
+    assert_eq!(declared[fields.len()..].concat(), "");
+}
+
+#[test]
+fn the_kinds_are_numbered_as_the_header_has_it() {
+    let kinds = between(HEADER, "enum {", "}").split(',');
+    let kinds: Vec<String> = kinds
+        .map(|kind| {
+            let (name, number) = kind.split_once(" = ").expect("a kind has a number");
+            let name = name.trim().trim_start_matches("WM_");
+            format!("pub(crate) const {name}: u32 = {};", number.trim())
+        })
+        .collect();
+    let declared = DECLARED
+        .lines()
+        .filter(|line| line.starts_with("pub(crate) const "));
+    assert_eq!(declared.collect::<Vec<&str>>(), kinds);
+}

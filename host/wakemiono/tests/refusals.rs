@@ -1,0 +1,158 @@
+//! Every refusal as a sentence, each from a call that gives it.
+
+mod common;
+
+use std::error::Error;
+
+use common::{custom, module, section, HINTS_NAME};
+use wakemiono::{
+    function_names, function_names_into, FunctionIndex, Hints, Metadata, Module, NamePayload,
+    Reason, Refusal,
+};
+
+#[track_caller]
+fn says(answer: Result<impl std::fmt::Debug, Refusal>, reason: Reason, sentence: &str) {
+    let refusal = answer.expect_err("this is refused");
+    assert_eq!(refusal.reason(), reason);
+    assert_eq!(refusal.number(), reason.number());
+    assert_eq!(refusal.to_string(), sentence);
+}
+
+#[test]
+fn of_modules() {
+    let count = |bytes: &[u8]| Module::new(bytes).section_count();
+    says(
+        count(b"\0asm\x02\0\0\0"),
+        Reason::Preamble,
+        "the preamble 00 61 73 6D 01 00 00 00 is missing or different: it belongs at byte 0x0 (0)",
+    );
+    says(
+        count(&module(&[vec![13, 0]])),
+        Reason::SectionId,
+        "a section id is above 12: it stands at byte 0x8 (8)",
+    );
+    says(
+        count(&module(&[section(3, &[0]), section(1, &[0])])),
+        Reason::SectionOrder,
+        "a section is repeated or out of order: its id stands at byte 0xB (11)",
+    );
+    says(
+        count(&module(&[custom("name", &[]), custom("name", &[])])),
+        Reason::SecondSection,
+        "a section `name` or `metadata.code.branch_hint` is the second: its id stands at byte 0xF \
+         (15)",
+    );
+    says(
+        count(&module(&[section(10, &[0]), custom(HINTS_NAME, &[0])])),
+        Reason::SectionTooLate,
+        "a data section follows `name`, or branch hints follow code: the id of the later section \
+         stands at byte 0xB (11)",
+    );
+}
+
+#[test]
+fn of_payloads() {
+    let names = |bytes: &'static [u8]| NamePayload::new(bytes).judge();
+    says(
+        names(&[0x01, 0x00]),
+        Reason::RunsPast,
+        "a number, name or sized part runs past the part that encloses it: the number, or the \
+         length of the part, starts at byte 0x2 (2)",
+    );
+    says(
+        Metadata::new(&[0xFF, 0xFF, 0xFF, 0xFF, 0x1F]).judge(),
+        Reason::NumberTooLarge,
+        "the fifth byte of a number is above 0x0F: the number starts at byte 0x0 (0)",
+    );
+    says(
+        names(&[0x02, 0x01, 0x00, 0x01, 0x01, 0x00]),
+        Reason::SubsectionOrder,
+        "a subsection id is not above the one before: it stands at byte 0x3 (3)",
+    );
+    says(
+        names(&[0x01, 0x02, 0x00, 0x00]),
+        Reason::LeftOver,
+        "bytes are left over in a subsection or a metadata payload: the first of them stands at \
+         byte 0x3 (3)",
+    );
+    says(
+        names(&[0x01, 0x07, 0x02, 0x03, 0x01, 0x62, 0x03, 0x01, 0x61]),
+        Reason::NotRising,
+        "an index or code offset is not above the one before: it starts at byte 0x6 (6)",
+    );
+    says(
+        Hints::new(&[0x01, 0x02, 0x01, 0x05, 0x01, 0x02]).judge(),
+        Reason::NotAHint,
+        "a branch hint has a size other than 1, or data above 1: its size stands at byte 0x4 (4)",
+    );
+}
+
+#[test]
+fn of_text_with_a_large_offset() {
+    let payload = [
+        &[0x03, 0x14],
+        [0; 20].as_slice(),
+        &[0x04, 0x04, 0x01, 0x00, 0x01, 0xFF],
+    ]
+    .concat();
+    let refusal = NamePayload::new(&payload).judge().unwrap_err();
+    assert_eq!(
+        refusal.to_string(),
+        "text is not UTF-8: it starts at byte 0x1B (27)"
+    );
+}
+
+#[test]
+fn of_outputs() {
+    says(
+        Metadata::new(&[0x00]).canonical_into(&mut []),
+        Reason::OutputTooShort,
+        "the output is shorter than needed: the needed length is 1",
+    );
+}
+
+#[test]
+fn of_lists() {
+    says(
+        function_names_into(&[0], &[], b"", &mut []),
+        Reason::ListsDisagree,
+        "the lists disagree: their counts differ, or the lengths do not add up to the text",
+    );
+    says(
+        function_names([(FunctionIndex(1), "a"), (FunctionIndex(1), "b")]),
+        Reason::NotRising,
+        "an index or code offset is not above the one before: its position in the list is 1, \
+         counted from 0",
+    );
+    says(
+        function_names([(FunctionIndex(0), &b"abc"[..]), (FunctionIndex(1), b"\xFF")]),
+        Reason::NotText,
+        "text is not UTF-8: in the joined text the name starts at byte 0x3 (3)",
+    );
+}
+
+#[test]
+fn as_errors() {
+    fn judged(bytes: &[u8]) -> Result<(), Box<dyn Error + Send + Sync>> {
+        NamePayload::new(bytes).judge()?;
+        Ok(())
+    }
+    let error = judged(&[0x01, 0x02, 0x00, 0x00]).unwrap_err();
+    let refusal = error
+        .downcast_ref::<Refusal>()
+        .expect("the error is a refusal");
+    assert_eq!((refusal.number(), refusal.offset()), (10, 3));
+    assert!(error.source().is_none());
+}
+
+#[test]
+fn their_numbers_are_1_to_15() {
+    let numbers: Vec<u32> = Reason::ALL.iter().map(|reason| reason.number()).collect();
+    assert_eq!(numbers, (1..=15).collect::<Vec<u32>>());
+    for reason in Reason::ALL {
+        assert_eq!(Reason::from_number(reason.number()), Some(reason));
+    }
+    for none in [0, 16, u32::MAX] {
+        assert_eq!(Reason::from_number(none), None);
+    }
+}
