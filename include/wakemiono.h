@@ -74,12 +74,19 @@ wm_answer wm_kept(const uint8_t *payload, size_t payload_len, uint8_t id);
 
 /* The same questions through a module: judged after the walk, offsets from the module's start, NONE without the section. */
 
+/* The module's name. */
 wm_answer wm_module_name_in(const uint8_t *module, size_t module_len);
+/* A function's name. */
 wm_answer wm_function_name_in(const uint8_t *module, size_t module_len, uint32_t function);
+/* A type's name. */
 wm_answer wm_type_name_in(const uint8_t *module, size_t module_len, uint32_t type);
+/* A tag's name. */
 wm_answer wm_tag_name_in(const uint8_t *module, size_t module_len, uint32_t tag);
+/* The name of a local in a function. */
 wm_answer wm_local_name_in(const uint8_t *module, size_t module_len, uint32_t function, uint32_t local);
+/* The name of a field in a type. */
 wm_answer wm_field_name_in(const uint8_t *module, size_t module_len, uint32_t type, uint32_t field);
+/* The contents of the kept subsection with an id. */
 wm_answer wm_kept_in(const uint8_t *module, size_t module_len, uint8_t id);
 
 /* Code metadata. wm_metadata_*: any format, data of any size. wm_hint*: format branch_hint, read fully (refusal 12). */
