@@ -1,0 +1,247 @@
+//! What the command line asks for.
+
+mod asked;
+
+use std::ffi::{OsStr, OsString};
+
+use crate::escape;
+use crate::input::STANDARD_STREAM;
+use crate::options::{Given, Takes};
+use crate::question::{Kind, Question};
+
+/// What the program is to do.
+#[derive(Debug, PartialEq, Eq)]
+pub enum Invocation {
+    /// To explain itself, or one command.
+    Help(Option<Topic>),
+    /// To say its version.
+    Version,
+    /// To run a command.
+    Run {
+        /// The command.
+        command: Command,
+        /// Whether the answer is to be JSON.
+        json: bool,
+    },
+}
+
+/// A command with all that it needs.
+#[derive(Debug, PartialEq, Eq)]
+pub enum Command {
+    /// The sections of a module.
+    List(OsString),
+    /// All names of a module, or those of one kind.
+    Names(OsString, Option<Kind>),
+    /// One name.
+    Name(OsString, Question),
+    /// All branch hints of a module.
+    Hints(OsString),
+    /// The canonical name payload, written to a file where one is given.
+    Canon(OsString, Option<OsString>),
+    /// Whether two modules have the same names.
+    Same(OsString, OsString),
+    /// Whether a module and its payloads are accepted.
+    Judge(OsString),
+}
+
+/// A command's word, without what follows it.
+#[derive(Clone, Copy, Debug, PartialEq, Eq)]
+pub enum Topic {
+    /// `list`
+    List,
+    /// `names`
+    Names,
+    /// `name`
+    Name,
+    /// `hints`
+    Hints,
+    /// `canon`
+    Canon,
+    /// `same`
+    Same,
+    /// `judge`
+    Judge,
+}
+
+impl Topic {
+    /// Every command, in the order in which they are explained.
+    pub const ALL: [Topic; 7] = [
+        Topic::List,
+        Topic::Names,
+        Topic::Name,
+        Topic::Hints,
+        Topic::Canon,
+        Topic::Same,
+        Topic::Judge,
+    ];
+
+    /// The word on the command line.
+    pub const fn word(self) -> &'static str {
+        match self {
+            Topic::List => "list",
+            Topic::Names => "names",
+            Topic::Name => "name",
+            Topic::Hints => "hints",
+            Topic::Canon => "canon",
+            Topic::Same => "same",
+            Topic::Judge => "judge",
+        }
+    }
+
+    fn takes(self) -> Takes {
+        let (flags, valued): (&[_], &[_]) = match self {
+            Topic::Names => (&["--json"], &["--kind"]),
+            Topic::Name => (
+                &["--json", "--module"],
+                &[
+                    "--function",
+                    "--local",
+                    "--type",
+                    "--field",
+                    "--tag",
+                    "--kept",
+                ],
+            ),
+            Topic::Canon => (&["--json"], &["-o"]),
+            Topic::List | Topic::Hints | Topic::Same | Topic::Judge => (&["--json"], &[]),
+        };
+        Takes { flags, valued }
+    }
+}
+
+/// Reads the command line. The error is a sentence that says what is wrong and what to do.
+pub fn parse(words: impl IntoIterator<Item = OsString>) -> Result<Invocation, String> {
+    let words: Vec<OsString> = words.into_iter().collect();
+    let Some((first, rest)) = words.split_first() else {
+        return Err(no_command("no command is given"));
+    };
+    if is_help(first) {
+        return Ok(Invocation::Help(None));
+    }
+    if first == "--version" || first == "-V" {
+        return Ok(Invocation::Version);
+    }
+    let topic = topic(first)?;
+    if rest.iter().take_while(|word| *word != "--").any(is_help) {
+        return Ok(Invocation::Help(Some(topic)));
+    }
+    run(topic, rest).map_err(|wrong| {
+        let word = topic.word();
+        format!("{wrong}; see `wakemiono {word} --help`.")
+    })
+}
+
+fn is_help(word: &OsString) -> bool {
+    word == "--help" || word == "-h"
+}
+
+fn topic(word: &OsStr) -> Result<Topic, String> {
+    let found = Topic::ALL.into_iter().find(|topic| word == topic.word());
+    found.ok_or_else(|| {
+        let word = escape::word(word);
+        if word.starts_with('-') {
+            no_command(&format!("the command comes before the option {word}"))
+        } else {
+            no_command(&format!("there is no command {word}"))
+        }
+    })
+}
+
+fn no_command(wrong: &str) -> String {
+    let words: Vec<_> = Topic::ALL.into_iter().map(Topic::word).collect();
+    format!(
+        "{wrong}: give one of {}; see `wakemiono --help`.",
+        words.join(", ")
+    )
+}
+
+fn run(topic: Topic, words: &[OsString]) -> Result<Invocation, String> {
+    let given = Given::sorted(words, topic.takes())?;
+    let json = given.has("--json");
+    let command = match topic {
+        Topic::List => Command::List(one_file(&given)?),
+        Topic::Names => Command::Names(one_file(&given)?, kind(&given)?),
+        Topic::Name => Command::Name(one_file(&given)?, asked::question(&given)?),
+        Topic::Hints => Command::Hints(one_file(&given)?),
+        Topic::Canon => Command::Canon(one_file(&given)?, output(&given)?),
+        Topic::Same => two_files(&given)?,
+        Topic::Judge => Command::Judge(one_file(&given)?),
+    };
+    Ok(Invocation::Run { command, json })
+}
+
+fn one_file(given: &Given) -> Result<OsString, String> {
+    match given.files.as_slice() {
+        [file] => Ok(file.clone()),
+        [] => Err("no file is given: name one, or give - for standard input".to_owned()),
+        [_, second, ..] => Err(format!(
+            "one file is asked at a time, and {} is a second one: leave it out",
+            escape::word(second)
+        )),
+    }
+}
+
+fn two_files(given: &Given) -> Result<Command, String> {
+    match given.files.as_slice() {
+        [a, b] if a == STANDARD_STREAM && b == STANDARD_STREAM => {
+            Err("standard input can be read only once: give a file for one of the two".to_owned())
+        }
+        [a, b] => Ok(Command::Same(a.clone(), b.clone())),
+        files => Err(format!(
+            "two files are compared, and {} given: name two",
+            match files.len() {
+                0 => "none is".to_owned(),
+                1 => "one is".to_owned(),
+                many => format!("{many} are"),
+            }
+        )),
+    }
+}
+
+fn kind(given: &Given) -> Result<Option<Kind>, String> {
+    let Some(word) = given.value("--kind") else {
+        return Ok(None);
+    };
+    let found = Kind::ALL.into_iter().find(|kind| word == kind.word());
+    found.map(Some).ok_or_else(|| {
+        let words: Vec<_> = Kind::ALL.into_iter().map(Kind::word).collect();
+        format!(
+            "there is no kind {}: give one of {}",
+            escape::word(word),
+            words.join(", ")
+        )
+    })
+}
+
+fn output(given: &Given) -> Result<Option<OsString>, String> {
+    let out = given.value("-o");
+    if out == Some(OsStr::new(STANDARD_STREAM)) && given.has("--json") {
+        return Err(
+            "the payload and JSON cannot both go to standard output: leave out --json, \
+             or give a file behind -o"
+                .to_owned(),
+        );
+    }
+    Ok(out.map(OsStr::to_owned))
+}
+
+#[cfg(test)]
+mod tests {
+    use super::*;
+
+    fn parsed(line: &str) -> Result<Invocation, String> {
+        parse(line.split_whitespace().map(OsString::from))
+    }
+
+    #[test]
+    fn help_is_given_wherever_it_is_asked() {
+        assert_eq!(parsed("--help"), Ok(Invocation::Help(None)));
+        let of_names = Ok(Invocation::Help(Some(Topic::Names)));
+        assert_eq!(parsed("names --help"), of_names);
+        assert_eq!(parsed("names --nonsense f -h"), of_names);
+        assert!(matches!(
+            parsed("names -- --help"),
+            Ok(Invocation::Run { .. })
+        ));
+    }
+}

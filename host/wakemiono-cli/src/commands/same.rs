@@ -1,0 +1,91 @@
+//! `same`: whether two modules have the same names.
+
+use crate::canonical::{self, Entry};
+use crate::input::Input;
+use crate::json::Json;
+use crate::payloads;
+use crate::question::{self, Answer, Question};
+use crate::report::{Failure, Report, Status};
+
+/// Compares the names of two modules.
+pub fn run(a: &Input, b: &Input, json: bool) -> Result<Report, Failure> {
+    let (in_a, in_b) = (canonical_of(a)?, canonical_of(b)?);
+    let difference = if in_a == in_b {
+        None
+    } else {
+        let question = first_that_differs(&in_a, &in_b).ok_or(Failure::Misfit)?;
+        Some(Difference::asked(question, a, b)?)
+    };
+    let status = Status::good_if(difference.is_none());
+    Ok(if json {
+        Report::json(status, &document(a, b, difference.as_ref()))
+    } else {
+        Report::ending(status, lines(a, b, difference.as_ref()))
+    })
+}
+
+fn canonical_of(input: &Input) -> Result<Vec<u8>, Failure> {
+    payloads::canonical_names(input.accepted(payloads::names(input.module()))?)
+}
+
+/// A question that tells two modules apart, and both answers.
+struct Difference<'a> {
+    question: Question,
+    of_a: Option<Answer<'a>>,
+    of_b: Option<Answer<'a>>,
+}
+
+impl<'a> Difference<'a> {
+    /// The answers as the library gives them.
+    fn asked(question: Question, a: &'a Input, b: &'a Input) -> Result<Difference<'a>, Failure> {
+        let ask = |input: &'a Input| input.accepted(question.ask(input.module()));
+        let (of_a, of_b) = (ask(a)?, ask(b)?);
+        if of_a.map(|found| found.bytes()) == of_b.map(|found| found.bytes()) {
+            return Err(Failure::Misfit);
+        }
+        Ok(Difference {
+            question,
+            of_a,
+            of_b,
+        })
+    }
+}
+
+/// The first question, in the order of payloads, to which two canonical payloads give different
+/// answers.
+fn first_that_differs(a: &[u8], b: &[u8]) -> Option<Question> {
+    let (a, b) = (canonical::name_entries(a)?, canonical::name_entries(b)?);
+    let alike = a.iter().zip(&b).take_while(|(a, b)| a == b).count();
+    // Both lists rise, so that of two questions here the lower one is nowhere in the other list.
+    let question = |entry: &Entry<'_>| entry.question;
+    let here = [a.get(alike).map(question), b.get(alike).map(question)];
+    here.into_iter().flatten().min_by_key(Question::order)
+}
+
+fn lines(a: &Input, b: &Input, difference: Option<&Difference<'_>>) -> String {
+    let Some(difference) = difference else {
+        return "same\n".to_owned();
+    };
+    format!(
+        "not the same\n{}\n{}: {}\n{}: {}\n",
+        difference.question,
+        a.label(),
+        question::shown(difference.of_a),
+        b.label(),
+        question::shown(difference.of_b)
+    )
+}
+
+fn document(a: &Input, b: &Input, difference: Option<&Difference<'_>>) -> Json {
+    let files = [a.file(), b.file()];
+    let mut members = vec![
+        ("files", files.into_iter().collect()),
+        ("same", Json::Bool(difference.is_none())),
+    ];
+    if let Some(difference) = difference {
+        let answers = [difference.of_a, difference.of_b].map(question::json);
+        members.push(("question", Json::Object(difference.question.members())));
+        members.push(("answers", answers.into_iter().collect()));
+    }
+    Json::Object(members)
+}

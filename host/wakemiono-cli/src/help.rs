@@ -1,0 +1,156 @@
+//! What the program says of itself.
+
+use crate::arguments::Topic;
+
+const OVERALL: &str = "\
+wakemiono asks the metadata of a WebAssembly module: its sections, names and branch hints.
+
+Usage: wakemiono COMMAND FILE [OPTIONS]
+
+  list FILE     the sections, and where names and branch hints lie
+  names FILE    all names
+  name FILE     one name
+  hints FILE    all branch hints
+  canon FILE    the canonical form of the name payload
+  same A B      whether two modules have the same names
+  judge FILE    whether the module, its names and its hints are accepted
+
+FILE may be - for standard input. Each command takes --json, for one JSON value on one line.
+`wakemiono COMMAND --help` says more of one command; --version says the version.
+
+The exit status is 0 where there is an answer, even none; 1 for a refusal, or where two modules
+are not the same; 2 where the program cannot do what it is asked.
+
+Example: wakemiono list app.wasm
+";
+
+const LIST: &str = "\
+Lists the sections of a module in the order of the file.
+
+Usage: wakemiono list FILE [--json]
+
+The first line is `sections N`. A line `ID OFFSET LENGTH` follows for each section, with the offset
+of its id byte and the length of its contents; then `name OFFSET LENGTH` and `hints OFFSET LENGTH`
+say where the payloads lie, or `name none` and `hints none`. The payloads are not judged here. For
+a module that is refused the line is `refused NUMBER OFFSET`; the words are on standard error.
+
+Example: wakemiono list app.wasm
+  sections 1
+  0 8 26
+  name 15 21
+  hints none
+";
+
+const NAMES: &str = "\
+Lists all names of a module.
+
+Usage: wakemiono names FILE [--kind KIND] [--json]
+
+Each line is `KIND INDICES OFFSET NAME`, in the order of the name section: no index for module; one
+for function, type, tag and kept; two for local (its function first) and field (its type first).
+The offset counts from the start of the module. What is not printable in a name is escaped.
+
+Each name is one question to the whole module, so that tens of thousands of names take minutes:
+--kind asks for fewer, and `wakemiono name` for one.
+
+  --kind KIND   only the names of a kind: module, function, type, tag, local, field or kept
+
+Example: wakemiono names app.wasm --kind local
+  local 3 0 35 x
+";
+
+const NAME: &str = "\
+Prints one name of a module, or none.
+
+Usage: wakemiono name FILE QUESTION [--json]
+
+  --module                  the module's name
+  --function N              the name of function N
+  --function N --local M    the name of local M in function N
+  --type N                  the name of type N
+  --type N --field M        the name of field M in type N
+  --tag N                   the name of tag N
+  --kept ID                 the contents of the kept subsection ID of the name section
+
+Numbers are decimal, or hexadecimal behind 0x. What is not printable in a name is escaped; a name
+that is itself none is shown as \\u{6e}one, so that `none` always means that there is no name. With
+--json no name is null.
+
+Example: wakemiono name app.wasm --function 3 --local 0
+  x
+";
+
+const HINTS: &str = "\
+Lists all branch hints of a module.
+
+Usage: wakemiono hints FILE [--json]
+
+Each line is `FUNCTION OFFSET HINT`, where the offset is the branch's place in the function's code
+and the hint is likely or unlikely.
+
+Example: wakemiono hints app.wasm
+  2 5 likely
+";
+
+const CANON: &str = "\
+Rewrites the name payload of a module in its canonical form: the same names in the fewest bytes.
+
+Usage: wakemiono canon FILE [-o OUT] [--json]
+
+Without -o it prints how many bytes the payload has before and after, and what that saves. A module
+without a name section has an empty canonical payload.
+
+  -o OUT   write the canonical payload to the file OUT, over what is there; - is standard output
+
+Example: wakemiono canon app.wasm
+  before 23
+  after 21
+  saves 2 (8.6 %)
+";
+
+const SAME: &str = "\
+Says whether the name payloads of two modules would share one entry: whether every question about
+names gets the same answer from both, which is whether their canonical payloads are equal.
+
+Usage: wakemiono same A B [--json]
+
+Where they are not the same, it prints the first question that tells them apart and both answers,
+and the exit status is 1. A module without a name section gives none to every question. One of the
+files may be - for standard input.
+
+Example: wakemiono same old.wasm new.wasm
+  not the same
+  function 3
+  old.wasm: b
+  new.wasm: none
+";
+
+const JUDGE: &str = "\
+Judges a module, its name payload and its branch hints.
+
+Usage: wakemiono judge FILE [--json]
+
+Each of the lines `module`, `name` and `hints` says accepted, none where there is no such section,
+or refused: with the reason, the offset from the start of the module, and the bytes around it. The
+payloads of a module that is itself refused are not asked. The exit status is 1 where anything is
+refused.
+
+Example: wakemiono judge app.wasm
+  module accepted
+  name accepted
+  hints none
+";
+
+/// The help for a command, or for the program.
+pub const fn text(topic: Option<Topic>) -> &'static str {
+    match topic {
+        None => OVERALL,
+        Some(Topic::List) => LIST,
+        Some(Topic::Names) => NAMES,
+        Some(Topic::Name) => NAME,
+        Some(Topic::Hints) => HINTS,
+        Some(Topic::Canon) => CANON,
+        Some(Topic::Same) => SAME,
+        Some(Topic::Judge) => JUDGE,
+    }
+}

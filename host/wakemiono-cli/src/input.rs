@@ -1,0 +1,92 @@
+//! Modules from files or from standard input.
+
+use std::ffi::{OsStr, OsString};
+use std::fs::File;
+use std::io::{self, ErrorKind, Read};
+
+use wakemiono::{Module, Refusal};
+
+use crate::escape;
+use crate::json::Json;
+use crate::refused::Refused;
+use crate::report::Failure;
+
+/// The word for standard input, and behind `-o` for standard output.
+pub const STANDARD_STREAM: &str = "-";
+
+/// What was read, and the word for it on the command line.
+#[derive(Debug)]
+pub struct Input {
+    file: OsString,
+    bytes: Vec<u8>,
+}
+
+impl Input {
+    /// Reads a file, or standard input for `-`.
+    pub fn read(file: &OsStr) -> Result<Input, Failure> {
+        let read = if file == STANDARD_STREAM {
+            read_all(io::stdin().lock())
+        } else {
+            File::open(file).and_then(read_all)
+        };
+        match read {
+            Ok(bytes) => Ok(Input {
+                file: file.to_owned(),
+                bytes,
+            }),
+            Err(error) => Err(Failure::Misuse(unreadable(&label(file), &error))),
+        }
+    }
+
+    /// The module, unchecked: each question to it checks it.
+    pub fn module(&self) -> Module<'_> {
+        Module::new(&self.bytes)
+    }
+
+    /// The bytes.
+    pub fn bytes(&self) -> &[u8] {
+        &self.bytes
+    }
+
+    /// What people call it: the path on one line, or `standard input`.
+    pub fn label(&self) -> String {
+        label(&self.file)
+    }
+
+    /// What scripts know it by: the word as it was given.
+    pub fn file(&self) -> Json {
+        Json::text(self.file.to_string_lossy())
+    }
+
+    /// What an answer of the library to this input means for a command: a refusal ends it.
+    pub fn accepted<T>(&self, answer: Result<T, Refusal>) -> Result<T, Failure> {
+        answer.map_err(|refusal| Failure::Refused(Box::new(Refused::new(self, refusal))))
+    }
+}
+
+fn label(file: &OsStr) -> String {
+    if file == STANDARD_STREAM {
+        "standard input".to_owned()
+    } else {
+        escape::word(file)
+    }
+}
+
+fn read_all(mut from: impl Read) -> io::Result<Vec<u8>> {
+    let mut bytes = Vec::new();
+    from.read_to_end(&mut bytes)?;
+    Ok(bytes)
+}
+
+/// What is wrong with a file and what to do, where we know better than the system's own words.
+fn unreadable(label: &str, error: &io::Error) -> String {
+    match error.kind() {
+        ErrorKind::NotFound => {
+            format!("there is no file {label}: check the path, or give - for standard input.")
+        }
+        ErrorKind::PermissionDenied => {
+            format!("{label} may not be read: ask for the right to read it.")
+        }
+        _ => format!("{label} cannot be read ({error}): give a file that holds a module."),
+    }
+}

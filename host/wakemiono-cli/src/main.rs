@@ -1,0 +1,44 @@
+//! `wakemiono`: asks the metadata of WebAssembly modules from the command line.
+//!
+//! Every answer that is printed comes from the proved library behind the crate `wakemiono`. This
+//! program only reads files, finds out what there is to ask, and sets the answers in lines or JSON.
+
+#![forbid(unsafe_code)]
+#![deny(missing_docs)]
+
+mod arguments;
+mod canonical;
+mod commands;
+mod dump;
+mod escape;
+mod help;
+mod input;
+mod json;
+mod options;
+mod parallel;
+mod payloads;
+mod question;
+mod refused;
+mod report;
+
+use std::env;
+use std::process::ExitCode;
+
+use arguments::Invocation;
+use report::Report;
+
+fn main() -> ExitCode {
+    let report = match arguments::parse(env::args_os().skip(1)) {
+        Ok(Invocation::Help(topic)) => Report::good(help::text(topic)),
+        Ok(Invocation::Version) => Report::good(format!("wakemiono {}\n", version())),
+        Ok(Invocation::Run { command, json }) => {
+            commands::run(&command, json).unwrap_or_else(|failure| failure.report(json))
+        }
+        Err(misuse) => Report::misuse(&misuse),
+    };
+    report.deliver()
+}
+
+fn version() -> &'static str {
+    env!("CARGO_PKG_VERSION")
+}

@@ -1,0 +1,195 @@
+//! The questions about names, which all commands put to the library in the same way.
+
+use std::fmt;
+
+use wakemiono::{
+    offset_in, FieldIndex, FunctionIndex, LocalIndex, Module, Name, Refusal, TagIndex, TypeIndex,
+};
+
+use crate::escape;
+use crate::json::Json;
+
+/// What a name belongs to.
+#[derive(Clone, Copy, Debug, PartialEq, Eq)]
+pub enum Kind {
+    /// The module itself.
+    Module,
+    /// A function.
+    Function,
+    /// A local of a function.
+    Local,
+    /// A type.
+    Type,
+    /// A field of a type.
+    Field,
+    /// A tag.
+    Tag,
+    /// No name: a subsection that is kept as it is.
+    Kept,
+}
+
+impl Kind {
+    /// Every kind, in the order in which they are explained.
+    pub const ALL: [Kind; 7] = [
+        Kind::Module,
+        Kind::Function,
+        Kind::Type,
+        Kind::Tag,
+        Kind::Local,
+        Kind::Field,
+        Kind::Kept,
+    ];
+
+    /// The word for it on the command line and in every listing.
+    pub const fn word(self) -> &'static str {
+        match self {
+            Kind::Module => "module",
+            Kind::Function => "function",
+            Kind::Local => "local",
+            Kind::Type => "type",
+            Kind::Field => "field",
+            Kind::Tag => "tag",
+            Kind::Kept => "kept",
+        }
+    }
+}
+
+/// A question to a module's names.
+#[derive(Clone, Copy, Debug, PartialEq, Eq)]
+pub enum Question {
+    /// The module's name.
+    Module,
+    /// A function's name.
+    Function(FunctionIndex),
+    /// The name of a local in a function.
+    Local(FunctionIndex, LocalIndex),
+    /// A type's name.
+    Type(TypeIndex),
+    /// The name of a field in a type.
+    Field(TypeIndex, FieldIndex),
+    /// A tag's name.
+    Tag(TagIndex),
+    /// The contents of the kept subsection with an id.
+    Kept(u8),
+}
+
+impl Question {
+    /// Puts the question to the library, through the module.
+    pub fn ask<'a>(&self, module: Module<'a>) -> Result<Option<Answer<'a>>, Refusal> {
+        let name = match *self {
+            Question::Module => module.module_name()?,
+            Question::Function(function) => module.function_name(function)?,
+            Question::Local(function, local) => module.local_name(function, local)?,
+            Question::Type(type_) => module.type_name(type_)?,
+            Question::Field(type_, field) => module.field_name(type_, field)?,
+            Question::Tag(tag) => module.tag_name(tag)?,
+            Question::Kept(id) => module.kept(id)?.map(Name::from),
+        };
+        Ok(name.map(|name| Answer {
+            lent: module.as_bytes(),
+            found: name,
+            is_text: self.kind() != Kind::Kept,
+        }))
+    }
+
+    /// What it asks for.
+    pub const fn kind(&self) -> Kind {
+        match self {
+            Question::Module => Kind::Module,
+            Question::Function(_) => Kind::Function,
+            Question::Local(..) => Kind::Local,
+            Question::Type(_) => Kind::Type,
+            Question::Field(..) => Kind::Field,
+            Question::Tag(_) => Kind::Tag,
+            Question::Kept(_) => Kind::Kept,
+        }
+    }
+
+    /// The indices that it names, the enclosing one first.
+    pub fn indices(&self) -> Vec<u32> {
+        match *self {
+            Question::Module => vec![],
+            Question::Function(function) => vec![function.0],
+            Question::Local(function, local) => vec![function.0, local.0],
+            Question::Type(type_) => vec![type_.0],
+            Question::Field(type_, field) => vec![type_.0, field.0],
+            Question::Tag(tag) => vec![tag.0],
+            Question::Kept(id) => vec![id.into()],
+        }
+    }
+
+    /// Its place in the order of payloads: the subsection's id, and then the indices.
+    pub fn order(&self) -> (u8, Vec<u32>) {
+        let subsection = match *self {
+            Question::Module => 0,
+            Question::Function(_) => 1,
+            Question::Local(..) => 2,
+            Question::Type(_) => 4,
+            Question::Field(..) => 10,
+            Question::Tag(_) => 11,
+            Question::Kept(id) => id,
+        };
+        (subsection, self.indices())
+    }
+
+    /// Its kind and indices, as the first members of a JSON object.
+    pub fn members(&self) -> Vec<(&'static str, Json)> {
+        vec![
+            ("kind", Json::text(self.kind().word())),
+            ("indices", self.indices().into_iter().collect()),
+        ]
+    }
+}
+
+/// The kind and the indices, with one space before each index.
+impl fmt::Display for Question {
+    fn fmt(&self, f: &mut fmt::Formatter<'_>) -> fmt::Result {
+        f.write_str(self.kind().word())?;
+        let mut indices = self.indices().into_iter();
+        indices.try_for_each(|index| write!(f, " {index}"))
+    }
+}
+
+/// What the library has found.
+#[derive(Clone, Copy, Debug)]
+pub struct Answer<'a> {
+    lent: &'a [u8],
+    found: Name<'a>,
+    is_text: bool,
+}
+
+impl<'a> Answer<'a> {
+    /// The bytes that were found.
+    pub fn bytes(&self) -> &'a [u8] {
+        self.found.as_bytes()
+    }
+
+    /// Where they lie in the module.
+    pub fn offset(&self) -> usize {
+        offset_in(self.lent, self.bytes()).expect("what is found lies in what was lent")
+    }
+
+    /// Offset, length and the name itself, as members of a JSON object. The contents of a kept
+    /// subsection are no text, even where they look like some, and so are always given as bytes.
+    pub fn members(&self) -> Vec<(&'static str, Json)> {
+        let contents = match self.found.to_str() {
+            Ok(text) if self.is_text => ("name", Json::text(text)),
+            _ => ("bytes", Json::bytes(self.bytes())),
+        };
+        vec![
+            ("offset", Json::size(self.offset())),
+            ("length", Json::size(self.bytes().len())),
+            contents,
+        ]
+    }
+}
+
+/// An answer, or none, on a line of its own.
+pub fn shown(answer: Option<Answer<'_>>) -> String {
+    escape::answer(answer.map(|found| found.bytes()))
+}
+
+/// An answer in JSON, or `null` for none.
+pub fn json(answer: Option<Answer<'_>>) -> Json {
+    answer.map_or(Json::Null, |found| Json::Object(found.members()))
+}

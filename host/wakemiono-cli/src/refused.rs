@@ -1,0 +1,78 @@
+//! A refusal of the library, as it is said to people and in JSON.
+
+use wakemiono::Refusal;
+
+use crate::dump;
+use crate::input::Input;
+use crate::json::Json;
+
+/// A refusal together with what a person needs to find the fault: which input, and the bytes there.
+#[derive(Debug)]
+pub struct Refused {
+    label: String,
+    file: Json,
+    refusal: Refusal,
+    rows: Vec<String>,
+    bytes_from: usize,
+    bytes: Vec<u8>,
+}
+
+impl Refused {
+    /// The refusal of an input. Its offset counts from the start of the whole module.
+    pub fn new(input: &Input, refusal: Refusal) -> Refused {
+        let around = dump::around(input.bytes(), refusal.offset()).unwrap_or_default();
+        Refused {
+            label: input.label(),
+            file: input.file(),
+            refusal,
+            rows: dump::rows(input.bytes(), refusal.offset()),
+            bytes_from: around.start,
+            bytes: input.bytes()[around].to_vec(),
+        }
+    }
+
+    /// The line that the listing format has for a refused module.
+    pub fn listing_line(&self) -> String {
+        format!(
+            "refused {} {}\n",
+            self.refusal.number(),
+            self.refusal.offset()
+        )
+    }
+
+    /// What is wrong and where, with the bytes around it.
+    pub fn words(&self) -> String {
+        format!("{}: {}", self.label, self.verdict())
+    }
+
+    /// The same without the name of the input.
+    pub fn verdict(&self) -> String {
+        let (number, refusal) = (self.refusal.number(), self.refusal);
+        let mut words = format!("refused, number {number}: {refusal}\n");
+        for row in &self.rows {
+            words.push_str("  ");
+            words.push_str(row);
+            words.push('\n');
+        }
+        words
+    }
+
+    /// A whole JSON document.
+    pub fn document(&self) -> Json {
+        Json::Object(vec![("file", self.file.clone()), ("refusal", self.json())])
+    }
+
+    /// The refusal in JSON.
+    pub fn json(&self) -> Json {
+        let offset = self.refusal.offset();
+        Json::Object(vec![
+            ("number", self.refusal.number().into()),
+            ("reason", Json::text(self.refusal.reason().to_string())),
+            ("offset", Json::Number(offset)),
+            ("offset_hex", Json::text(format!("{offset:#X}"))),
+            ("sentence", Json::text(self.refusal.to_string())),
+            ("bytes_from", Json::size(self.bytes_from)),
+            ("bytes", Json::bytes(&self.bytes)),
+        ])
+    }
+}

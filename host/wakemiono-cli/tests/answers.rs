@@ -1,0 +1,309 @@
+//! Every command on modules that are accepted, in lines and in JSON.
+
+mod common;
+
+use std::fs;
+
+use common::{fed, file, hinted, named, path, run, BARE, EVERY_KIND, MODULE};
+
+#[test]
+fn list_prints_the_listing_of_the_documents() {
+    let module = file("list.wasm", MODULE);
+    let listing = "sections 1\n0 8 26\nname 15 21\nhints none\n";
+    run(&["list", &module]).prints(listing);
+    fed(&["list", "-"], MODULE).prints(listing);
+    fed(&["list", "-"], BARE).prints("sections 0\nname none\nhints none\n");
+    fed(&["list", "-"], &hinted(b"\x00")).prints("sections 1\n0 8 27\nname none\nhints 36 1\n");
+}
+
+#[test]
+fn list_does_not_judge_payloads() {
+    let damaged = named(b"\x01\x00");
+    fed(&["list", "-"], &damaged).prints("sections 1\n0 8 7\nname 15 2\nhints none\n");
+}
+
+#[test]
+fn list_in_json() {
+    fed(&["list", "--json", "-"], MODULE).is_json(
+        0,
+        "{\"file\":\"-\",\"sections\":[{\"id\":0,\"offset\":8,\"length\":26}],\
+         \"name\":{\"offset\":15,\"length\":21},\"hints\":null}",
+    );
+}
+
+#[test]
+fn names_of_the_documents_module() {
+    let all = "module 18 m\nfunction 0 24 a\nfunction 3 27 b\nlocal 3 0 35 x\n";
+    fed(&["names", "-"], MODULE).prints(all);
+    fed(&["names", "-", "--kind", "function"], MODULE).prints("function 0 24 a\nfunction 3 27 b\n");
+}
+
+#[test]
+fn names_of_every_kind() {
+    let module = file("every-kind.wasm", &named(EVERY_KIND));
+    let rows = [
+        ("module", "module 18 m\n"),
+        ("function", "function 0 24 a\n"),
+        ("local", "local 3 0 32 x\n"),
+        ("kept", "kept 3 35 \\xFF\n"),
+        ("type", "type 2 41 t\n"),
+        ("field", "field 2 1 49 f\n"),
+        ("tag", "tag 0 55 e\n"),
+    ];
+    let all: String = rows.iter().map(|(_, row)| *row).collect();
+    run(&["names", &module]).prints(&all);
+    for (kind, row) in rows {
+        run(&["names", &module, &format!("--kind={kind}")]).prints(row);
+    }
+}
+
+#[test]
+fn names_have_the_offsets_of_the_module_and_not_of_its_rewriting() {
+    let padded = named(b"\x01\x85\x00\x01\x00\x81\x00a");
+    fed(&["names", "-"], &padded).prints("function 0 22 a\n");
+}
+
+#[test]
+fn names_that_are_not_there() {
+    let none = fed(&["names", "-"], BARE);
+    none.ends(0, "");
+    assert_eq!(none.said, "wakemiono: the module has no name section.\n");
+    let none = fed(&["names", "-", "--kind", "tag"], MODULE);
+    none.ends(0, "");
+    assert_eq!(
+        none.said,
+        "wakemiono: the name section has no such names.\n"
+    );
+    let json = "{\"file\":\"-\",\"names\":[]}";
+    fed(&["names", "-", "--json"], BARE).is_json(0, json);
+}
+
+#[test]
+fn many_names_are_listed_in_their_order() {
+    let names = (0..500).map(|index| format!("f{index}"));
+    let pairs = (0..).map(wakemiono::FunctionIndex).zip(names.clone());
+    let payload = wakemiono::function_names(pairs).unwrap();
+    let size = |length: usize| [(length & 0x7F) as u8 | 0x80, (length >> 7) as u8];
+    let module = [BARE, &[0], &size(5 + payload.len()), b"\x04name", &payload].concat();
+    let listed = fed(&["names", "-"], &module);
+    assert_eq!(listed.status, 0);
+    let last_words = listed
+        .out()
+        .lines()
+        .map(|line| line.rsplit(' ').next().unwrap());
+    assert!(last_words.eq(names));
+}
+
+#[test]
+fn names_are_escaped() {
+    let module = named(b"\x01\x10\x02\x00\x07a\tb\\\xE2\x80\xAE\x01\x04\"'\xC3\xA9");
+    fed(&["names", "-"], &module).prints("function 0 20 a\\tb\\\\\\u{202e}\nfunction 1 29 \"'é\n");
+    fed(&["names", "-", "--json"], &module).is_json(
+        0,
+        "{\"file\":\"-\",\"names\":[\
+         {\"kind\":\"function\",\"indices\":[0],\"offset\":20,\"length\":7,\
+         \"name\":\"a\\u0009b\\\\\\u202E\"},\
+         {\"kind\":\"function\",\"indices\":[1],\"offset\":29,\"length\":4,\"name\":\"\\\"'é\"}]}",
+    );
+}
+
+#[test]
+fn names_in_json_give_kept_contents_as_bytes() {
+    let module = named(b"\x03\x02A\xFF\x09\x00");
+    fed(&["names", "-", "--json"], &module).is_json(
+        0,
+        "{\"file\":\"-\",\"names\":[\
+         {\"kind\":\"kept\",\"indices\":[3],\"offset\":17,\"length\":2,\"bytes\":[65,255]},\
+         {\"kind\":\"kept\",\"indices\":[9],\"offset\":21,\"length\":0,\"bytes\":[]}]}",
+    );
+}
+
+#[test]
+fn one_name_of_every_kind() {
+    let module = file("one-name.wasm", &named(EVERY_KIND));
+    let asked = |question: &[&str]| run(&[&["name", module.as_str()], question].concat());
+    asked(&["--module"]).prints("m\n");
+    asked(&["--function", "0"]).prints("a\n");
+    asked(&["--function", "3", "--local", "0"]).prints("x\n");
+    asked(&["--type", "0x2"]).prints("t\n");
+    asked(&["--type", "2", "--field", "1"]).prints("f\n");
+    asked(&["--tag", "0"]).prints("e\n");
+    asked(&["--kept", "3"]).prints("\\xFF\n");
+}
+
+#[test]
+fn one_name_that_is_not_there() {
+    fed(&["name", "-", "--function", "1"], MODULE).prints("none\n");
+    fed(&["name", "-", "--module"], BARE).prints("none\n");
+    fed(&["name", "-", "--kept", "1"], MODULE).prints("none\n");
+    fed(&["name", "-", "--tag", "7", "--json"], MODULE).is_json(
+        0,
+        "{\"file\":\"-\",\"question\":{\"kind\":\"tag\",\"indices\":[7]},\
+         \"answer\":null}",
+    );
+}
+
+#[test]
+fn no_name_is_told_from_the_names_none_and_empty() {
+    fed(&["name", "-", "--module"], &named(b"\x00\x05\x04none")).prints("\\u{6e}one\n");
+    fed(&["name", "-", "--module"], &named(b"\x00\x01\x00")).prints("\n");
+}
+
+#[test]
+fn one_name_in_json() {
+    fed(
+        &["name", "--json", "-", "--function=3", "--local=0"],
+        MODULE,
+    )
+    .is_json(
+        0,
+        "{\"file\":\"-\",\"question\":{\"kind\":\"local\",\"indices\":[3,0]},\
+         \"answer\":{\"offset\":35,\"length\":1,\"name\":\"x\"}}",
+    );
+}
+
+#[test]
+fn hints_in_their_order() {
+    let module = hinted(b"\x02\x02\x02\x05\x01\x01\x09\x01\x00\x82\x01\x01\x00\x01\x01");
+    fed(&["hints", "-"], &module).prints("2 5 likely\n2 9 unlikely\n130 0 likely\n");
+    fed(
+        &["hints", "-", "--json"],
+        &hinted(b"\x01\x02\x01\x05\x01\x00"),
+    )
+    .is_json(
+        0,
+        "{\"file\":\"-\",\"hints\":[\
+         {\"function\":2,\"offset\":5,\"hint\":\"unlikely\"}]}",
+    );
+}
+
+#[test]
+fn hints_that_are_not_there() {
+    let none = fed(&["hints", "-"], MODULE);
+    none.ends(0, "");
+    assert_eq!(
+        none.said,
+        "wakemiono: the module has no section of branch hints.\n"
+    );
+    let none = fed(&["hints", "-"], &hinted(b"\x01\x02\x00"));
+    none.ends(0, "");
+    assert_eq!(
+        none.said,
+        "wakemiono: the section of branch hints has none.\n"
+    );
+    let json = "{\"file\":\"-\",\"hints\":[]}";
+    fed(&["hints", "-", "--json"], MODULE).is_json(0, json);
+}
+
+const PADDED: &[u8] = b"\x01\x85\x00\x01\x00\x81\x00a";
+const SHORTEST: &[u8] = b"\x01\x04\x01\x00\x01a";
+
+#[test]
+fn canon_says_what_it_saves() {
+    fed(&["canon", "-"], &named(PADDED)).prints("before 8\nafter 6\nsaves 2 (25.0 %)\n");
+    fed(&["canon", "-"], MODULE).prints("before 21\nafter 21\nsaves 0 (0.0 %)\n");
+    fed(&["canon", "-"], &named(b"\x01\x01\x00")).prints("before 3\nafter 0\nsaves 3 (100.0 %)\n");
+    fed(&["canon", "-", "--json"], &named(PADDED)).is_json(
+        0,
+        "{\"file\":\"-\",\"section\":true,\"before\":8,\"after\":6,\"saves\":2,\
+         \"written_to\":null}",
+    );
+}
+
+#[test]
+fn canon_writes_a_file() {
+    let out = path("canon.out");
+    fed(&["canon", "-", "-o", &out], &named(PADDED)).prints("");
+    assert_eq!(fs::read(&out).unwrap(), SHORTEST);
+    let said = fed(&["canon", "-", "-o", &out, "--json"], MODULE);
+    assert_eq!(said.status, 0);
+    common::json::check(said.out().trim_end());
+    assert!(said.out().contains("\"written_to\":\""));
+    assert_eq!(fs::read(&out).unwrap(), MODULE[15..]);
+}
+
+#[test]
+fn canon_writes_to_standard_output() {
+    let written = fed(&["canon", "-", "-o", "-"], &named(PADDED));
+    assert_eq!((written.status, written.bytes.as_slice()), (0, SHORTEST));
+}
+
+#[test]
+fn canon_without_a_name_section() {
+    let said = fed(&["canon", "-"], BARE);
+    said.ends(0, "before 0\nafter 0\nsaves 0 (0.0 %)\n");
+    let note = "wakemiono: the module has no name section; its canonical payload is empty.\n";
+    assert_eq!(said.said, note);
+}
+
+#[test]
+fn same_names_in_different_bytes() {
+    let padded = file("same-padded.wasm", &named(PADDED));
+    fed(&["same", &padded, "-"], &named(SHORTEST)).prints("same\n");
+    let json = fed(&["same", "-", &padded, "--json"], &named(SHORTEST));
+    assert_eq!(json.status, 0);
+    common::json::check(json.out().trim_end());
+    assert!(json.out().ends_with(",\"same\":true}\n"));
+}
+
+#[test]
+fn same_without_a_name_section_is_same_as_no_names() {
+    let bare = file("same-bare.wasm", BARE);
+    fed(&["same", &bare, "-"], &named(b"\x01\x01\x00")).prints("same\n");
+}
+
+/// The lines for two payloads that are not the same, without the names of the files.
+fn told_apart(name: &str, a: &[u8], b: &[u8]) -> String {
+    let file = file(name, &named(a));
+    let compared = fed(&["same", &file, "-"], &named(b));
+    assert_eq!((compared.status, compared.said.as_str()), (1, ""));
+    compared
+        .out()
+        .replace(&file, "a")
+        .replace("standard input", "b")
+}
+
+#[test]
+fn not_the_same_gives_the_first_question_and_both_answers() {
+    let p = &MODULE[15..];
+    let other_name = b"\x00\x02\x01m\x01\x07\x02\x00\x01a\x03\x01c";
+    let lines = "not the same\nfunction 3\na: b\nb: c\n";
+    assert_eq!(told_apart("apart-name", p, other_name), lines);
+    let lines = "not the same\nfunction 0\na: none\nb: a\n";
+    assert_eq!(
+        told_apart("apart-first", b"\x01\x04\x01\x03\x01b", SHORTEST),
+        lines
+    );
+    let lines = "not the same\nlocal 3 0\na: x\nb: none\n";
+    assert_eq!(told_apart("apart-end", p, &p[..13]), lines);
+    let lines = "not the same\nkept 3\na: none\nb: \\xFF\n";
+    assert_eq!(
+        told_apart("apart-kept", b"\x04\x04\x01\x02\x01t", b"\x03\x01\xFF"),
+        lines
+    );
+    let lines = "not the same\nmodule\na: none\nb: \n";
+    assert_eq!(told_apart("apart-empty", b"", b"\x00\x01\x00"), lines);
+}
+
+#[test]
+fn not_the_same_in_json() {
+    let file = file("apart-json", &named(b"\x00\x02\x01m"));
+    let compared = fed(&["same", &file, "-", "--json"], BARE);
+    assert_eq!(compared.status, 1);
+    common::json::check(compared.out().trim_end());
+    assert!(compared.out().ends_with(
+        "\"same\":false,\"question\":{\"kind\":\"module\",\"indices\":[]},\
+         \"answers\":[{\"offset\":18,\"length\":1,\"name\":\"m\"},null]}\n"
+    ));
+}
+
+#[test]
+fn judge_accepts() {
+    fed(&["judge", "-"], MODULE).prints("module accepted\nname accepted\nhints none\n");
+    fed(&["judge", "-"], &hinted(b"\x00")).prints("module accepted\nname none\nhints accepted\n");
+    fed(&["judge", "-", "--json"], MODULE).is_json(
+        0,
+        "{\"file\":\"-\",\"accepted\":true,\"module\":{\"verdict\":\"accepted\"},\
+         \"name\":{\"verdict\":\"accepted\"},\"hints\":{\"verdict\":\"none\"}}",
+    );
+}

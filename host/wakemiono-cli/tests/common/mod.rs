@@ -1,0 +1,130 @@
+//! What the tests share: small modules, the program's runs, and a check that output is JSON.
+
+#![allow(dead_code)] // each test file uses its own part of this
+
+pub mod json;
+
+use std::fs;
+use std::io::Write;
+use std::path::PathBuf;
+use std::process::{Command, Output, Stdio};
+
+/// The documents' module of 36 bytes.
+pub const MODULE: &[u8] = b"\0asm\x01\0\0\0\x00\x1A\x04name\
+    \x00\x02\x01m\x01\x07\x02\x00\x01a\x03\x01b\x02\x06\x01\x03\x01\x00\x01x";
+
+/// A module without sections.
+pub const BARE: &[u8] = b"\0asm\x01\0\0\0";
+
+/// A name payload with every kind of name.
+pub const EVERY_KIND: &[u8] = b"\x00\x02\x01m\x01\x04\x01\x00\x01a\x02\x06\x01\x03\x01\x00\x01x\
+    \x03\x01\xFF\x04\x04\x01\x02\x01t\x0A\x06\x01\x02\x01\x01\x01f\x0B\x04\x01\x00\x01e";
+
+/// A module whose only section is custom and small.
+pub fn custom(name: &str, payload: &[u8]) -> Vec<u8> {
+    let length = u8::try_from(1 + name.len() + payload.len()).unwrap();
+    assert!(length < 0x80, "the size is written in one byte");
+    let name_length = u8::try_from(name.len()).unwrap();
+    [BARE, &[0, length, name_length], name.as_bytes(), payload].concat()
+}
+
+/// A module with a name section.
+pub fn named(payload: &[u8]) -> Vec<u8> {
+    custom("name", payload)
+}
+
+/// A module with branch hints.
+pub fn hinted(payload: &[u8]) -> Vec<u8> {
+    custom("metadata.code.branch_hint", payload)
+}
+
+/// How a run of the program ended, and what it said.
+#[derive(Debug)]
+pub struct Run {
+    pub status: i32,
+    pub bytes: Vec<u8>,
+    pub said: String,
+}
+
+impl Run {
+    fn of(output: Output) -> Run {
+        Run {
+            status: output.status.code().expect("the program is not killed"),
+            bytes: output.stdout,
+            said: String::from_utf8(output.stderr).expect("it says text"),
+        }
+    }
+
+    pub fn out(&self) -> &str {
+        std::str::from_utf8(&self.bytes).expect("it prints text")
+    }
+
+    /// It printed this, had nothing else to say and ended well.
+    #[track_caller]
+    pub fn prints(&self, out: &str) {
+        self.ends(0, out);
+        assert_eq!(self.said, "");
+    }
+
+    /// It printed this and ended so.
+    #[track_caller]
+    pub fn ends(&self, status: i32, out: &str) {
+        assert_eq!((self.status, self.out()), (status, out), "{}", self.said);
+    }
+
+    /// It printed nothing but said this, as for misuse.
+    #[track_caller]
+    pub fn is_misuse(&self, sentence: &str) {
+        self.ends(2, "");
+        assert_eq!(self.said, format!("wakemiono: {sentence}\n"));
+    }
+
+    /// It printed this JSON on a line, which is well formed, and nothing else.
+    #[track_caller]
+    pub fn is_json(&self, status: i32, json: &str) {
+        self.ends(status, &format!("{json}\n"));
+        assert_eq!(self.said, "");
+        json::check(json);
+    }
+}
+
+/// The program with these arguments.
+pub fn program(arguments: &[&str]) -> Command {
+    let mut command = Command::new(env!("CARGO_BIN_EXE_wakemiono"));
+    command.args(arguments);
+    command
+}
+
+/// Runs the program with nothing on standard input.
+pub fn run(arguments: &[&str]) -> Run {
+    fed(arguments, &[])
+}
+
+/// Runs the program with these bytes on standard input.
+pub fn fed(arguments: &[&str], input: &[u8]) -> Run {
+    let mut command = program(arguments);
+    command.stdin(Stdio::piped());
+    command.stdout(Stdio::piped()).stderr(Stdio::piped());
+    let mut child = command.spawn().expect("the program starts");
+    let mut stdin = child.stdin.take().expect("its input is a pipe");
+    // A program that reads nothing may have ended by now.
+    let _ = stdin.write_all(input);
+    drop(stdin);
+    Run::of(child.wait_with_output().expect("the program ends"))
+}
+
+/// A file of the tests' own with these bytes. Each name is used by one test only, since tests run
+/// side by side.
+pub fn file(name: &str, bytes: &[u8]) -> String {
+    let path = path(name);
+    fs::write(&path, bytes).expect("the file is written");
+    path
+}
+
+/// Where a file of the tests' own would lie.
+pub fn path(name: &str) -> String {
+    let path = PathBuf::from(env!("CARGO_TARGET_TMPDIR")).join(name);
+    path.into_os_string()
+        .into_string()
+        .expect("the path is text")
+}

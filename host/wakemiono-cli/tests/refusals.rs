@@ -1,0 +1,137 @@
+//! Every command on modules that are refused.
+
+mod common;
+
+use common::{fed, file, hinted, named, MODULE};
+
+const NO_SUCH_SECTION: &[u8] = b"\0asm\x01\0\0\0\x0D\x00";
+
+const NO_SUCH_SECTION_WORDS: &str = "\
+wakemiono: standard input: refused, number 5: a section id is above 12: it stands at byte 0x8 (8)
+  00000000  00 61 73 6D 01 00 00 00 0D 00                    |.asm......|
+                                    ^^
+";
+
+#[test]
+fn in_words_with_the_bytes_around_the_fault() {
+    for arguments in [
+        &["names", "-"][..],
+        &["name", "-", "--module"],
+        &["hints", "-"],
+        &["canon", "-"],
+    ] {
+        let refused = fed(arguments, NO_SUCH_SECTION);
+        refused.ends(1, "");
+        assert_eq!(refused.said, NO_SUCH_SECTION_WORDS);
+    }
+}
+
+#[test]
+fn in_the_listing_format_and_in_words() {
+    let refused = fed(&["list", "-"], NO_SUCH_SECTION);
+    refused.ends(1, "refused 5 8\n");
+    assert_eq!(refused.said, NO_SUCH_SECTION_WORDS);
+    fed(&["list", "-"], b"").ends(1, "refused 1 0\n");
+}
+
+#[test]
+fn in_json() {
+    let json = "{\"file\":\"-\",\"refusal\":{\"number\":5,\
+        \"reason\":\"a section id is above 12\",\"offset\":8,\"offset_hex\":\"0x8\",\
+        \"sentence\":\"a section id is above 12: it stands at byte 0x8 (8)\",\
+        \"bytes_from\":0,\"bytes\":[0,97,115,109,1,0,0,0,13,0]}}";
+    for arguments in [
+        &["list", "-", "--json"][..],
+        &["names", "-", "--json"],
+        &["name", "-", "--module", "--json"],
+        &["hints", "-", "--json"],
+        &["canon", "-", "--json"],
+    ] {
+        fed(arguments, NO_SUCH_SECTION).is_json(1, json);
+    }
+}
+
+#[test]
+fn with_offsets_from_the_start_of_the_module() {
+    let damaged = named(b"\x01\x07\x02\x03\x01b\x03\x01a");
+    let refused = fed(&["names", "-"], &damaged);
+    refused.ends(1, "");
+    assert_eq!(
+        refused.said,
+        "wakemiono: standard input: refused, number 11: an index or code offset is not above the \
+         one before: it starts at byte 0x15 (21)\n\
+         \x20 00000000  00 61 73 6D 01 00 00 00 00 0E 04 6E 61 6D 65 01  |.asm.......name.|\n\
+         \x20 00000010  07 02 03 01 62 03 01 61                          |....b..a|\n\
+         \x20                          ^^\n"
+    );
+    let refused = fed(&["hints", "-"], &hinted(b"\x01\x02\x01\x05\x01\x02"));
+    refused.ends(1, "");
+    assert!(refused.said.contains("refused, number 12: "));
+    assert!(refused.said.contains("its size stands at byte 0x28 (40)"));
+}
+
+#[test]
+fn at_the_very_end() {
+    let refused = fed(&["canon", "-"], &named(b"\x01\x00"));
+    refused.ends(1, "");
+    assert!(refused.said.ends_with(
+        "starts at byte 0x11 (17)\n\
+         \x20 00000000  00 61 73 6D 01 00 00 00 00 07 04 6E 61 6D 65 01  |.asm.......name.|\n\
+         \x20 00000010  00                                               |.|\n\
+         \x20              ^^\n"
+    ));
+}
+
+#[test]
+fn a_refused_module_leaves_no_output_behind() {
+    let out = common::path("refused.out");
+    let _ = std::fs::remove_file(&out);
+    fed(&["canon", "-", "-o", &out], NO_SUCH_SECTION).ends(1, "");
+    assert!(!std::path::Path::new(&out).exists());
+}
+
+#[test]
+fn either_of_two_compared_modules() {
+    let good = file("refused-good.wasm", MODULE);
+    for arguments in [["same", &good, "-"], ["same", "-", &good]] {
+        let refused = fed(&arguments, NO_SUCH_SECTION);
+        refused.ends(1, "");
+        assert_eq!(refused.said, NO_SUCH_SECTION_WORDS);
+    }
+}
+
+#[test]
+fn judge_says_which_part() {
+    fed(&["judge", "-"], NO_SUCH_SECTION).ends(
+        1,
+        "module refused, number 5: a section id is above 12: it stands at byte 0x8 (8)\n\
+         \x20 00000000  00 61 73 6D 01 00 00 00 0D 00                    |.asm......|\n\
+         \x20                                   ^^\n\
+         name not asked\nhints not asked\n",
+    );
+    let judged = fed(&["judge", "-"], &named(b"\x01\x02\x00\x00"));
+    assert_eq!(judged.status, 1);
+    assert!(judged
+        .out()
+        .starts_with("module accepted\nname refused, number 10: "));
+    assert!(judged.out().ends_with("hints none\n"));
+}
+
+#[test]
+fn judge_says_all_parts_that_are_refused() {
+    let damaged_hints = hinted(b"\x00\x00");
+    let both = [&named(b"\x01\x00"), &damaged_hints[8..]].concat();
+    let judged = fed(&["judge", "-"], &both);
+    assert_eq!(judged.status, 1);
+    assert!(judged.out().contains("\nname refused, number 2: "));
+    assert!(judged.out().contains("\nhints refused, number 10: "));
+    let judged = fed(&["judge", "-", "--json"], &both);
+    assert_eq!(judged.status, 1);
+    common::json::check(judged.out().trim_end());
+    assert!(judged
+        .out()
+        .contains("\"accepted\":false,\"module\":{\"verdict\":\"accepted\"}"));
+    assert!(judged
+        .out()
+        .contains("\"hints\":{\"verdict\":\"refused\",\"refusal\":{\"number\":10,"));
+}

@@ -1,0 +1,245 @@
+//! Help, version, misuse, and outputs that cannot be written.
+
+mod common;
+
+use std::fs::{self, File};
+use std::io::{Read, Write};
+use std::process::Stdio;
+
+use common::{fed, file, path, program, run, BARE, MODULE};
+
+const COMMANDS: [&str; 7] = ["list", "names", "name", "hints", "canon", "same", "judge"];
+
+#[test]
+fn help_has_every_command_and_an_example() {
+    let overall = run(&["--help"]);
+    overall.prints(overall.out());
+    assert!(overall.out().contains("Example: wakemiono "));
+    for command in COMMANDS {
+        assert!(
+            overall.out().contains(&format!("\n  {command} ")),
+            "{command}"
+        );
+        let help = run(&[command, "--help"]);
+        help.prints(help.out());
+        assert!(
+            help.out().contains(&format!("Usage: wakemiono {command} ")),
+            "{command}"
+        );
+        assert!(
+            help.out()
+                .contains(&format!("Example: wakemiono {command} ")),
+            "{command}"
+        );
+        assert!(help.out().contains("--json"), "{command}");
+        assert_eq!(run(&[command, "-h"]).out(), help.out());
+    }
+    assert_eq!(run(&["-h"]).out(), overall.out());
+}
+
+#[test]
+fn version() {
+    let version = concat!("wakemiono ", env!("CARGO_PKG_VERSION"), "\n");
+    run(&["--version"]).prints(version);
+    run(&["-V"]).prints(version);
+}
+
+const LIST_OF_COMMANDS: &str =
+    "give one of list, names, name, hints, canon, same, judge; see `wakemiono --help`.";
+
+#[test]
+fn no_such_command() {
+    run(&[]).is_misuse(&format!("no command is given: {LIST_OF_COMMANDS}"));
+    run(&["lst", "f"]).is_misuse(&format!("there is no command lst: {LIST_OF_COMMANDS}"));
+    let early = format!("the command comes before the option --json: {LIST_OF_COMMANDS}");
+    run(&["--json", "list"]).is_misuse(&early);
+}
+
+#[test]
+fn no_such_option() {
+    for command in COMMANDS {
+        let misused = run(&[command, "-", "--al\u{7}l"]);
+        misused.ends(2, "");
+        let sentence = "wakemiono: there is no option --al\\u{7}l: give one of --json";
+        assert!(misused.said.starts_with(sentence), "{}", misused.said);
+        let see = format!("; see `wakemiono {command} --help`.\n");
+        assert!(misused.said.ends_with(&see), "{}", misused.said);
+    }
+    run(&["list", "f", "--kind", "tag"])
+        .is_misuse("there is no option --kind: give one of --json; see `wakemiono list --help`.");
+}
+
+#[test]
+fn files_that_are_not_given_or_too_many() {
+    run(&["list"]).is_misuse(
+        "no file is given: name one, or give - for standard input; see `wakemiono list --help`.",
+    );
+    run(&["judge", "a", "b"]).is_misuse(
+        "one file is asked at a time, and b is a second one: leave it out; \
+         see `wakemiono judge --help`.",
+    );
+    let see = "see `wakemiono same --help`.";
+    run(&["same", "a"]).is_misuse(&format!(
+        "two files are compared, and one is given: name two; {see}"
+    ));
+    run(&["same", "-", "-"]).is_misuse(&format!(
+        "standard input can be read only once: give a file for one of the two; {see}"
+    ));
+}
+
+#[test]
+fn questions_that_are_none() {
+    let asked = |options: &[&str], sentence: &str| {
+        let sentence = format!("{sentence}; see `wakemiono name --help`.");
+        run(&[&["name", "f"], options].concat()).is_misuse(&sentence);
+    };
+    asked(
+        &[],
+        "nothing is asked: give --module, --function, --type, --tag or --kept",
+    );
+    asked(
+        &["--module", "--tag", "0"],
+        "one name is asked at a time, and --module and --tag are both given: leave one out",
+    );
+    asked(
+        &["--local", "0"],
+        "--local needs its function: give --function too",
+    );
+    asked(&["--field", "0"], "--field needs its type: give --type too");
+    asked(
+        &["--type", "0", "--local", "0"],
+        "a local belongs to a function: give --local together with --function alone",
+    );
+    asked(
+        &["--function", "0", "--field", "0"],
+        "a field belongs to a type: give --field together with --type alone",
+    );
+    asked(
+        &["--function", "4294967296"],
+        "--function is given 4294967296: give an index from 0 to 4294967295, in decimal or \
+         behind 0x",
+    );
+    asked(
+        &["--kept", "256"],
+        "--kept is given 256: give an id from 0 to 255, in decimal or behind 0x",
+    );
+    asked(&["--tag"], "--tag needs a value: write it behind --tag");
+}
+
+#[test]
+fn no_such_kind() {
+    run(&["names", "f", "--kind", "functions"]).is_misuse(
+        "there is no kind functions: give one of module, function, type, tag, local, field, kept; \
+         see `wakemiono names --help`.",
+    );
+}
+
+#[test]
+fn files_that_cannot_be_read() {
+    let missing = path("there-is-no-such-file");
+    let sentence =
+        format!("there is no file {missing}: check the path, or give - for standard input.");
+    for command in ["list", "names", "hints", "canon", "judge"] {
+        run(&[command, &missing]).is_misuse(&sentence);
+    }
+    run(&["name", &missing, "--module", "--json"]).is_misuse(&sentence);
+    fed(&["same", "-", &missing], BARE).is_misuse(&sentence);
+    let folder = path("");
+    let read = run(&["list", &folder]);
+    read.ends(2, "");
+    assert!(
+        read.said.contains("give a file that holds a module"),
+        "{}",
+        read.said
+    );
+}
+
+#[test]
+fn a_file_that_begins_with_a_dash() {
+    let folder = path("dash");
+    fs::create_dir_all(&folder).unwrap();
+    file("dash/--json", BARE);
+    let mut command = program(&["list", "--", "--json"]);
+    let output = command.current_dir(folder).output().unwrap();
+    assert_eq!(output.stdout, b"sections 0\nname none\nhints none\n");
+}
+
+#[test]
+#[cfg(unix)]
+fn a_file_whose_name_is_not_text() {
+    use std::ffi::OsStr;
+    use std::os::unix::ffi::OsStrExt;
+
+    let output = program(&["list"])
+        .arg(OsStr::from_bytes(b"no\\\xFF\x1B"))
+        .output()
+        .unwrap();
+    assert_eq!(output.status.code(), Some(2));
+    let said = String::from_utf8(output.stderr).unwrap();
+    assert!(
+        said.contains("there is no file no\\\\\\xFF\\u{1b}: "),
+        "{said}"
+    );
+}
+
+#[test]
+fn json_gives_the_file_as_it_was_named() {
+    let quoted = file("a\"b\\c.wasm", BARE);
+    let listed = run(&["list", &quoted, "--json"]);
+    assert_eq!(listed.status, 0);
+    common::json::check(listed.out().trim_end());
+    assert!(
+        listed.out().contains("a\\\"b\\\\c.wasm\","),
+        "{}",
+        listed.out()
+    );
+}
+
+#[test]
+fn outputs_that_cannot_be_written() {
+    let nowhere = path("no-such-folder/out");
+    let written = fed(&["canon", "-", "-o", &nowhere], MODULE);
+    written.ends(2, "");
+    assert!(
+        written.said.contains("give another file behind -o"),
+        "{}",
+        written.said
+    );
+    fed(&["canon", "-", "-o", "-", "--json"], MODULE).is_misuse(
+        "the payload and JSON cannot both go to standard output: leave out --json, or give a file \
+         behind -o; see `wakemiono canon --help`.",
+    );
+}
+
+#[test]
+fn a_broken_pipe_ends_quietly() {
+    let mut command = program(&["names", "-"]);
+    command.stdin(Stdio::piped());
+    command.stdout(Stdio::piped()).stderr(Stdio::piped());
+    let mut child = command.spawn().unwrap();
+    // The reader is gone before the program has anything to print.
+    drop(child.stdout.take());
+    child.stdin.take().unwrap().write_all(MODULE).unwrap();
+    let status = child.wait().unwrap();
+    let mut said = String::new();
+    child
+        .stderr
+        .take()
+        .unwrap()
+        .read_to_string(&mut said)
+        .unwrap();
+    assert_eq!((status.code(), said.as_str()), (Some(0), ""));
+}
+
+#[test]
+#[cfg(target_os = "linux")]
+fn a_full_disk_is_said() {
+    let Ok(full) = File::options().write(true).open("/dev/full") else {
+        return; // not every container has it
+    };
+    let module = file("full-disk.wasm", MODULE);
+    let output = program(&["list", &module]).stdout(full).output().unwrap();
+    assert_eq!(output.status.code(), Some(2));
+    let said = String::from_utf8(output.stderr).unwrap();
+    assert!(said.contains("standard output cannot be written"), "{said}");
+}
