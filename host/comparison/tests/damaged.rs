@@ -96,3 +96,72 @@ fn modules() {
         tally.calls
     );
 }
+
+/// A name payload with one function name.
+fn one_name(text: &[u8]) -> Vec<u8> {
+    let mut contents = vec![1, 0];
+    contents.extend(made::sized(&mut Random::new(1), text));
+    let mut payload = vec![1];
+    payload.extend(made::sized(&mut Random::new(1), &contents));
+    payload
+}
+
+/// Text broken at each place, also where a reader may step over several bytes at once.
+#[test]
+fn broken_texts() {
+    let mut tally = Tally::default();
+    for character in ["a", "é", "漢", "🦀"] {
+        let text = character.repeat(72 / character.len());
+        for at in 0..text.len() {
+            for change in [0x80, 0xC0, 0xC3, 0xE0, 0xED, 0xF4, 0xFF] {
+                let mut broken = text.as_bytes().to_vec();
+                broken[at] = change;
+                tally.names(&one_name(&broken));
+            }
+            tally.names(&one_name(&text.as_bytes()[..at]));
+        }
+    }
+    println!("compared {} calls", tally.calls);
+}
+
+/// Counts and lengths up to the greatest, where a list or a part cannot have them.
+#[test]
+fn counts_and_lengths_up_to_the_greatest() {
+    let mut tally = Tally::default();
+    for value in [
+        0,
+        1,
+        2,
+        127,
+        128,
+        16_384,
+        1 << 21,
+        1 << 28,
+        u32::MAX - 1,
+        u32::MAX,
+    ] {
+        let number = made::number(&mut Random::new(1), value);
+        for before in [
+            &[1, 8][..],
+            &[2, 8],
+            &[2, 8, 1, 0],
+            &[1, 9, 1, 0],
+            &[0, 9],
+            &[7],
+            &[1],
+        ] {
+            for after in [&[][..], &[0], &[0, 1, b'a'], &[0, 0, 1, 0]] {
+                let bytes = [before, &number, after].concat();
+                tally.names(&bytes);
+                tally.metadata(&bytes);
+                tally.metadata(&[&number, after].concat());
+                let mut module = b"\0asm\x01\0\0\0\0".to_vec();
+                module.extend(&number);
+                module.extend(b"\x04name");
+                module.extend(&bytes);
+                tally.module(&module);
+            }
+        }
+    }
+    println!("compared {} calls", tally.calls);
+}
