@@ -1,5 +1,5 @@
 # What can be done here. `make help` says it in words.
-.PHONY: help list lib install test prove fmt
+.PHONY: help list lib install test bench prove fmt
 
 export FILE ?= examples/small.wasm
 export PREFIX ?= /usr/local
@@ -11,6 +11,8 @@ help:
 	@echo 'make install lays down header, archive and pkg-config file below PREFIX (/usr/local)'
 	@echo 'make test    the whole gate: proves every crate from nothing, has every must-fail edit refused,'
 	@echo '             runs every program; its last line is "N passed, 0 failed"'
+	@echo 'make bench   counts the instructions that the library and the second reader execute, as a table and as'
+	@echo '             docs/bench.tsv'
 	@echo 'make prove   proves what changed since the last proof'
 	@echo 'make fmt     lays out every source file'
 
@@ -25,6 +27,9 @@ install:
 
 test:
 	@tools/gate
+
+bench:
+	@tools/bench
 
 prove:
 	@tools/need rt

@@ -1,0 +1,44 @@
+//! The name payloads of the committed fixtures, where module and payload are accepted.
+
+use std::fs;
+use std::path::{Path, PathBuf};
+
+use comparison::library::{custom, names_judge};
+
+use crate::payload::{Kind, Payload};
+
+const FOUND: u32 = 1;
+
+pub fn all() -> Vec<Payload> {
+    modules().iter().filter_map(|path| accepted(path)).collect()
+}
+
+/// In the order of their names, which is not that of the folder.
+fn modules() -> Vec<PathBuf> {
+    let folder = Path::new(env!("CARGO_MANIFEST_DIR")).join("../fixtures");
+    let mut modules: Vec<PathBuf> = fs::read_dir(folder)
+        .expect("host/fixtures can be read")
+        .map(|entry| entry.expect("an entry can be read").path())
+        .filter(|path| path.extension().is_some_and(|kind| kind == "wasm"))
+        .collect();
+    modules.sort();
+    modules
+}
+
+fn accepted(path: &Path) -> Option<Payload> {
+    let module = fs::read(path).expect("a fixture can be read");
+    let found = custom(&module, Kind::Names.section().as_bytes());
+    if found.kind != FOUND {
+        return None;
+    }
+    let bytes = &module[found.offset as usize..][..found.length as usize];
+    if names_judge(bytes).kind != FOUND {
+        return None;
+    }
+    let stem = path.file_stem().expect("a file has a name");
+    Some(Payload {
+        name: format!("fixture:{}", stem.to_string_lossy()),
+        kind: Kind::Names,
+        bytes: bytes.to_vec(),
+    })
+}

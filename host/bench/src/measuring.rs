@@ -1,0 +1,122 @@
+//! Every operation that a payload allows, put once to each reader, and the two results compared.
+
+use comparison::library::{self, Told};
+
+use crate::function_map::{FunctionMap, Lists};
+use crate::made::LAST_BRANCH;
+use crate::operation::{region, Operation, Who};
+use crate::payload::{Kind, Payload};
+use crate::region::counted;
+
+/// What an output holds before a call.
+const UNTOUCHED: u8 = 0xEE;
+
+/// An operation, and whether the two readers agreed on it.
+type Compared = (Operation, bool);
+
+/// Counts one call of each reader in its region. They agree if they answer alike.
+macro_rules! ask {
+    ($operation:expr, $call:ident($($argument:expr),*) where $lent:pat_param = $input:expr) => {{
+        const LIBRARY: u8 = region($operation, Who::Library);
+        const READER: u8 = region($operation, Who::SecondReader);
+        let told = counted::<LIBRARY, _, _>($input, |$lent| library::$call($($argument),*));
+        let read = counted::<READER, _, _>($input, |$lent| second_reader::$call($($argument),*));
+        ($operation, told == Told::from(read))
+    }};
+}
+
+/// The same for calls that write, each into an output of its own. They agree if they leave the outputs alike, too.
+macro_rules! write {
+    ($operation:expr, $call:ident($($argument:expr),*) where $lent:pat_param = $input:expr, $out:ident of $room:expr) => {{
+        const LIBRARY: u8 = region($operation, Who::Library);
+        const READER: u8 = region($operation, Who::SecondReader);
+        let (mut by_library, mut by_reader) = (vec![UNTOUCHED; $room], vec![UNTOUCHED; $room]);
+        let told = counted::<LIBRARY, _, _>(($input, &mut by_library[..]), |($lent, $out)| {
+            library::$call($($argument),*)
+        });
+        let read = counted::<READER, _, _>(($input, &mut by_reader[..]), |($lent, $out)| {
+            second_reader::$call($($argument),*)
+        });
+        ($operation, told == Told::from(read) && by_library == by_reader)
+    }};
+}
+
+/// The operations that were measured, or the one on which the readers differ.
+pub fn measure(payload: &Payload) -> Result<Vec<Operation>, String> {
+    let mut compared = vec![walk(&payload.module())];
+    match payload.kind {
+        Kind::Names => compared.extend(names(&payload.bytes)),
+        Kind::Hints => compared.extend(hints(&payload.bytes)),
+    }
+    let agreed = |(operation, alike): (Operation, bool)| match alike {
+        true => Ok(operation),
+        false => Err(format!(
+            "The library and the second reader differ: {} of {}.",
+            operation.words(),
+            payload.name
+        )),
+    };
+    compared.into_iter().map(agreed).collect()
+}
+
+fn walk(module: &[u8]) -> Compared {
+    ask!(Operation::Walk, walk(lent) where lent = module)
+}
+
+fn names(payload: &[u8]) -> Vec<Compared> {
+    let mut compared = vec![judge(payload)];
+    let map = FunctionMap::of(payload);
+    let last = map.as_ref().and_then(|map| map.lists.indices.last());
+    compared.extend(last.map(|&last| look_up(payload, last)));
+    compared.push(rewrite(payload));
+    let alone = map.filter(|map| map.alone);
+    compared.extend(alone.map(|map| write_from_lists(&map.lists, payload.len())));
+    compared
+}
+
+fn judge(payload: &[u8]) -> Compared {
+    ask!(Operation::Judge, names_judge(lent) where lent = payload)
+}
+
+fn look_up(payload: &[u8], last: u32) -> Compared {
+    ask!(Operation::LookUp, function_name(lent, last) where (lent, last) = (payload, last))
+}
+
+fn rewrite(payload: &[u8]) -> Compared {
+    let room = payload.len();
+    write!(Operation::Rewrite, names_canonical(lent, out) where lent = payload, out of room)
+}
+
+fn write_from_lists(lists: &Lists, room: usize) -> Compared {
+    let lists = (&lists.indices[..], &lists.lengths[..], &lists.text[..]);
+    write!(
+        Operation::WriteFromLists,
+        function_names_write(indices, lengths, text, out)
+        where (indices, lengths, text) = lists, out of room
+    )
+}
+
+fn hints(payload: &[u8]) -> Vec<Compared> {
+    vec![
+        judge_hints(payload),
+        look_hint_up(payload, LAST_BRANCH),
+        rewrite_hints(payload),
+    ]
+}
+
+fn judge_hints(payload: &[u8]) -> Compared {
+    ask!(Operation::JudgeHints, hints_judge(lent) where lent = payload)
+}
+
+fn look_hint_up(payload: &[u8], branch: (u32, u32)) -> Compared {
+    ask!(
+        Operation::LookHintUp,
+        hint(lent, function, offset)
+        where (lent, (function, offset)) = (payload, branch)
+    )
+}
+
+fn rewrite_hints(payload: &[u8]) -> Compared {
+    let room = payload.len();
+    write!(Operation::RewriteHints, hints_canonical(lent, out) where lent = payload, out of room)
+}

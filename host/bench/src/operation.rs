@@ -1,0 +1,55 @@
+//! What is measured, of whom, and under which number.
+
+/// The operations that are measured.
+#[derive(Clone, Copy, PartialEq, Eq, Debug)]
+#[repr(u8)]
+pub enum Operation {
+    Walk,
+    Judge,
+    LookUp,
+    Rewrite,
+    WriteFromLists,
+    JudgeHints,
+    LookHintUp,
+    RewriteHints,
+}
+
+impl Operation {
+    /// As the table calls it.
+    pub fn words(self) -> &'static str {
+        match self {
+            Operation::Walk => "walk",
+            Operation::Judge => "judge",
+            Operation::LookUp => "judge, look last function up",
+            Operation::Rewrite => "rewrite",
+            Operation::WriteFromLists => "write from lists",
+            Operation::JudgeHints => "judge hints",
+            Operation::LookHintUp => "judge hints, look last up",
+            Operation::RewriteHints => "rewrite hints",
+        }
+    }
+}
+
+/// Whose instructions are counted.
+#[derive(Clone, Copy, PartialEq, Eq, Debug)]
+#[repr(u8)]
+pub enum Who {
+    Library,
+    SecondReader,
+}
+
+impl Who {
+    pub const BOTH: [Who; 2] = [Who::Library, Who::SecondReader];
+
+    pub fn words(self) -> &'static str {
+        match self {
+            Who::Library => "library",
+            Who::SecondReader => "second reader",
+        }
+    }
+}
+
+/// The number of a region. A run has one payload, so that the payload has no part in it.
+pub const fn region(operation: Operation, who: Who) -> u8 {
+    operation as u8 * 2 + who as u8
+}
