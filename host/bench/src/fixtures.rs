@@ -9,7 +9,7 @@ use crate::payload::{Kind, Payload};
 
 const FOUND: u32 = 1;
 
-pub fn all() -> Vec<Payload> {
+pub fn payloads() -> Vec<Payload> {
     modules().iter().filter_map(|path| accepted(path)).collect()
 }
 

@@ -77,3 +77,38 @@ impl<'a> Accepted<'a> {
         lists
     }
 }
+
+#[cfg(test)]
+mod tests {
+    use super::*;
+    use crate::made;
+    use comparison::library::function_names_write;
+
+    #[test]
+    fn the_lists_of_a_plain_map_say_all_of_it() {
+        let payload = made::payload("go").expect("there is such a payload").bytes;
+        let map = FunctionMap::of(&payload).expect("functions");
+        assert!(map.alone);
+        let Lists {
+            indices,
+            lengths,
+            text,
+        } = map.lists;
+        let mut out = vec![0; payload.len()];
+        let written = function_names_write(&indices, &lengths, &text, &mut out);
+        assert_eq!((written.kind, &out), (1, &payload));
+    }
+
+    #[test]
+    fn a_map_with_others_beside_it_is_not_alone() {
+        let payload = made::payload("locals").expect("there is such a payload");
+        let map = FunctionMap::of(&payload.bytes).expect("functions");
+        assert_eq!((map.alone, map.lists.indices.len()), (false, 2_000));
+    }
+
+    #[test]
+    fn no_functions() {
+        assert!(FunctionMap::of(&[]).is_none());
+        assert!(FunctionMap::of(&[0, 2, 1, b'm']).is_none());
+    }
+}

@@ -6,13 +6,11 @@ use crate::bytes::{list, number, sized, subsection};
 use crate::payload::{Kind, Payload};
 use crate::texts;
 
-/// A generator that no environment changes: the counts of two runs must be those of the same bytes.
-fn random() -> Random {
-    Random::new(0x57A5_4D17)
-}
-
 const FUNCTIONS: u8 = 1;
 const LOCALS: u8 = 2;
+
+const RUST_BYTES: usize = 172_000;
+const CHARACTERS_BYTES: usize = 100_000;
 
 const HINTED_FUNCTIONS: u32 = 1_000;
 const BRANCHES: u32 = 10;
@@ -22,40 +20,65 @@ const STRIDE: u32 = 19;
 /// The branch that the hints name last: its function and its offset.
 pub const LAST_BRANCH: (u32, u32) = (HINTED_FUNCTIONS - 1, BRANCHES * STRIDE);
 
-const RUST_BYTES: usize = 172_000;
-const CHARACTERS_BYTES: usize = 100_000;
-
-pub fn all() -> Vec<Payload> {
-    let r = &mut random();
-    vec![
-        functions("go", &many(14_000, || texts::go(r))),
-        functions("c++", &many(1_000, || texts::cpp(r))),
-        functions("rust-v0", &up_to(RUST_BYTES, || texts::rust_v0(r))),
-        functions("one-letter", &many(150_000, || texts::letter(r))),
-        names("locals", &with_locals(r)),
-        functions("two-byte", &in_characters(r, '\u{80}', '\u{7FF}')),
-        functions("three-byte", &in_characters(r, '\u{800}', '\u{D7FF}')),
-        functions("four-byte", &in_characters(r, '\u{1_0000}', '\u{10_FFFF}')),
-        functions("one-long-name", &[texts::ascii(r, 600_000)]),
-        Payload {
-            name: "hints".to_string(),
-            kind: Kind::Hints,
-            bytes: hints(r),
-        },
-    ]
+/// How a payload is made.
+struct Recipe {
+    name: &'static str,
+    kind: Kind,
+    make: fn(&mut Random) -> Vec<u8>,
 }
 
-fn names(name: &str, bytes: &[u8]) -> Payload {
-    Payload {
-        name: name.to_string(),
+const RECIPES: [Recipe; 10] = [
+    names("go", |r| functions(&many(14_000, || texts::go(r)))),
+    names("c++", |r| functions(&many(1_000, || texts::cpp(r)))),
+    names("rust-v0", |r| {
+        functions(&up_to(RUST_BYTES, || texts::rust_v0(r)))
+    }),
+    names("one-letter", |r| {
+        functions(&many(150_000, || texts::letter(r)))
+    }),
+    names("locals", functions_with_locals),
+    names("two-byte", |r| in_characters(r, '\u{80}', '\u{7FF}')),
+    names("three-byte", |r| in_characters(r, '\u{800}', '\u{D7FF}')),
+    names("four-byte", |r| {
+        in_characters(r, '\u{1_0000}', '\u{10_FFFF}')
+    }),
+    names("one-long-name", |r| functions(&[texts::ascii(r, 600_000)])),
+    Recipe {
+        name: "hints",
+        kind: Kind::Hints,
+        make: hints,
+    },
+];
+
+const fn names(name: &'static str, make: fn(&mut Random) -> Vec<u8>) -> Recipe {
+    Recipe {
+        name,
         kind: Kind::Names,
-        bytes: bytes.to_vec(),
+        make,
     }
 }
 
+/// The names of the made payloads.
+pub fn payloads() -> impl Iterator<Item = &'static str> {
+    RECIPES.iter().map(|recipe| recipe.name)
+}
+
+/// Makes the payload of a name.
+///
+/// Each has a generator of its own, which no environment changes: its bytes stay the same whatever is added beside it,
+/// and the counts of two runs are those of the same bytes.
+pub fn payload(name: &str) -> Option<Payload> {
+    let recipe = RECIPES.iter().find(|recipe| recipe.name == name)?;
+    Some(Payload {
+        name: name.to_string(),
+        kind: recipe.kind,
+        bytes: (recipe.make)(&mut Random::new(0x57A5_4D17)),
+    })
+}
+
 /// A payload that names functions and nothing else.
-fn functions(name: &str, texts: &[String]) -> Payload {
-    names(name, &subsection(FUNCTIONS, &name_map(texts)))
+fn functions(texts: &[String]) -> Vec<u8> {
+    subsection(FUNCTIONS, &name_map(texts))
 }
 
 fn name_map(texts: &[String]) -> Vec<u8> {
@@ -78,27 +101,22 @@ fn up_to(bytes: usize, mut text: impl FnMut() -> String) -> Vec<String> {
     texts
 }
 
-/// Names of about a hundred bytes, in characters that all take as many bytes.
-fn in_characters(r: &mut Random, first: char, last: char) -> Vec<String> {
+/// Function names of about a hundred bytes, in characters that all take as many bytes.
+fn in_characters(r: &mut Random, first: char, last: char) -> Vec<u8> {
     let count = 100 / first.len_utf8();
-    up_to(CHARACTERS_BYTES, || {
+    functions(&up_to(CHARACTERS_BYTES, || {
         texts::characters(r, first, last, count)
-    })
+    }))
 }
 
 /// 2,000 functions with their names and those of one to eight locals.
-fn with_locals(r: &mut Random) -> Vec<u8> {
+fn functions_with_locals(r: &mut Random) -> Vec<u8> {
     let names = many(2_000, || texts::identifier(r));
-    let locals = names.iter().map(|_| {
+    let locals = list(names.iter().map(|_| {
         let count = 1 + r.below(8);
         name_map(&many(count, || texts::identifier(r)))
-    });
-    let locals = list(locals);
-    [
-        subsection(FUNCTIONS, &name_map(&names)),
-        subsection(LOCALS, &locals),
-    ]
-    .concat()
+    }));
+    [functions(&names), subsection(LOCALS, &locals)].concat()
 }
 
 fn hints(r: &mut Random) -> Vec<u8> {
@@ -121,6 +139,10 @@ mod tests {
 
     const FOUND: u32 = 1;
 
+    fn made() -> impl Iterator<Item = Payload> {
+        payloads().map(|name| payload(name).expect("it was named"))
+    }
+
     fn judged_by_both(payload: &Payload) -> [Told; 2] {
         let bytes = &payload.bytes;
         match payload.kind {
@@ -137,55 +159,46 @@ mod tests {
 
     #[test]
     fn both_readers_accept_them() {
-        for payload in all() {
-            let module = payload.module();
-            assert_eq!(library::walk(&module).length, 1, "{}", payload.name);
+        for payload in made() {
+            let name = &payload.name;
+            assert_eq!(library::walk(&payload.module()).length, 1, "{name}");
+            let length = payload.bytes.len() as u64;
             for told in judged_by_both(&payload) {
-                let accepted = (told.kind, told.length);
-                assert_eq!(
-                    accepted,
-                    (FOUND, payload.bytes.len() as u64),
-                    "{}",
-                    payload.name
-                );
+                assert_eq!((told.kind, told.length), (FOUND, length), "{name}");
             }
         }
     }
 
-    /// How many functions are named, in about how many bytes of text each.
+    /// How many functions are named, in how many bytes of text each.
     #[test]
     fn function_names_have_the_intended_sizes() {
-        let expected = [
+        let near = |is: f64, meant: usize| (is / meant as f64 - 1.0).abs() < 0.03;
+        for (name, count, length) in [
             ("go", 14_000, 43),
             ("c++", 1_000, 165),
-            ("rust-v0", 1_700, 101),
+            ("rust-v0", 1_610, 107),
             ("one-letter", 150_000, 1),
             ("two-byte", 1_000, 100),
             ("three-byte", 1_011, 99),
             ("four-byte", 1_000, 100),
             ("one-long-name", 1, 600_000),
-        ];
-        let payloads = all();
-        for (name, count, bytes) in expected {
-            let payload = payloads.iter().find(|payload| payload.name == name);
-            let payload = payload.expect("there is such a payload");
+        ] {
+            let payload = payload(name).expect("there is such a payload");
             let lists = FunctionMap::of(&payload.bytes).expect("functions").lists;
-            let mean = lists.text.len() as f64 / lists.indices.len() as f64;
-            let near = |is: f64, meant: f64| (is / meant - 1.0).abs() < 0.03;
-            println!("{name}: {} of {mean}", lists.indices.len());
-            assert!(near(mean, bytes as f64), "{name}: {mean} bytes a name");
-            let named = lists.indices.len();
-            assert!(near(named as f64, count as f64), "{name}: {named} names");
+            let named = lists.indices.len() as f64;
+            let mean = lists.text.len() as f64 / named;
+            assert!(near(named, count), "{name}: {named} names");
+            assert!(near(mean, length), "{name}: {mean} bytes a name");
         }
     }
 
     #[test]
-    fn the_last_branch_has_a_hint() {
-        let hints = hints(&mut random());
+    fn the_last_branch_has_the_last_hint() {
+        let hints = payload("hints").expect("there is such a payload").bytes;
+        let hint = |function, offset| library::hint(&hints, function, offset).kind;
         let (function, offset) = LAST_BRANCH;
-        let likely_or_not = library::hint(&hints, function, offset).kind;
-        assert!([3, 4].contains(&likely_or_not));
-        assert_eq!(library::hint(&hints, function, offset + STRIDE).kind, 0);
-        assert_eq!(library::hint(&hints, function + 1, STRIDE).kind, 0);
+        assert!([3, 4].contains(&hint(function, offset)));
+        assert_eq!(hint(function, offset + STRIDE), 0);
+        assert_eq!(hint(function + 1, STRIDE), 0);
     }
 }

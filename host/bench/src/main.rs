@@ -16,7 +16,6 @@ mod texts;
 
 use std::process::ExitCode;
 
-use payload::Payload;
 use table::Row;
 
 // The crate that links the library is used for nothing else here.
@@ -33,7 +32,7 @@ fn main() -> ExitCode {
     let arguments: Vec<String> = std::env::args().skip(1).collect();
     let words: Vec<&str> = arguments.iter().map(String::as_str).collect();
     let said = match words[..] {
-        ["payloads"] => Ok(names(&payload::all())),
+        ["payloads"] => Ok(payload::names().join("\n") + "\n"),
         ["run", name] => run(name),
         ["table", counts] => rows(counts).map(|rows| table::aligned(&rows)),
         ["lines", counts] => rows(counts).map(|rows| table::tab_separated(&rows)),
@@ -51,17 +50,11 @@ fn main() -> ExitCode {
     }
 }
 
-fn names(payloads: &[Payload]) -> String {
-    payloads.iter().map(|p| p.name.clone() + "\n").collect()
-}
-
 fn run(name: &str) -> Result<String, String> {
-    let payloads = payload::all();
-    let payload = payloads.iter().find(|payload| payload.name == name);
-    let payload = payload
-        .ok_or_else(|| format!("There is no payload '{name}': `bench payloads` lists them."))?;
-    let operations = measuring::measure(payload)?;
-    Ok(table::mapping(payload, &operations))
+    let unknown = || format!("There is no payload '{name}': `bench payloads` lists them.");
+    let payload = payload::named(name).ok_or_else(unknown)?;
+    let operations = measuring::measure(&payload)?;
+    Ok(table::mapping(&payload, &operations))
 }
 
 fn rows(path: &str) -> Result<Vec<Row>, String> {

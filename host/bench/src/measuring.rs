@@ -15,7 +15,7 @@ const UNTOUCHED: u8 = 0xEE;
 type Compared = (Operation, bool);
 
 /// Counts one call of each reader in its region. They agree if they answer alike.
-macro_rules! ask {
+macro_rules! asked {
     ($operation:expr, $call:ident($($argument:expr),*) where $lent:pat_param = $input:expr) => {{
         const LIBRARY: u8 = region($operation, Who::Library);
         const READER: u8 = region($operation, Who::SecondReader);
@@ -26,7 +26,7 @@ macro_rules! ask {
 }
 
 /// The same for calls that write, each into an output of its own. They agree if they leave the outputs alike, too.
-macro_rules! write {
+macro_rules! written {
     ($operation:expr, $call:ident($($argument:expr),*) where $lent:pat_param = $input:expr, $out:ident of $room:expr) => {{
         const LIBRARY: u8 = region($operation, Who::Library);
         const READER: u8 = region($operation, Who::SecondReader);
@@ -48,7 +48,7 @@ pub fn measure(payload: &Payload) -> Result<Vec<Operation>, String> {
         Kind::Names => compared.extend(names(&payload.bytes)),
         Kind::Hints => compared.extend(hints(&payload.bytes)),
     }
-    let agreed = |(operation, alike): (Operation, bool)| match alike {
+    let agreed = |(operation, alike): Compared| match alike {
         true => Ok(operation),
         false => Err(format!(
             "The library and the second reader differ: {} of {}.",
@@ -60,7 +60,7 @@ pub fn measure(payload: &Payload) -> Result<Vec<Operation>, String> {
 }
 
 fn walk(module: &[u8]) -> Compared {
-    ask!(Operation::Walk, walk(lent) where lent = module)
+    asked!(Operation::Walk, walk(lent) where lent = module)
 }
 
 fn names(payload: &[u8]) -> Vec<Compared> {
@@ -75,21 +75,21 @@ fn names(payload: &[u8]) -> Vec<Compared> {
 }
 
 fn judge(payload: &[u8]) -> Compared {
-    ask!(Operation::Judge, names_judge(lent) where lent = payload)
+    asked!(Operation::Judge, names_judge(lent) where lent = payload)
 }
 
 fn look_up(payload: &[u8], last: u32) -> Compared {
-    ask!(Operation::LookUp, function_name(lent, last) where (lent, last) = (payload, last))
+    asked!(Operation::LookUp, function_name(lent, last) where (lent, last) = (payload, last))
 }
 
 fn rewrite(payload: &[u8]) -> Compared {
     let room = payload.len();
-    write!(Operation::Rewrite, names_canonical(lent, out) where lent = payload, out of room)
+    written!(Operation::Rewrite, names_canonical(lent, out) where lent = payload, out of room)
 }
 
 fn write_from_lists(lists: &Lists, room: usize) -> Compared {
     let lists = (&lists.indices[..], &lists.lengths[..], &lists.text[..]);
-    write!(
+    written!(
         Operation::WriteFromLists,
         function_names_write(indices, lengths, text, out)
         where (indices, lengths, text) = lists, out of room
@@ -105,11 +105,11 @@ fn hints(payload: &[u8]) -> Vec<Compared> {
 }
 
 fn judge_hints(payload: &[u8]) -> Compared {
-    ask!(Operation::JudgeHints, hints_judge(lent) where lent = payload)
+    asked!(Operation::JudgeHints, hints_judge(lent) where lent = payload)
 }
 
 fn look_hint_up(payload: &[u8], branch: (u32, u32)) -> Compared {
-    ask!(
+    asked!(
         Operation::LookHintUp,
         hint(lent, function, offset)
         where (lent, (function, offset)) = (payload, branch)
@@ -118,5 +118,23 @@ fn look_hint_up(payload: &[u8], branch: (u32, u32)) -> Compared {
 
 fn rewrite_hints(payload: &[u8]) -> Compared {
     let room = payload.len();
-    write!(Operation::RewriteHints, hints_canonical(lent, out) where lent = payload, out of room)
+    written!(Operation::RewriteHints, hints_canonical(lent, out) where lent = payload, out of room)
+}
+
+#[cfg(test)]
+mod tests {
+    use super::*;
+    use crate::payload;
+
+    #[test]
+    fn the_readers_agree_on_every_operation() {
+        let mut operations = vec![];
+        for name in payload::names() {
+            let payload = payload::named(&name).expect("it was named");
+            operations.extend(measure(&payload).expect("they agree"));
+        }
+        for last in [Operation::WriteFromLists, Operation::RewriteHints] {
+            assert!(operations.contains(&last), "{} was not tried", last.words());
+        }
+    }
 }

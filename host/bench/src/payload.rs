@@ -1,4 +1,4 @@
-//! A payload, and all that are measured.
+//! A payload, and the names of all that are measured.
 
 use crate::{bytes, fixtures, made};
 
@@ -33,9 +33,18 @@ impl Payload {
     }
 }
 
-/// Every payload: the made ones, then the fixtures'.
-pub fn all() -> Vec<Payload> {
-    let mut payloads = made::all();
-    payloads.extend(fixtures::all());
-    payloads
+/// The names of all payloads: the made ones, then those of the fixtures.
+pub fn names() -> Vec<String> {
+    let made = made::payloads().map(str::to_string);
+    let of_fixtures = fixtures::payloads().into_iter().map(|payload| payload.name);
+    made.chain(of_fixtures).collect()
+}
+
+/// The payload of a name.
+pub fn named(name: &str) -> Option<Payload> {
+    let of_fixtures = || {
+        let mut payloads = fixtures::payloads().into_iter();
+        payloads.find(|payload| payload.name == name)
+    };
+    made::payload(name).or_else(of_fixtures)
 }

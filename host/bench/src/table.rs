@@ -30,18 +30,13 @@ pub struct Row {
 pub fn rows(counts: &str) -> Result<Vec<Row>, String> {
     let lines: Vec<&str> = counts.lines().collect();
     let mut rows = vec![];
-    for run in runs(&lines) {
+    for run in lines.chunk_by(|_, next| !next.starts_with("payload\t")) {
         rows.extend(Run::of(run)?.rows()?);
     }
     match rows.is_empty() {
         true => Err("There are no counts.".to_string()),
         false => Ok(rows),
     }
-}
-
-/// The lines of each run, from the line of its payload on.
-fn runs<'a, 'b>(lines: &'a [&'b str]) -> impl Iterator<Item = &'a [&'b str]> {
-    lines.chunk_by(|_, next| !next.starts_with("payload\t"))
 }
 
 /// One run: a payload, and the lines that follow it.

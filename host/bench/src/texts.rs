@@ -79,7 +79,7 @@ fn with_length(identifier: &str) -> String {
     format!("{}{identifier}", identifier.len())
 }
 
-/// A nested name with the arguments of its template: `_ZN4node6streamI5valueNS_5rangeEE..Ev`.
+/// A member of a class template: `_ZN4absl12lts_2024011618container_internal5rangeINS_4nodeENS_5valueEE6appendERKS2_`.
 pub fn cpp(r: &mut Random) -> String {
     let mut text = String::from("_ZN4absl12lts_2024011618container_internal");
     text.push_str(&with_length(&words(r, 2)));
@@ -94,23 +94,20 @@ pub fn cpp(r: &mut Random) -> String {
     text
 }
 
-/// A function generic over a type of another crate: `_RINvNtCs..._4core3ptr4readNtNtCs..._5alloc6string6StringE`.
+/// A function generic over a type of another crate:
+/// `_RINvNtCs.._4core3ptr4readNtNtCs.._5alloc6string6StringE`.
 pub fn rust_v0(r: &mut Random) -> String {
-    let function = rust_path(r);
-    let of_type = rust_path(r);
-    format!(
-        "_RINvMs{}_Nt{function}{}Nt{of_type}E",
-        r.below(10),
-        with_length(&words(r, 2))
-    )
+    let (function, of_type) = (rust_path(r), rust_path(r));
+    format!("_RINv{function}Nt{of_type}E")
 }
 
-/// A module in a crate, which has its hash in base 62.
+/// What a module of a crate defines. The crate has its hash in base 62.
 fn rust_path(r: &mut Random) -> String {
     const DIGITS: &[u8; 62] = b"0123456789abcdefghijklmnopqrstuvwxyzABCDEFGHIJKLMNOPQRSTUVWXYZ";
     let hash: String = (0..11).map(|_| char::from(r.one_of(DIGITS))).collect();
-    let (in_crate, module) = (with_length(&words(r, 1)), with_length(&words(r, 2)));
-    format!("NtCs{hash}_{in_crate}{module}")
+    let in_crate = with_length(&words(r, 1));
+    let (module, defined) = (with_length(&words(r, 2)), with_length(&words(r, 2)));
+    format!("NtCs{hash}_{in_crate}{module}{defined}")
 }
 
 pub fn letter(r: &mut Random) -> String {
