@@ -2,5 +2,6 @@ pub mod NumberLoop
 pub mod Laws
 pub mod PartSteps
 pub mod TextLaws
+pub mod AsciiLaws
 pub mod Same
 pub mod TakenLaws

@@ -12,7 +12,7 @@ use Rattle.format.specs.Reading.{Outcome, got, stop, andThen, return}
 use Rattle.format.specs.Numbers.{groups, number, limit32}
 use Rattle.format.specs.Laws.Numbers.{limit}
 use Rattle.format.specs.declared.Reason.the-variants.{PastItsPart, NumberTooLarge}
-use Rattle.reading.specs.Cursors.{NumberReads}
+use Rattle.reading.specs.Cursors.{Inside, NumberReads}
 use Rattle.reading.specs.declared.Cursor.{Cursor}
 use Rattle.reading.specs.declared.NumberRead.the-variants.{Value, Refused}
 
@@ -132,3 +132,11 @@ module _ {s : List ℕ} {c : Cursor} {value weight i : ℕ} where
   number-runs-out n h = let q : i ≡ c .end = omega (arith, n .high) in record { means = sym (rw (q, slice-empty) at (n .same)); same-part = tt }
 
 pub ruleset number-turns = (number-begins, group-product, group-sum, next-weight, fifth-product, fifth-sum, last-product, last-sum, number-goes-on, number-ends, fifth-ends, number-too-large, number-runs-out, needs)
+
+-- a number of one byte
+pub one-byte : {s : List ℕ} {c : Cursor} {b : ℕ} → Inside s c → c .at < c .end → b ≡ getD s (c .at) 0 → b < 128 → NumberReads s c (Value b (record { at = c .at + 1; end = c .end }))
+one-byte {s} {c} {b} i h is l =
+    let same : 0 + 1 * b ≡ b = omega arith in
+    rw same at (number-ends (number-begins s (c .at) (c .end) (i .ahead)) is h (i .within) (λ q. absurd (omega arith)) l)
+
+pub ruleset first-byte = (one-byte, needs)

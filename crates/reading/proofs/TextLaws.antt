@@ -104,5 +104,3 @@ module _ {s : List ℕ} {start end : ℕ} where
     turn-end p =
         let t : i ≡ end = omega arith in
         may-end want ∙ sym (u .rest ∙ rw (t, slice-empty))
-
-pub ruleset turns = (turn-first, turn-step, turn-end)

@@ -35,8 +35,25 @@ pub fn wide(x: u8) -> u32
 }
 
 impl Cursor {
-    // A number: at most 5 bytes, the fifth at most 0x0F.
+    // A number: at most 5 bytes, the fifth at most 0x0F. Most have one byte.
     pub fn number(self, s: &[u8]) -> NumberRead
+        requires { ⌜ Inside (now s) self ⌝ }
+        ensures { λ r. ⌜ NumberReads (now (s .entry)) self r ⌝ }
+    {
+        let at = self.at;
+        let end = self.end;
+        if end <= at {
+            return self.long_number(s);
+        }
+        let first = wide(s[at]);
+        if 128 <= first {
+            return self.long_number(s);
+        }
+        NumberRead::Value(first, Cursor { at: at + 1, end })
+    }
+
+    // A number of any length.
+    fn long_number(self, s: &[u8]) -> NumberRead
         requires { ⌜ Inside (now s) self ⌝ }
         ensures { λ r. ⌜ NumberReads (now (s .entry)) self r ⌝ }
     {

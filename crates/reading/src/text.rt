@@ -1,10 +1,10 @@
 // Valid UTF-8, by byte ranges.
 ghost use mathlib.Core.Path.{_≡_};
-ghost use Prim.Native.Nat.{_≤_};
+ghost use Prim.Native.Nat.{_+_, _≤_};
 ghost use lib.ListN.{length};
 ghost use lib.Seq.{slice};
 ghost use Rattle.format.specs.Text.{utf8, following, wellFormed};
-ghost use Rattle.reading.specs.Wanted.{ranges, rangesOf, Leaves};
+ghost use Rattle.reading.specs.Wanted.{ranges, rangesOf, Leaves, asciiRun, AsciiUpTo};
 
 // What a text has to go on with: `more` bytes, the first of them from `low` to `high`, the others from 0x80 to 0xBF.
 struct Wanted {
@@ -82,6 +82,47 @@ fn after(want: Wanted, b: u8) -> Wanted
     bytes(want.more - 1, 0x80, 0xBF)
 }
 
+// How many bytes are looked at together.
+const BLOCK: usize = 16;
+
+// Whether sixteen bytes are ASCII. Every comparison is made, so that they become one load and one test.
+fn is_ascii_block(s: &[u8], i: usize) -> bool
+    requires { ⌜ i + 16 ≤ length (now s) ⌝ }
+    ensures { λ r. ⌜ r ≡ asciiRun (now (s .entry)) i 15 ⌝ }
+{
+    (s[i] < 0x80)
+        & (s[i + 1] < 0x80)
+        & (s[i + 2] < 0x80)
+        & (s[i + 3] < 0x80)
+        & (s[i + 4] < 0x80)
+        & (s[i + 5] < 0x80)
+        & (s[i + 6] < 0x80)
+        & (s[i + 7] < 0x80)
+        & (s[i + 8] < 0x80)
+        & (s[i + 9] < 0x80)
+        & (s[i + 10] < 0x80)
+        & (s[i + 11] < 0x80)
+        & (s[i + 12] < 0x80)
+        & (s[i + 13] < 0x80)
+        & (s[i + 14] < 0x80)
+        & (s[i + 15] < 0x80)
+}
+
+// Where the ASCII that begins at `from` ends, as far as whole blocks tell.
+fn after_ascii(s: &[u8], from: usize, to: usize) -> usize
+    requires { ⌜ (from ≤ to) × (to ≤ length (now s)) ⌝ }
+    ensures { λ r. ⌜ AsciiUpTo (now (s .entry)) from to r ⌝ }
+{
+    let mut i = from;
+    while BLOCK <= to - i {
+        if !is_ascii_block(s, i) {
+            return i;
+        }
+        i += BLOCK;
+    }
+    i
+}
+
 // Whether the bytes from `from` to `to` are valid UTF-8.
 pub fn is_text(s: &[u8], from: usize, to: usize) -> bool
     requires { ⌜ (from ≤ to) × (to ≤ length (now s)) ⌝ }
@@ -92,7 +133,7 @@ pub fn is_text(s: &[u8], from: usize, to: usize) -> bool
         low: 1,
         high: 0,
     };
-    let mut i = from;
+    let mut i = after_ascii(s, from, to);
     while i < to {
         want = after(want, s[i]);
         i += 1;

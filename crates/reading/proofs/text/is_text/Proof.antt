@@ -1,7 +1,6 @@
--- The loop: at each turn the bytes left decide, given what is wanted. The measure is how many are left.
 use Prim.Native.Nat.{_-_}
-use borrow.Author.Needs.{needs}
-use Rattle.reading.proofs.TextLaws.{Turn, turns}
+use Rattle.reading.proofs.AsciiLaws.{turns}
+use Rattle.reading.proofs.TextLaws.{Turn}
 use Rattle.reading.proofs.text.is_text.Statement.{statement}
 use Rattle.reading.proofs.text.is_text.Tie as tie
 
@@ -11,20 +10,23 @@ Inv-loop s from to want₀ i₀ want i = Turn s from to want i
 abbrev μ-loop : tie.MeasureT-loop
 μ-loop s from to want₀ i₀ want i = to - i
 
+after-ascii-requires : tie.Need-after-ascii-requires Inv-loop μ-loop
+after-ascii-requires c κs = search turns
+
 loop-holds : tie.Need-loop-holds Inv-loop μ-loop
 loop-holds c = search turns
 
 shared-slice-read-after : tie.Need-shared-slice-read-after Inv-loop μ-loop
-shared-slice-read-after c = search needs
+shared-slice-read-after c = search turns
 
 after-requires : tie.Need-after-requires Inv-loop μ-loop
-after-requires c κs = search needs
+after-requires c κs = search turns
 
 add-i : tie.Need-add-i Inv-loop μ-loop
-add-i c = search needs
+add-i c = search turns
 
 loop-less : tie.Need-loop-less Inv-loop μ-loop
-loop-less c = search needs
+loop-less c = search turns
 
 loop-again : tie.Need-loop-again Inv-loop μ-loop
 loop-again c = search turns
@@ -38,6 +40,7 @@ is-text-spec =
     (tie.spec
     Inv-loop
     μ-loop
+    after-ascii-requires
     loop-holds
     shared-slice-read-after
     after-requires
