@@ -1,5 +1,5 @@
 -- What was accepted, taken apart: a row and the rows behind it, a table and its rows. Nothing here is about code.
-use Prim.Native.Nat.{ℕ, suc, _+_, _≤_, _<_}
+use Prim.Native.Nat.{ℕ, suc, _+_, _-_, _≤_, _<_}
 use mathlib.Core.Bool.{false}
 use mathlib.Core.List.{List, [], _∷_, _++_, append-assoc}
 use mathlib.Core.Path.{_≡_, refl, sym, _∙_}
@@ -7,7 +7,7 @@ use native.Mathlib.Nat.{zero-add}
 use native.Mathlib.Omega.{arith}
 use borrow.Author.Tests.{ne-eqb}
 use lib.Dec.{eqb}
-use lib.ListN.{length, length-append}
+use lib.ListN.{length, take, drop, length-append}
 use lib.Seq.{length-slice}
 use Rattle.format.specs.Reading.{got, Reader}
 use Rattle.format.specs.Numbers.{number, shortest, limit32}
@@ -22,6 +22,7 @@ use Rattle.format.specs.Laws.Tables.{size-keep, kept-rows, rows-shorter as rows
 use Rattle.reading.specs.Cursors.{Inside, left}
 use Rattle.reading.specs.declared.Cursor.{Cursor}
 use Rattle.reading.proofs.Laws.{reached}
+use Rattle.reading.proofs.PartSteps.{take-drop}
 use Rattle.reading.proofs.Same.{same-cursor}
 use Rattle.copying.specs.Bytes.{bareRows, rowsOf, groupOf, groupLength, oneIfSome, keptGroups, groupsOf}
 use Rattle.copying.specs.Standing.{Stands, Known}
@@ -122,6 +123,12 @@ rows-row k p t = refl
 pub rows-nil : rowsOf nil ≡ []
 unfolding rowsOf writeRows mapTable
 rows-nil = refl
+
+-- what the code cuts out at a cursor is what the cursor has left
+pub cut-left : {s : List ℕ} {c : Cursor} → Inside s c → take (c .end - c .at) (drop (c .at) s) ≡ left s c
+cut-left {s} {c} i =
+    let far : c .at + (c .end - c .at) ≡ c .end = omega (arith, i .ahead) in
+    take-drop (c .at) (c .end - c .at) s ∙ rw far
 
 -- how long a part's bytes are, and that they are no longer than what was read
 pub part-length : {s : List ℕ} {c : Cursor} → Inside s c → length (left s c) + c .at ≡ c .end

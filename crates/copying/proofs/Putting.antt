@@ -13,14 +13,13 @@ use Rattle.format.specs.Canonical.{writePart}
 use Rattle.format.specs.Laws.Passing.{sized-passes}
 use Rattle.reading.specs.Cursors.{left, partOf}
 use Rattle.reading.specs.declared.Cursor.{Cursor}
-use Rattle.reading.proofs.PartSteps.{take-drop}
 use Rattle.writing.specs.Wrote.{Wrote}
 use Rattle.writing.proofs.Laws.{wrote-nothing, wrote-join, wrote-length}
 use Rattle.copying.specs.Bytes.{rowsOf, groupOf, groupsOf}
 use Rattle.copying.specs.Standing.{Stands, Known, TakesPart, FitsPart, Fits, Puts}
 use Rattle.copying.specs.declared.Piece.{Piece}
 use Rattle.copying.specs.declared.Put.{Put}
-use Rattle.copying.proofs.Laws.{one-value, no-rows, no-way, table-passable, known-count, table-rows, rows-table, rows-row, rows-nil, part-fits, rows-count, groups-nil, groups-row, group-bytes, group-nil}
+use Rattle.copying.proofs.Laws.{one-value, cut-left, no-rows, no-way, table-passable, known-count, table-rows, rows-table, rows-row, rows-nil, part-fits, rows-count, groups-nil, groups-row, group-bytes, group-nil}
 use Rattle.copying.proofs.Along.{Along, Onward, setting-out, ended, index-known, value-known, onward}
 
 -- A part
@@ -31,12 +30,6 @@ module _ {s : List ℕ} {part : Cursor} {old : List ℕ} {at : ℕ} (f : FitsPar
   whole-is : length (writePart (left s part)) ≡ length (shortest (part .end - part .at)) + length (left s part)
   unfolding writePart
   whole-is = simp length-append (rw size-is)
-
-  -- what stands there, as the code cuts it out
-  part-is : take (part .end - part .at) (drop (part .at) s) ≡ left s part
-  part-is =
-      let far : part .at + (part .end - part .at) ≡ part .end = omega (arith, f .inside .ahead) in
-      take-drop (part .at) (part .end - part .at) s ∙ rw far
 
   pub part-ordered : part .at ≤ part .end
   part-ordered = f .inside .ahead
@@ -52,11 +45,11 @@ module _ {s : List ℕ} {part : Cursor} {old : List ℕ} {at : ℕ} (f : FitsPar
 
   module _ {mid : List ℕ} {text : ℕ} (w : Wrote old mid at text (shortest (part .end - part .at))) where
     pub part-text-room : text + length (take (part .end - part .at) (drop (part .at) s)) ≤ length mid
-    part-text-room = rw part-is (omega (arith, f .room, whole-is, w .next-is, wrote-length w))
+    part-text-room = rw (cut-left (f .inside)) (omega (arith, f .room, whole-is, w .next-is, wrote-length w))
 
     pub part-put : {new : List ℕ} {next : ℕ} → Wrote mid new text next (take (part .end - part .at) (drop (part .at) s)) → Wrote old new at next (writePart (left s part))
     unfolding writePart
-    part-put v = rw (← size-is) (wrote-join w (rw part-is at v))
+    part-put v = rw (← size-is) (wrote-join w (rw (cut-left (f .inside)) at v))
 
 pub ruleset part-putting = (part-ordered, part-within, part-small, part-number-room, part-text-room, part-put, wrote-length, needs)
 

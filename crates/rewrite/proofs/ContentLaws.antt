@@ -11,7 +11,7 @@ use Rattle.format.specs.Reading.{Reader, filling}
 use Rattle.format.specs.Numbers.{number, shortest}
 use Rattle.format.specs.Parts.{Part, sized, name, remaining}
 use Rattle.format.specs.Tables.{Table, nil, row, size, rows, table}
-use Rattle.format.specs.Names.{oneName, nameMap, indirectMap, kept, Content, single, names, namesBy, whole, contents}
+use Rattle.format.specs.Names.{Kind, oneName, nameMap, indirectMap, kept, Content, single, names, namesBy, whole, contents}
 use Rattle.format.specs.Canonical.{writeTable, unlessEmpty, keepRows, bareItems, bare, trim, writeContent}
 use Rattle.format.specs.Laws.Outcomes.{got-value, inTurn}
 use Rattle.format.specs.Laws.Numbers.{shortest-mono}
@@ -69,6 +69,18 @@ module _ {s : List ℕ} {part : Cursor} {c : Content Part} where
   unfolding contents remaining
   whole-is w = sym (got-value (w .reads))
 
+-- contents of a kind hold one thing only
+pub one-content : {kind : Kind} {s : List ℕ} {part : Cursor} {c d : Content Part} → ContentStands kind s part c → ContentStands kind s part d → c ≡ d
+one-content a b = got-value (sym (a .reads) ∙ b .reads)
+
+-- behind its count stand the rows of a map, and the groups of an indirect map
+module _ {s : List ℕ} {part : Cursor} {c : Content Part} {n : ℕ} {d : Cursor} (i : Stands number s part n d) where
+  pub map-rows : (w : ContentStands nameMap s part c) → Stands (rows sized n 0) s d (map-made w .inner) (map-made w .next)
+  map-rows w = table-rows sized i (map-made w .stands)
+
+  pub groups-rows : (w : ContentStands indirectMap s part c) → Stands (rows (table sized) n 0) s d (groups-made w .inner) (groups-made w .next)
+  groups-rows w = table-rows (table sized) i (groups-made w .stands)
+
 -- What is left of each kind, and its bytes
 module _ {A : Type 0} where
   gone : (t : Table A) → size t ≡ 0 → unlessEmpty t ≡ none
@@ -125,16 +137,13 @@ module _ {s : List ℕ} {part : Cursor} (k : KnownContent nameMap s part) where
   map-count = known-count sized (map-made (k .stands) .stands)
 
   module _ {n : ℕ} {d : Cursor} (i : Stands number s part n d) where
-    map-rows : Stands (rows sized n 0) s d (map-made (k .stands) .inner) (map-made (k .stands) .next)
-    map-rows = table-rows sized i (map-made (k .stands) .stands)
-
     pub map-known : Known (rows sized n 0) s d
-    map-known = record { value = _; next = _; stands = map-rows }
+    map-known = record { value = _; next = _; stands = map-rows i (k .stands) }
 
     pub map-nothing : n ≡ 0 → Trims nameMap s part Nothing
     map-nothing h =
         let m = map-made (k .stands) in
-        record { value = k .value; stands = k .stands; is = rw (m .is, map-gone (m .inner) (rows-count n 0 map-rows ∙ h)) }
+        record { value = k .value; stands = k .stands; is = rw (m .is, map-gone (m .inner) (rows-count n 0 (map-rows i (k .stands)) ∙ h)) }
 
     module _ {r : Measured} {a : ℕ} (w : Measures (rows sized n 0) rowsOf s d r) (e : a ≡ length (shortest n)) where
       pub map-fits : part .end < 2 ^ 64 → a + r .length < 2 ^ 64
@@ -144,8 +153,8 @@ module _ {s : List ℕ} {part : Cursor} (k : KnownContent nameMap s part) where
       unfolding countOf
       map-left h =
           let m = map-made (k .stands) in
-          let count : size (bareRows (m .inner)) ≡ n = rows-count n 0 map-rows in
-          let same : w .value ≡ m .inner = one-value (w .stands) map-rows in
+          let count : size (bareRows (m .inner)) ≡ n = rows-count n 0 (map-rows i (k .stands)) in
+          let same : w .value ≡ m .inner = one-value (w .stands) (map-rows i (k .stands)) in
           let long : a + r .length ≡ length (writeContent (names (bareRows (m .inner)))) = rw (map-bytes (m .inner)) (simp length-append (rw (count, ← same) (omega (arith, e, w .long)))) in
           record {
             value = k .value;
@@ -161,15 +170,12 @@ module _ {s : List ℕ} {part : Cursor} (k : KnownContent indirectMap s part) wh
   groups-count = known-count (table sized) (groups-made (k .stands) .stands)
 
   module _ {n : ℕ} {d : Cursor} (i : Stands number s part n d) where
-    groups-rows : Stands (rows (table sized) n 0) s d (groups-made (k .stands) .inner) (groups-made (k .stands) .next)
-    groups-rows = table-rows (table sized) i (groups-made (k .stands) .stands)
-
     pub groups-known : Known (rows (table sized) n 0) s d
-    groups-known = record { value = _; next = _; stands = groups-rows }
+    groups-known = record { value = _; next = _; stands = groups-rows i (k .stands) }
 
     module _ {r : Groups} (w : MeasuresGroups n s d r) where
       groups-same : w .value ≡ groups-made (k .stands) .inner
-      groups-same = one-value (w .stands) groups-rows
+      groups-same = one-value (w .stands) (groups-rows i (k .stands))
 
       pub groups-nothing : r .kept ≡ 0 → Trims indirectMap s part Nothing
       groups-nothing h =

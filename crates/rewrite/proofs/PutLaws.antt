@@ -12,23 +12,21 @@ use Rattle.format.specs.Tables.{Table, size, rows, table}
 use Rattle.format.specs.Names.{oneName, nameMap, indirectMap, kept, Content, single, names, namesBy, whole}
 use Rattle.format.specs.Canonical.{writePart, unlessEmpty, keepRows, bareItems, bare, trim, writeContent}
 use Rattle.format.specs.Laws.Options.{some-is, inThen}
-use Rattle.format.specs.Laws.Outcomes.{got-value}
 use Rattle.format.specs.Laws.Tables.{kept-rows}
 use Rattle.reading.specs.Cursors.{left, partOf}
 use Rattle.reading.specs.declared.Cursor.{Cursor}
-use Rattle.reading.proofs.PartSteps.{take-drop}
 use Rattle.writing.specs.Wrote.{Wrote}
 use Rattle.writing.proofs.Laws.{wrote-join, wrote-length}
 use Rattle.copying.specs.Bytes.{bareRows, rowsOf, keptGroups, groupsOf}
 use Rattle.copying.specs.Standing.{Stands, Known, TakesPart, FitsPart, Fits, Puts}
 use Rattle.copying.specs.declared.Piece.{Piece}
 use Rattle.copying.specs.declared.Put.{Put}
-use Rattle.copying.proofs.Laws.{one-value, known-count, table-rows, part-fits, rows-count}
+use Rattle.copying.proofs.Laws.{one-value, cut-left, known-count, part-fits, rows-count}
 use Rattle.names.specs.Contents.{kindMeant}
 use Rattle.names.specs.declared.kinds.Kind.{Kind}
 use Rattle.names.specs.declared.kinds.Kind.the-variants.{OneName, NameMap, IndirectMap, Kept}
-use Rattle.rewrite.specs.Contents.{ContentStands, countOf, FitsContent, Counted, PutsContent}
-use Rattle.rewrite.proofs.ContentLaws.{made-known, one-made, map-made, groups-made, whole-is, map-bytes, groups-bytes}
+use Rattle.rewrite.specs.Contents.{countOf, FitsContent, Counted, PutsContent}
+use Rattle.rewrite.proofs.ContentLaws.{made-known, one-made, map-made, groups-made, whole-is, one-content, map-rows, groups-rows, map-bytes, groups-bytes}
 
 -- What is left is what stands there, without what is empty
 one-remains : (p : Part) {d : Content (List ℕ)} → trim (bare (single p)) ≡ some d → d ≡ single (p .bytes)
@@ -46,11 +44,6 @@ groups-remain t e = inThen (unlessEmpty (keepRows unlessEmpty (bareItems t))) _ 
 whole-remains : (p : Part) {d : Content (List ℕ)} → trim (bare (whole p)) ≡ some d → d ≡ whole (p .bytes)
 unfolding bare
 whole-remains p e = sym (some-is e)
-
--- contents of a kind hold one thing only
-module _ {kind : _} {s : List ℕ} {part : Cursor} where
-  one-content : {c d : Content Part} → ContentStands kind s part c → ContentStands kind s part d → c ≡ d
-  one-content a b = got-value (sym (a .reads) ∙ b .reads)
 
 -- One name
 module _ {s : List ℕ} {part : Cursor} {old : List ℕ} {at : ℕ} (f : FitsContent oneName s part old at) where
@@ -79,14 +72,11 @@ module _ {s : List ℕ} {part : Cursor} {old : List ℕ} {at : ℕ} (f : FitsCon
   put-map-known = known-count sized (map-made (f .stands) .stands)
 
   module _ {n : ℕ} {d : Cursor} (i : Stands number s part n d) where
-    map-rows : Stands (rows sized n 0) s d (map-made (f .stands) .inner) (map-made (f .stands) .next)
-    map-rows = table-rows sized i (map-made (f .stands) .stands)
-
     bytes : writeContent (f .remains) ≡ shortest n ++ rowsOf (map-made (f .stands) .inner)
     bytes =
         let m = map-made (f .stands) in
         let d-is = map-remains (m .inner) (rw (m .is) at (f .is)) in
-        ap writeContent d-is ∙ map-bytes (m .inner) ∙ rw (rows-count n 0 map-rows)
+        ap writeContent d-is ∙ map-bytes (m .inner) ∙ rw (rows-count n 0 (map-rows i (f .stands)))
 
     long : length (writeContent (f .remains)) ≡ length (shortest n) + length (rowsOf (map-made (f .stands) .inner))
     long = ap length bytes ∙ length-append (shortest n) (rowsOf (map-made (f .stands) .inner))
@@ -96,11 +86,11 @@ module _ {s : List ℕ} {part : Cursor} {old : List ℕ} {at : ℕ} (f : FitsCon
 
     module _ {mid : List ℕ} {from : ℕ} (w : Wrote old mid at from (shortest n)) where
       pub put-map-rows-room : Fits (rows sized n 0) rowsOf s d mid from
-      put-map-rows-room = record { value = _; next = _; stands = map-rows; room = omega (arith, f .room, long, w .next-is, wrote-length w) }
+      put-map-rows-room = record { value = _; next = _; stands = map-rows i (f .stands); room = omega (arith, f .room, long, w .next-is, wrote-length w) }
 
       pub put-map : {new : List ℕ} {r : Put} → Puts (rows sized n 0) rowsOf s d mid new from r → PutsContent nameMap s part old new at (r .at)
       put-map p =
-          let same = one-value map-rows (p .stands) in
+          let same = one-value (map-rows i (f .stands)) (p .stands) in
           record { value = f .value; stands = f .stands; remains = f .remains; is = f .is; wrote = rw bytes (wrote-join w (rw same (p .wrote))) }
 
 pub ruleset map-put = (put-map-known, put-map-count-room, put-map-rows-room, put-map, wrote-length, needs)
@@ -127,16 +117,13 @@ module _ {s : List ℕ} {part : Cursor} {old : List ℕ} {at : ℕ} (f : FitsCon
     put-groups-count-room = omega (arith, f .room, groups-long)
 
     module _ {n : ℕ} {d : Cursor} (i : Stands number s part n d) where
-      groups-rows : Stands (rows (table sized) n 0) s d (groups-made (f .stands) .inner) (groups-made (f .stands) .next)
-      groups-rows = table-rows (table sized) i (groups-made (f .stands) .stands)
-
       module _ {mid : List ℕ} {from : ℕ} (w : Wrote old mid at from (shortest count)) where
         pub put-groups-room : Fits (rows (table sized) n 0) groupsOf s d mid from
-        put-groups-room = record { value = _; next = _; stands = groups-rows; room = omega (arith, f .room, groups-long, w .next-is, wrote-length w) }
+        put-groups-room = record { value = _; next = _; stands = groups-rows i (f .stands); room = omega (arith, f .room, groups-long, w .next-is, wrote-length w) }
 
         pub put-groups : {new : List ℕ} {r : Put} → Puts (rows (table sized) n 0) groupsOf s d mid new from r → PutsContent indirectMap s part old new at (r .at)
         put-groups p =
-            let same = one-value groups-rows (p .stands) in
+            let same = one-value (groups-rows i (f .stands)) (p .stands) in
             record { value = f .value; stands = f .stands; remains = f .remains; is = f .is; wrote = rw groups-bytes-are (wrote-join w (rw same (p .wrote))) }
 
 pub ruleset groups-put = (put-groups-known, put-groups-count-room, put-groups-room, put-groups, wrote-length, needs)
@@ -145,9 +132,7 @@ pub ruleset groups-put = (put-groups-known, put-groups-count-room, put-groups-ro
 module _ {s : List ℕ} {part : Cursor} {old : List ℕ} {at : ℕ} (f : FitsContent kept s part old at) where
   kept-bytes : writeContent (f .remains) ≡ take (part .end - part .at) (drop (part .at) s)
   unfolding writeContent
-  kept-bytes =
-      let far : part .at + (part .end - part .at) ≡ part .end = omega (arith, f .stands .inside .ahead) in
-      ap writeContent (whole-remains (partOf s part) (rw (whole-is (f .stands)) at (f .is))) ∙ sym (take-drop (part .at) (part .end - part .at) s ∙ rw far)
+  kept-bytes = ap writeContent (whole-remains (partOf s part) (rw (whole-is (f .stands)) at (f .is))) ∙ sym (cut-left (f .stands .inside))
 
   pub put-kept-ordered : part .at ≤ part .end
   put-kept-ordered = f .stands .inside .ahead

@@ -37,6 +37,7 @@ use Rattle.rewrite.specs.declared.contents.Left.{Left}
 use Rattle.rewrite.specs.declared.contents.Left.the-variants.{Nothing, Contents}
 use Rattle.rewrite.specs.declared.subsections.Frame.{Frame}
 use Rattle.rewrite.proofs.contents.Left as left-type
+use Rattle.rewrite.proofs.ContentLaws.{one-content}
 
 -- A subsection's length
 pub as-nothing : (x : Left) → tagOf left-type.the-type x ≡ 0 → x ≡ Nothing
@@ -205,7 +206,7 @@ module _ {s : List ℕ} {c next : Cursor} (t : Through s c next) (h : next .at <
 
     pub onward : {v : Content Part} → ContentStands (knownKind (r .id)) s (r .part) v → Onward v
     onward {v} w =
-        let same : front .content ≡ v = got-value (sym (content-stands .reads) ∙ w .reads) in
+        let same : front .content ≡ v = one-content content-stands w in
         record {
           through = record {
             all = t .all;

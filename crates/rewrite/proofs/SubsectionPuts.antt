@@ -13,7 +13,6 @@ use Rattle.format.specs.Parts.{Part}
 use Rattle.format.specs.Names.{Content, knownKind}
 use Rattle.format.specs.Canonical.{bare, trim, writePart, writeContent, rewriteNames}
 use Rattle.format.specs.Laws.Options.{some-is, not-some, byOption}
-use Rattle.format.specs.Laws.Outcomes.{got-value}
 use Rattle.format.specs.Laws.Outputs.{writes-short}
 use Rattle.format.specs.declared.Reason.the-variants.{OutputTooShort}
 use Rattle.format.specs.declared.Written.the-variants.{Length, Refused}
@@ -29,6 +28,7 @@ use Rattle.rewrite.specs.declared.contents.Left.{Left}
 use Rattle.rewrite.specs.declared.contents.Left.the-variants.{Contents}
 use Rattle.rewrite.specs.declared.subsections.Frame.{Frame}
 use Rattle.rewrite.proofs.contents.Left as left-type
+use Rattle.rewrite.proofs.ContentLaws.{one-content}
 use Rattle.rewrite.proofs.SubsectionLaws.{as-nothing, length-small, names-nil, names-row, trims-small, Through, setting-out, nothing-to-come, frame-known, frame-less, content-known, onward}
 
 -- What a measure says of contents: nothing is left, or something of these sizes
@@ -40,7 +40,7 @@ record Remains (c : Content Part) (z : Sizes) : Type 0 where
 
 module _ {kind : _} {s : List ℕ} {part : Cursor} {c : Content Part} (w : ContentStands kind s part c) (x : Left) (t : Trims kind s part x) where
   told : leftOf x ≡ mapSome sizesOf (trim (bare c))
-  told = t .is ∙ ap (λ (d : Content Part). mapSome sizesOf (trim (bare d))) (got-value (sym (t .stands .reads) ∙ w .reads))
+  told = t .is ∙ ap (λ (d : Content Part). mapSome sizesOf (trim (bare d))) (one-content (t .stands) w)
 
   nothing-left : tagOf left-type.the-type x ≡ 0 → trim (bare c) ≡ none
   nothing-left h =
@@ -99,7 +99,7 @@ module _ {id : ℕ} {s : List ℕ} {part : Cursor} {old : List ℕ} {at : ℕ} (
           pub sub-put : {new : List ℕ} {next : ℕ} → PutsContent (kindMeant kind) s part mid′ new from next → PutsSubsection id s part old new at next
           sub-put p =
               let l = left-here in
-              let same : p .remains ≡ l .remains = some-is (sym (p .is) ∙ ap (λ (d : Content Part). trim (bare d)) (got-value (sym (p .stands .reads) ∙ stands-here .reads)) ∙ l .is) in
+              let same : p .remains ≡ l .remains = some-is (sym (p .is) ∙ ap (λ (d : Content Part). trim (bare d)) (one-content (p .stands) stands-here) ∙ l .is) in
               record { value = f .value; stands = f .stands; wrote = rw bytes (wrote-join v (wrote-join w (rw same at (p .wrote)))) }
 
 pub ruleset subsection-put = (sub-known, sub-nothing, sub-small, sub-id-room, sub-counted, sub-size-room, sub-contents-room, sub-put, wrote-length, needs)
