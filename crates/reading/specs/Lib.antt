@@ -1,3 +1,3 @@
-pub mod Wanted
+pub mod Texts
 pub mod Cursors
 pub mod Taken

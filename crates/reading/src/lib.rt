@@ -6,6 +6,7 @@ use format::Offset;
 use format::Reason;
 use format::Refusal;
 
+mod ascii;
 pub mod taking;
 pub mod text;
 

@@ -1,142 +1,148 @@
 // Valid UTF-8, by byte ranges.
 ghost use mathlib.Core.Path.{_≡_};
-ghost use Prim.Native.Nat.{_+_, _≤_};
+ghost use Prim.Native.Nat.{_≤_, _<_};
 ghost use lib.ListN.{length};
 ghost use lib.Seq.{slice};
-ghost use Rattle.format.specs.Text.{utf8, following, wellFormed};
-ghost use Rattle.reading.specs.Wanted.{ranges, rangesOf, Leaves, asciiRun, AsciiUpTo};
+ghost use Rattle.format.specs.Text.{utf8, inRange};
+ghost use Rattle.reading.specs.Texts.{between, Begins, secondOf, Passes, Stands};
+use crate::ascii::after_ascii;
 
-// What a text has to go on with: `more` bytes, the first of them from `low` to `high`, the others from 0x80 to 0xBF.
-struct Wanted {
-    more: u8,
-    low: u8,
-    high: u8,
+// No character is longer.
+const LONGEST: usize = 4;
+
+fn is_between(b: u8, low: u8, high: u8) -> bool
+    ensures { λ r. ⌜ r ≡ inRange b (between low high) ⌝ }
+{
+    (low <= b) & (b <= high)
 }
 
-// What no byte meets.
-const NO_BYTE: Wanted = Wanted {
-    more: 1,
-    low: 1,
-    high: 0,
-};
-
-// So many bytes, the first of them in that range.
-fn bytes(more: u8, low: u8, high: u8) -> Wanted
-    ensures { λ r. ⌜ ranges r ≡ rangesOf more low high ⌝ }
+// Any byte of a character but the first two.
+fn is_later(b: u8) -> bool
+    ensures { λ r. ⌜ r ≡ inRange b (between 0x80 0xBF) ⌝ }
 {
-    Wanted { more, low, high }
+    is_between(b, 0x80, 0xBF)
 }
 
-// What has to follow the first byte of a character of several bytes. A byte that begins none is followed by none.
-fn after_first(b: u8) -> Wanted
-    requires { ⌜ 0x80 ≤ b ⌝ }
-    ensures { λ r. ⌜ ranges r ≡ following b wellFormed ⌝ }
+// The second byte: four first bytes allow only some, so that nothing is overlong, a surrogate or above U+10FFFF.
+fn is_second(first: u8, b: u8) -> bool
+    ensures { λ r. ⌜ r ≡ inRange b (secondOf first) ⌝ }
 {
-    if b < 0xC2 {
-        return NO_BYTE;
+    if first == 0xE0 {
+        return is_between(b, 0xA0, 0xBF);
     }
-    if b < 0xE0 {
-        return bytes(1, 0x80, 0xBF);
+    if first == 0xED {
+        return is_between(b, 0x80, 0x9F);
     }
-    if b < 0xE1 {
-        return bytes(2, 0xA0, 0xBF);
+    if first == 0xF0 {
+        return is_between(b, 0x90, 0xBF);
     }
-    if b < 0xED {
-        return bytes(2, 0x80, 0xBF);
+    if first == 0xF4 {
+        return is_between(b, 0x80, 0x8F);
     }
-    if b < 0xEE {
-        return bytes(2, 0x80, 0x9F);
-    }
-    if b < 0xF0 {
-        return bytes(2, 0x80, 0xBF);
-    }
-    if b < 0xF1 {
-        return bytes(3, 0x90, 0xBF);
-    }
-    if b < 0xF4 {
-        return bytes(3, 0x80, 0xBF);
-    }
-    if b < 0xF5 {
-        return bytes(3, 0x80, 0x8F);
-    }
-    NO_BYTE
+    is_later(b)
 }
 
-// What is wanted after the byte `b`, which came where `want` was wanted.
-fn after(want: Wanted, b: u8) -> Wanted
-    ensures { λ r. ⌜ Leaves want b r ⌝ }
+// A character of two bytes, by its first byte.
+fn two(s: &[u8], i: usize, to: usize) -> usize
+    requires { ⌜ Begins (now s) i to 0xC2 0xE0 ⌝ }
+    ensures { λ r. ⌜ Stands (now (s .entry)) i to r ⌝ }
 {
-    if want.more == 0 {
-        // ASCII wants no more either: the same `want` again keeps the loop short
-        if b < 0x80 {
-            return want;
+    if to - i < 2 {
+        return 0;
+    }
+    if is_later(s[i + 1]) {
+        return 2;
+    }
+    0
+}
+
+// Of three bytes.
+fn three(s: &[u8], i: usize, to: usize) -> usize
+    requires { ⌜ Begins (now s) i to 0xE0 0xF0 ⌝ }
+    ensures { λ r. ⌜ Stands (now (s .entry)) i to r ⌝ }
+{
+    if to - i < 3 {
+        return 0;
+    }
+    if is_second(s[i], s[i + 1]) {
+        if is_later(s[i + 2]) {
+            return 3;
         }
-        return after_first(b);
     }
-    if b < want.low {
-        return NO_BYTE;
-    }
-    if want.high < b {
-        return NO_BYTE;
-    }
-    bytes(want.more - 1, 0x80, 0xBF)
+    0
 }
 
-// How many bytes are looked at together.
-const BLOCK: usize = 16;
-
-// Whether sixteen bytes are ASCII. Every comparison is made, so that they become one load and one test.
-fn is_ascii_block(s: &[u8], i: usize) -> bool
-    requires { ⌜ i + 16 ≤ length (now s) ⌝ }
-    ensures { λ r. ⌜ r ≡ asciiRun (now (s .entry)) i 15 ⌝ }
+// Of four bytes.
+fn four(s: &[u8], i: usize, to: usize) -> usize
+    requires { ⌜ Begins (now s) i to 0xF0 0xF5 ⌝ }
+    ensures { λ r. ⌜ Stands (now (s .entry)) i to r ⌝ }
 {
-    (s[i] < 0x80)
-        & (s[i + 1] < 0x80)
-        & (s[i + 2] < 0x80)
-        & (s[i + 3] < 0x80)
-        & (s[i + 4] < 0x80)
-        & (s[i + 5] < 0x80)
-        & (s[i + 6] < 0x80)
-        & (s[i + 7] < 0x80)
-        & (s[i + 8] < 0x80)
-        & (s[i + 9] < 0x80)
-        & (s[i + 10] < 0x80)
-        & (s[i + 11] < 0x80)
-        & (s[i + 12] < 0x80)
-        & (s[i + 13] < 0x80)
-        & (s[i + 14] < 0x80)
-        & (s[i + 15] < 0x80)
+    if to - i < 4 {
+        return 0;
+    }
+    if is_second(s[i], s[i + 1]) {
+        if is_later(s[i + 2]) {
+            if is_later(s[i + 3]) {
+                return 4;
+            }
+        }
+    }
+    0
 }
 
-// Where the ASCII that begins at `from` ends, as far as whole blocks tell.
-fn after_ascii(s: &[u8], from: usize, to: usize) -> usize
+// How many bytes the character has that stands at `i`; 0 where none does.
+fn character(s: &[u8], i: usize, to: usize) -> usize
+    requires { ⌜ (i < to) × (to ≤ length (now s)) ⌝ }
+    ensures { λ r. ⌜ Stands (now (s .entry)) i to r ⌝ }
+{
+    let first = s[i];
+    if first < 0x80 {
+        return 1;
+    }
+    if first < 0xE0 {
+        if first < 0xC2 {
+            return 0;
+        }
+        return two(s, i, to);
+    }
+    if first < 0xF0 {
+        return three(s, i, to);
+    }
+    if first < 0xF5 {
+        return four(s, i, to);
+    }
+    0
+}
+
+// As far as characters go, up to where one could be cut short: until there none has to look for the end.
+fn after_characters(s: &[u8], from: usize, to: usize) -> usize
     requires { ⌜ (from ≤ to) × (to ≤ length (now s)) ⌝ }
-    ensures { λ r. ⌜ AsciiUpTo (now (s .entry)) from to r ⌝ }
+    ensures { λ r. ⌜ Passes (now (s .entry)) from to r ⌝ }
 {
     let mut i = from;
-    while BLOCK <= to - i {
-        if !is_ascii_block(s, i) {
+    while LONGEST <= to - i {
+        let n = character(s, i, to);
+        if n == 0 {
             return i;
         }
-        i += BLOCK;
+        i += n;
     }
     i
 }
 
-// Whether the bytes from `from` to `to` are valid UTF-8.
+// Whether the bytes from `from` to `to` are valid UTF-8. Most text is all ASCII.
 pub fn is_text(s: &[u8], from: usize, to: usize) -> bool
     requires { ⌜ (from ≤ to) × (to ≤ length (now s)) ⌝ }
     ensures { λ r. ⌜ r ≡ utf8 (slice from to (now (s .entry))) ⌝ }
 {
-    let mut want = Wanted {
-        more: 0,
-        low: 1,
-        high: 0,
-    };
-    let mut i = after_ascii(s, from, to);
+    let near = after_ascii(s, from, to);
+    let mut i = after_characters(s, near, to);
     while i < to {
-        want = after(want, s[i]);
-        i += 1;
+        let n = character(s, i, to);
+        if n == 0 {
+            return false;
+        }
+        i += n;
     }
-    want.more == 0
+    true
 }

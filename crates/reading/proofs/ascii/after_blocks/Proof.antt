@@ -1,11 +1,11 @@
 use Prim.Native.Nat.{_-_}
-use Rattle.reading.specs.Wanted.{AsciiUpTo}
+use Rattle.reading.specs.Texts.{Passes}
 use Rattle.reading.proofs.AsciiLaws.{runs}
-use Rattle.reading.proofs.text.after_ascii.Statement.{statement}
-use Rattle.reading.proofs.text.after_ascii.Tie as tie
+use Rattle.reading.proofs.ascii.after_blocks.Statement.{statement}
+use Rattle.reading.proofs.ascii.after_blocks.Tie as tie
 
 abbrev Inv-loop : tie.InvT-loop
-Inv-loop s from to i₀ i = AsciiUpTo s from to i
+Inv-loop s from to i₀ i = Passes s from to i
 
 abbrev μ-loop : tie.MeasureT-loop
 μ-loop s from to i₀ i = to - i
@@ -16,8 +16,8 @@ loop-holds c = search runs
 sub-loop : tie.Need-sub-loop Inv-loop μ-loop
 sub-loop c = search runs
 
-is-ascii-block-requires : tie.Need-is-ascii-block-requires Inv-loop μ-loop
-is-ascii-block-requires c κs = search runs
+are-blocks-ascii-requires : tie.Need-are-blocks-ascii-requires Inv-loop μ-loop
+are-blocks-ascii-requires c κs = search runs
 
 returns : tie.Need-returns Inv-loop μ-loop
 returns c = search runs
@@ -34,15 +34,15 @@ loop-again c = search runs
 returns-2 : tie.Need-returns-2 Inv-loop μ-loop
 returns-2 c = search runs
 
-pub after-ascii-spec : {M : Type 1} → statement M
-after-ascii-spec =
+pub after-blocks-spec : {M : Type 1} → statement M
+after-blocks-spec =
     tie.close
     (tie.spec
     Inv-loop
     μ-loop
     loop-holds
     sub-loop
-    is-ascii-block-requires
+    are-blocks-ascii-requires
     returns
     add-i
     loop-less

@@ -1,0 +1,50 @@
+use Prim.Native.Nat.{_-_}
+use Rattle.reading.specs.Texts.{Passes}
+use Rattle.reading.proofs.TextSteps.{turns}
+use Rattle.reading.proofs.text.after_characters.Statement.{statement}
+use Rattle.reading.proofs.text.after_characters.Tie as tie
+
+abbrev Inv-loop : tie.InvT-loop
+Inv-loop s from to i₀ i = Passes s from to i
+
+abbrev μ-loop : tie.MeasureT-loop
+μ-loop s from to i₀ i = to - i
+
+loop-holds : tie.Need-loop-holds Inv-loop μ-loop
+loop-holds c = search turns
+
+sub-loop : tie.Need-sub-loop Inv-loop μ-loop
+sub-loop c = search turns
+
+character-requires : tie.Need-character-requires Inv-loop μ-loop
+character-requires c κs = search turns
+
+returns : tie.Need-returns Inv-loop μ-loop
+returns c = search turns
+
+add-i : tie.Need-add-i Inv-loop μ-loop
+add-i c = search turns
+
+loop-less : tie.Need-loop-less Inv-loop μ-loop
+loop-less c = search turns
+
+loop-again : tie.Need-loop-again Inv-loop μ-loop
+loop-again c = search turns
+
+returns-2 : tie.Need-returns-2 Inv-loop μ-loop
+returns-2 c = search turns
+
+pub after-characters-spec : {M : Type 1} → statement M
+after-characters-spec =
+    tie.close
+    (tie.spec
+    Inv-loop
+    μ-loop
+    loop-holds
+    sub-loop
+    character-requires
+    returns
+    add-i
+    loop-less
+    loop-again
+    returns-2)

@@ -1,0 +1,44 @@
+-- What the text reader promises of the bytes that it looks at: ASCII in blocks, characters one by one.
+use Prim.Native.Nat.{ℕ, _+_, _≤_, _<_}
+use mathlib.Core.Bool.{Bool, true, false, cond}
+use mathlib.Core.List.{List}
+use mathlib.Core.Path.{_≡_}
+use lib.Dec.{eqb}
+use lib.ListN.{length, getD}
+use lib.Seq.{slice}
+use Rattle.format.specs.Text.{Range, _to_, utf8}
+
+-- told so, the `n` bytes from `i` on are ASCII
+pub record SeesAscii (s : List ℕ) (i n : ℕ) (told : Bool) : Type 0 where
+  pub all-ascii : told ≡ true → (k : ℕ) → i ≤ k → k < i + n → getD s k 0 < 0x80
+
+-- whether the bytes from `from` to `end` are text is whether those from `next` on are
+pub record Passes (s : List ℕ) (from end next : ℕ) : Type 0 where
+  pub forward : from ≤ next
+  pub within : next ≤ end
+  pub same : utf8 (slice from end s) ≡ utf8 (slice next end s)
+
+-- at `i`, before `end`, stands a byte from `low` on and below `high`
+pub record Begins (s : List ℕ) (i end low high : ℕ) : Type 0 where
+  pub before : i < end
+  pub lent : end ≤ length s
+  pub at-least : low ≤ getD s i 0
+  pub below : getD s i 0 < high
+
+abbrev pub between : ℕ → ℕ → Range
+between low high = low to high
+
+-- what the second byte of a character may be, by the first
+unfoldable pub secondOf : ℕ → Range
+secondOf first =
+    cond (eqb first 0xE0) (0xA0 to 0xBF)
+    (cond (eqb first 0xED) (0x80 to 0x9F)
+    (cond (eqb first 0xF0) (0x90 to 0xBF)
+    (cond (eqb first 0xF4) (0x80 to 0x8F)
+    (0x80 to 0xBF))))
+
+-- at `i` stands a character of `n` bytes, before `end`; where none stands, n is 0 and what begins there is no text
+pub record Stands (s : List ℕ) (i end n : ℕ) : Type 0 where
+  pub within : i + n ≤ end
+  pub none : n ≡ 0 → utf8 (slice i end s) ≡ false
+  pub one : (n ≡ 0 → ⊥) → Passes s i end (i + n)
