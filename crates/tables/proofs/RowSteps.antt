@@ -12,13 +12,14 @@ use lib.ListN.{length, getD}
 use lib.Seq.{slice-cons, slice-empty, length-slice}
 use Rattle.format.specs.Reading.{Outcome, got, stop, Reader}
 use Rattle.format.specs.Numbers.{number}
-use Rattle.format.specs.Parts.{Part, sized, name}
+use Rattle.format.specs.Parts.{Part, sized}
 use Rattle.format.specs.Tables.{Table, lookup, table}
 use Rattle.format.specs.Metadata.{hintOf, anyItem, hintItem}
 use Rattle.format.specs.Options.{isSome}
+use Rattle.format.specs.Text.{utf8}
 use Rattle.format.specs.Laws.Outcomes.{not-got, got-value, got-next, got-rest, byOutcome, inTurn, passed}
 use Rattle.format.specs.declared.Refusal.{Refusal}
-use Rattle.format.specs.declared.Reason.the-variants.{NotAbove, NotHint}
+use Rattle.format.specs.declared.Reason.the-variants.{NotAbove, NotText, NotHint}
 use Rattle.reading.specs.Cursors.{Inside, left, NumberReads, PartReads}
 use Rattle.reading.specs.declared.Cursor.{Cursor}
 use Rattle.reading.specs.declared.NumberRead.{NumberRead}
@@ -26,7 +27,8 @@ use Rattle.reading.specs.declared.NumberRead.the-variants.{Value, Refused as No
 use Rattle.reading.specs.declared.PartRead.{PartRead}
 use Rattle.reading.specs.declared.PartRead.the-variants.{Part as APart, Refused as NoPart}
 use Rattle.reading.proofs.Laws.{number-means, number-inside, number-end, sized-means, part-behind}
-use Rattle.tables.specs.Seeking.{readerOf, sought, Seeks}
+use Rattle.reading.proofs.PartSteps.{name-refused, name-taken, name-not-text}
+use Rattle.tables.specs.Seeking.{readerOf, isItem, notItem, sought, Seeks}
 use Rattle.tables.specs.Steps.{indexFrom, IndexReads, passing, RowReads}
 use Rattle.tables.specs.declared.Item.{Item}
 use Rattle.tables.specs.declared.Item.the-variants.{Name, Data, Hint}
@@ -61,38 +63,59 @@ module _ {s : List ℕ} {part : Cursor} (i : Inside s part) where
 
 pub ruleset is-hint-steps = (hint-one, hint-other, needs)
 
-module _ {s : List ℕ} {c : Cursor} {x : PartRead} where
-  pub hint-refused : {r : Refusal} → PartReads sized s c x → x ≡ NoPart r → PartReads hintItem s c (NoPart r)
-  unfolding hintItem
-  hint-refused n e = record { means = rw (← rw e at (n .means)); same-part = tt }
+-- An item's bytes
+module _ (item : Item) (bs : List ℕ) where
+  pub name-bytes : {b : Bool} → item ≡ Name → b ≡ utf8 bs → b ≡ isItem item bs
+  name-bytes e f = rw e f
 
-  module _ {part next : Cursor} (n : PartReads sized s c x) (e : x ≡ APart part next) where
-    pub hint-taken : {b : Bool} → b ≡ isSome (hintOf (left s part)) → b ≡ true → PartReads hintItem s c (APart part next)
+  pub data-bytes : item ≡ Data → true ≡ isItem item bs
+  data-bytes e = rw e refl
+
+  pub hint-bytes : {b : Bool} → item ≡ Hint → b ≡ isSome (hintOf bs) → b ≡ isItem item bs
+  hint-bytes e f = rw e f
+
+pub ruleset item-steps = (name-bytes, data-bytes, hint-bytes, needs)
+
+module _ (item : Item) (size text : ℕ) where
+  pub not-name : item ≡ Name → record { reason = NotText; offset = record { 0 = text } } ≡ notItem item size text
+  not-name e = rw e refl
+
+  pub not-data : item ≡ Data → record { reason = NotText; offset = record { 0 = text } } ≡ notItem item size text
+  not-data e = rw e refl
+
+  pub not-hint : item ≡ Hint → record { reason = NotHint; offset = record { 0 = size } } ≡ notItem item size text
+  not-hint e = rw e refl
+
+pub ruleset not-steps = (not-name, not-data, not-hint, needs)
+
+-- An item: a sized part with such bytes
+module _ {s : List ℕ} {c : Cursor} {x : PartRead} (n : PartReads sized s c x) where
+  pub value-refused : (item : Item) {r : Refusal} → x ≡ NoPart r → PartReads (readerOf item) s c (NoPart r)
+  unfolding anyItem hintItem
+  value-refused Name e = name-refused n e
+  value-refused Data e = rw e at n
+  value-refused Hint e = record { means = rw (← rw e at (n .means)); same-part = tt }
+
+  module _ {part next : Cursor} (e : x ≡ APart part next) where
+    pub value-taken : (item : Item) {b : Bool} → b ≡ isItem item (left s part) → b ≡ true → PartReads (readerOf item) s c (APart part next)
+    unfolding anyItem hintItem
+    value-taken Name q t = name-taken n e q t
+    value-taken Data q t = rw e at n
+    value-taken Hint q t = record { means = rw (sized-means n e, ← q, t); same-part = rw e at (n .same-part) }
+
+    not-taken : (item : Item) {b : Bool} → b ≡ isItem item (left s part) → b ≡ false → PartReads (readerOf item) s c (NoPart (notItem item (c .at) (part .at)))
     unfolding hintItem
-    hint-taken q t = record { means = rw (sized-means n e, ← q, t); same-part = rw e at (n .same-part) }
+    not-taken Name q t = name-not-text n e q t
+    not-taken Data q t = absurd (let z : _≡_ {A = ℕ} 0 1 = cc in omega arith)
+    not-taken Hint q t = record { means = rw (sized-means n e, ← q, t); same-part = tt }
 
-    pub hint-not : {b : Bool} → b ≡ isSome (hintOf (left s part)) → b ≡ false → PartReads hintItem s c (NoPart (record { reason = NotHint; offset = record { 0 = c .at } }))
-    unfolding hintItem
-    hint-not q t = record { means = rw (sized-means n e, ← q, t); same-part = tt }
+    pub value-not : (item : Item) {b : Bool} {r : Refusal} → b ≡ isItem item (left s part) → b ≡ false → r ≡ notItem item (c .at) (part .at) → PartReads (readerOf item) s c (NoPart r)
+    value-not item q t w = rw w (not-taken item q t)
 
-  pub part-inside : {part next : Cursor} → Inside s c → PartReads sized s c x → x ≡ APart part next → Inside s part
-  part-inside i n e = part-behind i n e .in-part
+    pub part-inside : Inside s c → Inside s part
+    part-inside i = part-behind i n e .in-part
 
-pub ruleset hint-steps = (hint-refused, hint-taken, hint-not, part-inside, needs)
-
--- An item
-module _ {s : List ℕ} {c : Cursor} {x : PartRead} {item : Item} where
-  pub value-name : item ≡ Name → PartReads name s c x → PartReads (readerOf item) s c x
-  value-name e r = rw e r
-
-  pub value-data : item ≡ Data → PartReads sized s c x → PartReads (readerOf item) s c x
-  unfolding anyItem
-  value-data e r = rw e r
-
-  pub value-hint : item ≡ Hint → PartReads hintItem s c x → PartReads (readerOf item) s c x
-  value-hint e r = rw e r
-
-pub ruleset value-steps = (value-name, value-data, value-hint, needs)
+pub ruleset value-steps = (value-refused, value-taken, value-not, part-inside, needs)
 
 -- A row's number
 module _ {s : List ℕ} {c : Cursor} {x : NumberRead} {least : ℕ} where

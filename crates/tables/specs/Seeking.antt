@@ -1,13 +1,17 @@
 -- What a search of a table finds. The whole table is judged, also behind what is found. Assumes nothing.
 use Prim.Native.Nat.{ℕ, _≤_}
+use mathlib.Core.Bool.{Bool, true}
 use mathlib.Core.List.{List}
 use mathlib.Core.Option.{Option, none, some}
 use mathlib.Core.Path.{_≡_}
 use Rattle.format.specs.Reading.{_>>=_, Outcome, got, Reader, return}
 use Rattle.format.specs.Parts.{Part, name}
 use Rattle.format.specs.Tables.{lookup, table}
-use Rattle.format.specs.Metadata.{anyItem, hintItem}
-use Rattle.format.specs.Options.{thenSome}
+use Rattle.format.specs.Metadata.{hintOf, anyItem, hintItem}
+use Rattle.format.specs.Text.{utf8}
+use Rattle.format.specs.declared.Refusal.{Refusal}
+use Rattle.format.specs.declared.Reason.the-variants.{NotText, NotHint}
+use Rattle.format.specs.Options.{thenSome, isSome}
 use Rattle.reading.specs.Cursors.{left, partOf, refusalOf}
 use Rattle.reading.specs.declared.Cursor.{Cursor}
 use Rattle.tables.specs.declared.Item.{Item}
@@ -20,6 +24,17 @@ abbrev pub readerOf : Item → Reader Part
 readerOf Name = name
 readerOf Data = anyItem
 readerOf Hint = hintItem
+
+-- what an item's bytes have to be, and the refusal of those that are not; data may be any bytes
+abbrev pub isItem : Item → List ℕ → Bool
+isItem Name bs = utf8 bs
+isItem Data bs = true
+isItem Hint bs = isSome (hintOf bs)
+
+abbrev pub notItem : Item → ℕ → ℕ → Refusal
+notItem Name size text = record { reason = NotText; offset = record { 0 = text } }
+notItem Data size text = record { reason = NotText; offset = record { 0 = text } }
+notItem Hint size text = record { reason = NotHint; offset = record { 0 = size } }
 
 -- what a table has at `key`
 unfoldable pub sought : Reader Part → ℕ → Reader (Option Part)

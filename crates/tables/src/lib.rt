@@ -2,10 +2,11 @@
 ghost use mathlib.Core.Option.{some};
 ghost use mathlib.Core.Path.{_≡_};
 ghost use Rattle.format.specs.Options.{isSome};
-ghost use Rattle.format.specs.Metadata.{hintOf, hintItem};
+ghost use Rattle.format.specs.Metadata.{hintOf};
+ghost use Rattle.format.specs.Text.{utf8};
 ghost use Rattle.format.specs.Tables.{table, lookup};
 ghost use Rattle.reading.specs.Cursors.{Inside, left, PartReads};
-ghost use Rattle.tables.specs.Seeking.{readerOf, sought, soughtWithin, Seeks};
+ghost use Rattle.tables.specs.Seeking.{readerOf, isItem, notItem, sought, soughtWithin, Seeks};
 ghost use Rattle.tables.specs.Steps.{IndexReads, RowReads, keptOf, seekOf, soughtRows};
 use format::Offset;
 use format::Reason;
@@ -13,6 +14,7 @@ use format::Refusal;
 use reading::Cursor;
 use reading::NumberRead;
 use reading::PartRead;
+use reading::text::is_text;
 
 // What a row's value is: a name, data of any size, or a branch hint.
 pub enum Item {
@@ -52,35 +54,60 @@ fn is_hint(s: &[u8], part: Cursor) -> bool
     false
 }
 
-// A branch hint. Its refusal points to the size number.
-fn hint(c: Cursor, s: &[u8]) -> PartRead
+// Whether a part is valid UTF-8.
+fn is_name(s: &[u8], part: Cursor) -> bool
+    requires { ⌜ Inside (now s) part ⌝ }
+    ensures { λ r. ⌜ r ≡ utf8 (left (now (s .entry)) part) ⌝ }
+{
+    let at = part.at;
+    is_text(s, at, part.end)
+}
+
+// Whether a part is what an item has to be.
+fn is_item(s: &[u8], part: Cursor, item: Item) -> bool
+    requires { ⌜ Inside (now s) part ⌝ }
+    ensures { λ r. ⌜ r ≡ isItem item (left (now (s .entry)) part) ⌝ }
+{
+    match item {
+        Item::Name => is_name(s, part),
+        Item::Data => true,
+        Item::Hint => is_hint(s, part),
+    }
+}
+
+// The refusal of a part that is not: a hint's points to the size number, a name's to the text.
+fn not_item(item: Item, size: usize, text: usize) -> Refusal
+    ensures { λ r. ⌜ r ≡ notItem item size text ⌝ }
+{
+    let not_text = Refusal {
+        reason: Reason::NotText,
+        offset: Offset(text),
+    };
+    match item {
+        Item::Name => not_text,
+        // never asked for: data may be any bytes
+        Item::Data => not_text,
+        Item::Hint => Refusal {
+            reason: Reason::NotHint,
+            offset: Offset(size),
+        },
+    }
+}
+
+// A row's value: every item is a sized part.
+pub fn value(c: Cursor, s: &[u8], item: Item) -> PartRead
     requires { ⌜ Inside (now s) c ⌝ }
-    ensures { λ r. ⌜ PartReads hintItem (now (s .entry)) c r ⌝ }
+    ensures { λ r. ⌜ PartReads (readerOf item) (now (s .entry)) c r ⌝ }
 {
     let size = c.at;
     match c.sized(s) {
         PartRead::Refused(r) => PartRead::Refused(r),
         PartRead::Part(part, next) => {
-            if is_hint(s, part) {
+            if is_item(s, part, item) {
                 return PartRead::Part(part, next);
             }
-            PartRead::Refused(Refusal {
-                reason: Reason::NotHint,
-                offset: Offset(size),
-            })
+            PartRead::Refused(not_item(item, size, part.at))
         }
-    }
-}
-
-// A row's value.
-pub fn value(c: Cursor, s: &[u8], item: Item) -> PartRead
-    requires { ⌜ Inside (now s) c ⌝ }
-    ensures { λ r. ⌜ PartReads (readerOf item) (now (s .entry)) c r ⌝ }
-{
-    match item {
-        Item::Name => c.name(s),
-        Item::Data => c.sized(s),
-        Item::Hint => hint(c, s),
     }
 }
 

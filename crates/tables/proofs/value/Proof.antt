@@ -2,26 +2,23 @@ use Rattle.tables.proofs.RowSteps.{value-steps}
 use Rattle.tables.proofs.value.Statement.{statement}
 use Rattle.tables.proofs.value.Tie as tie
 
-enum-told : tie.Need-enum-told
-enum-told c = search value-steps
-
-name-requires : tie.Need-name-requires
-name-requires c κs = search value-steps
-
-enum-told-2 : tie.Need-enum-told-2
-enum-told-2 c = search value-steps
-
 sized-requires : tie.Need-sized-requires
 sized-requires c κs = search value-steps
 
-enum-told-3 : tie.Need-enum-told-3
-enum-told-3 c = search value-steps
+enum-known-r : tie.Need-enum-known-r
+enum-known-r c = search value-steps
 
-hint-requires : tie.Need-hint-requires
-hint-requires c κs = search value-steps
+enum-known-part : tie.Need-enum-known-part
+enum-known-part c = search value-steps
+
+is-item-requires : tie.Need-is-item-requires
+is-item-requires c κs = search value-steps
 
 returns : tie.Need-returns
 returns c = search value-steps
+
+not-item-requires : tie.Need-not-item-requires
+not-item-requires c κs = search value-steps
 
 returns-2 : tie.Need-returns-2
 returns-2 c = search value-steps
@@ -33,12 +30,11 @@ pub value-spec : {M : Type 1} → statement M
 value-spec =
     tie.close
     (tie.spec
-    enum-told
-    name-requires
-    enum-told-2
     sized-requires
-    enum-told-3
-    hint-requires
+    enum-known-r
+    enum-known-part
+    is-item-requires
     returns
+    not-item-requires
     returns-2
     returns-3)
