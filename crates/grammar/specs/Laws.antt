@@ -1,2 +1,5 @@
+pub mod Exact
 pub mod Numbers
 pub mod Texts
+pub mod Lists
+pub mod Names

@@ -1,3 +1,5 @@
 pub mod Numbers
 pub mod Texts
+pub mod Lists
+pub mod Names
 pub mod Laws

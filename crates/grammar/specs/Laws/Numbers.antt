@@ -12,12 +12,8 @@ use Rattle.format.specs.Bytes.{Bytes}
 use Rattle.format.specs.Reading.{got, return}
 use Rattle.format.specs.Numbers.{groups, number}
 use Rattle.format.specs.Laws.Outcomes.{not-got, got-value, got-next, got-rest, byTest, inTurn}
-use Rattle.grammar.specs.Numbers.{Grammar, Unsigned, last, more, U32}
-
--- what is left after a stretch of bytes is bytes
-pub bytes-after : (front rest : List ℕ) → Bytes (front ++ rest) → Bytes rest
-bytes-after [] rest h = h
-bytes-after (b ∷ front) rest h = bytes-after front rest (λ i. h (suc i))
+use Rattle.grammar.specs.Numbers.{Unsigned, last, more, U32}
+use Rattle.grammar.specs.Laws.Exact.{Stretch}
 
 -- a number of N bits, of which `k` bytes may follow the next one
 groups-complete : {N : ℕ} {bs : List ℕ} {v : ℕ} → Unsigned N bs v → (k first o : ℕ) (rest : List ℕ) → N ≡ 4 + 7 * k → groups k first o (bs ++ rest) ≡ got v (o + length bs) rest
@@ -30,12 +26,6 @@ groups-complete (more byte big wide m) zero first o rest e = absurd (omega arith
 groups-complete (more {n = n} {m = v} {bs = bs} byte big wide m) (suc k) first o rest e =
     rw (le-ltb n 128 big, groups-complete m k first (suc o) rest (omega arith))
     (ap₂ (λ (x y : ℕ). got x y rest) (omega arith) (omega arith))
-
--- what was read, as the grammar reads it
-pub record Stretch {A : Type 0} (grammar : Grammar A) (v : A) (rest bs : List ℕ) : Type 0 where
-  pub front : List ℕ
-  pub is : bs ≡ front ++ rest
-  pub means : grammar front v
 
 groups-sound : (k N first o : ℕ) (bs : List ℕ) {v o′ : ℕ} {rest : List ℕ} → N ≡ 4 + 7 * k → Bytes bs → groups k first o bs ≡ got v o′ rest → Stretch (Unsigned N) v rest bs
 unfolding groups
