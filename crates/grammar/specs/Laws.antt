@@ -3,3 +3,4 @@ pub mod Numbers
 pub mod Texts
 pub mod Lists
 pub mod Names
+pub mod Metadata

@@ -2,4 +2,5 @@ pub mod Numbers
 pub mod Texts
 pub mod Lists
 pub mod Names
+pub mod Metadata
 pub mod Laws

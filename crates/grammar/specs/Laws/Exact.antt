@@ -11,7 +11,6 @@ use Rattle.grammar.specs.Numbers.{Grammar}
 
 -- a stretch of bytes is bytes, and so is what is left after it
 bytes-before : (front rest : List ℕ) → Bytes (front ++ rest) → Bytes front
-unfolding getD
 bytes-before [] rest h i = omega arith
 bytes-before (b ∷ front) rest h zero = h 0
 bytes-before (b ∷ front) rest h (suc i) = bytes-before front rest (λ j. h (suc j)) i
@@ -53,6 +52,13 @@ module _ {A B : Type 0} {read : Reader A} {plain : A → B} {grammar : Grammar B
       let a = exact .complete g 0 [] in
       let a′ = exact .complete g′ 0 [] in
       sym (a .same) ∙ ap plain (got-value (sym (a .reads) ∙ a′ .reads)) ∙ a′ .same
+
+  -- and for another way of saying the grammar
+  pub exact-for : {other : Grammar B} → ((bs : List ℕ) (w : B) → grammar bs w → other bs w) → ((bs : List ℕ) (w : B) → other bs w → grammar bs w) → Exact read plain other
+  exact-for to from = record {
+    sound = λ o bs h e. let s = exact .sound o bs h e in record { front = s .front; is = s .is; means = to (s .front) _ (s .means) };
+    complete = λ g o rest. exact .complete (from _ _ g) o rest;
+  }
 
   -- what fills a part
   pub fills-sound : (o : ℕ) (bs : List ℕ) {v : A} {o′ : ℕ} {rest : List ℕ} → Bytes bs → filling read o bs ≡ got v o′ rest → grammar bs (plain v)

@@ -11,7 +11,7 @@ use Rattle.format.specs.Text.{Range, _to_, inRange, Row, form, wellFormed, foll
 use Rattle.format.specs.Laws.Outcomes.{byTest}
 use Rattle.grammar.specs.Texts.{Character, beforeSurrogates, afterSurrogates, Encoding, one, two, three, four, Text, empty, character}
 
-false-true {ℓ} : {C : Type ℓ} → false ≡ true → C
+pub false-true {ℓ} : {C : Type ℓ} → false ≡ true → C
 false-true e = absurd (let z : _≡_ {A = ℕ} 0 1 = cc in omega arith)
 
 both {ℓ} : {C : Type ℓ} (a b : Bool) → (a && b) ≡ true → (a ≡ true → b ≡ true → C) → C
