@@ -4,3 +4,5 @@ pub mod Texts
 pub mod Lists
 pub mod Names
 pub mod Metadata
+pub mod Order
+pub mod Modules

@@ -12,7 +12,7 @@ pub data Sized : List ℕ → List ℕ → Type 0 where
 module _ {A : Type 0} where
   -- (x:B)^n, where each x is a number and a value: n of them, one after another
   pub data Entries (B : Grammar A) : ℕ → List ℕ → Table A → Type 0 where
-    none : Entries B zero [] nil
+    noEntry : Entries B zero [] nil
     entry : {number value others : List ℕ} {n k : ℕ} {v : A} {t : Table A} → U32 number k → B value v → Entries B n others t → Entries B (suc n) (number ++ value ++ others) (row k v t)
 
   -- in order of increasing number, each number once

@@ -32,7 +32,7 @@ pub data Contents : ℕ → List ℕ → Content (List ℕ) → Type 0 where
 
 -- subsections: id:byte size:u32 contents (if size = ||contents||), one after another
 pub data Subsections : List ℕ → Table (Content (List ℕ)) → Type 0 where
-  none : Subsections [] nil
+  noSubsection : Subsections [] nil
   subsection : {id : ℕ} {part contents others : List ℕ} {c : Content (List ℕ)} {t : Table (Content (List ℕ))} → Sized part contents → Contents id contents c → Subsections others t → Subsections (id ∷ part ++ others) (row id c t)
 
 -- each subsection at most once, and in order of increasing id

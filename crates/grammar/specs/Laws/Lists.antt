@@ -15,7 +15,7 @@ use Rattle.format.specs.Laws.Outcomes.{got-value, got-rest}
 use Rattle.format.specs.Laws.Turns.{inSized, tested, inTested, inRow, inTable}
 use Rattle.format.specs.declared.Reason.{Reason}
 use Rattle.grammar.specs.Numbers.{Grammar, U32}
-use Rattle.grammar.specs.Lists.{Sized, sized as aPart, Entries, none, entry, Increasing, noRow, oneRow, twoRows, Listed, listed}
+use Rattle.grammar.specs.Lists.{Sized, sized as aPart, Entries, noEntry, entry, Increasing, noRow, oneRow, twoRows, Listed, listed}
 use Rattle.grammar.specs.Laws.Exact.{bytes-after, Stretch, left-bytes, Accepts, Exact}
 use Rattle.grammar.specs.Laws.Numbers.{number-sound, number-complete}
 
@@ -97,7 +97,7 @@ module _ {A B : Type 0} {read : Reader A} {plain : A → B} {grammar : Grammar B
 
   rows-sound : (n least o : ℕ) (bs : List ℕ) {t : Table A} {o′ : ℕ} {rest : List ℕ} → Bytes bs → rows read n least o bs ≡ got t o′ rest → RowsRead n least (mapTable plain t) rest bs
   unfolding rows mapTable
-  rows-sound zero least o bs h e = rw (← got-value e, ← got-rest e) (record { stretch = record { front = []; is = refl; means = none }; rising = fromNil })
+  rows-sound zero least o bs h e = rw (← got-value e, ← got-rest e) (record { stretch = record { front = []; is = refl; means = noEntry }; rising = fromNil })
   rows-sound (suc n) least o bs {rest = rest} h e =
       inRow read n least o bs e λ k o₁ r₁ v o₂ r₂ more e₁ above e₂ e₃ is.
       let num = number-sound o bs h e₁ in
@@ -115,7 +115,7 @@ module _ {A B : Type 0} {read : Reader A} {plain : A → B} {grammar : Grammar B
 
   rows-complete : {n : ℕ} {bs : List ℕ} {t : Table B} → Entries grammar n bs t → (least : ℕ) → From least t → (o : ℕ) (rest : List ℕ) → Accepts (rows read n least) (mapTable plain) bs t o rest
   unfolding rows mapTable
-  rows-complete none least f o rest = record { value = nil; next = o; reads = refl; same = refl }
+  rows-complete noEntry least f o rest = record { value = nil; next = o; reads = refl; same = refl }
   rows-complete (entry {number = a} {value = b} {others = c} {k = k} u g m) least (fromRow l f) o rest =
       let val = exact .complete g (o + length a) (c ++ rest) in
       let ih = rows-complete m (suc k) f (val .next) rest in

@@ -19,7 +19,7 @@ use Rattle.format.specs.Laws.Outcomes.{got-value, byTest, inTurn, judged}
 use Rattle.format.specs.Laws.Turns.{inSubsection}
 use Rattle.format.specs.declared.Reason.the-variants.{NotText}
 use Rattle.grammar.specs.Lists.{Sized}
-use Rattle.grammar.specs.Names.{Name, name as aName, NameMap, IndirectNameMap, Contents, moduleName, functionNames, localNames, typeNames, fieldNames, tagNames, anyBytes, Subsections, none, subsection, NamePayload, payload as aPayload}
+use Rattle.grammar.specs.Names.{Name, name as aName, NameMap, IndirectNameMap, Contents, moduleName, functionNames, localNames, typeNames, fieldNames, tagNames, anyBytes, Subsections, noSubsection, subsection, NamePayload, payload as aPayload}
 use Rattle.grammar.specs.Laws.Exact.{read-bytes, left-bytes, no-longer, Exact, fills-sound, fills-complete}
 use Rattle.grammar.specs.Laws.Texts.{text-utf8, utf8-text}
 use Rattle.grammar.specs.Laws.Lists.{sized-exact, contents-bytes, tested-exact, table-exact, From, fromNil, fromRow, from-increasing, increasing-from}
@@ -110,9 +110,9 @@ contents-complete (anyBytes {id = id} {bs = bs} n0 n1 n2 n4 n10 n11) o =
 -- subsections up to the end
 subsections-sound : (most least o : ℕ) (bs : List ℕ) {t : Table (Content Part)} {o′ : ℕ} {rest : List ℕ} → length bs ≤ most → Bytes bs → subsections knownKind most least o bs ≡ got t o′ rest → Subsections bs (mapTable bare t) × From least (mapTable bare t)
 unfolding subsections mapTable
-subsections-sound zero least o [] f h e = rw (← got-value e) (none, fromNil)
+subsections-sound zero least o [] f h e = rw (← got-value e) (noSubsection, fromNil)
 subsections-sound zero least o (b ∷ bs) f h e = absurd (omega arith)
-subsections-sound (suc most) least o [] f h e = rw (← got-value e) (none, fromNil)
+subsections-sound (suc most) least o [] f h e = rw (← got-value e) (noSubsection, fromNil)
 subsections-sound (suc most) least o (id ∷ bs) f h e =
     inSubsection knownKind most least o id bs e λ p o₁ r₁ c o₂ r₂ more above e₁ e₂ e₃ is.
     let h₁ : Bytes bs = λ i. h (suc i) in
@@ -129,8 +129,8 @@ record SubsectionsRead (most least : ℕ) (bs : List ℕ) (t : Table (Content (L
 
 subsections-complete : {bs : List ℕ} {t : Table (Content (List ℕ))} → Subsections bs t → (most least : ℕ) → length bs ≤ most → From least t → (o : ℕ) → SubsectionsRead most least bs t o
 unfolding subsections mapTable
-subsections-complete none zero least n f o = record { value = nil; next = o; reads = refl; same = refl }
-subsections-complete none (suc most) least n f o = record { value = nil; next = o; reads = refl; same = refl }
+subsections-complete noSubsection zero least n f o = record { value = nil; next = o; reads = refl; same = refl }
+subsections-complete noSubsection (suc most) least n f o = record { value = nil; next = o; reads = refl; same = refl }
 subsections-complete (subsection s c m) zero least n f o = absurd (omega arith)
 subsections-complete (subsection {id = id} {part = part} {others = others} s c m) (suc most) least n (fromRow l f) o =
     let a = sized-exact .complete s (suc o) others in

@@ -1,0 +1,217 @@
+-- The walk is exact: it accepts exactly the modules that the grammar has a meaning for.
+use Prim.Native.Nat.{ℕ, zero, suc, _+_, _≤_, _<_}
+use mathlib.Core.Bool.{Bool, true, false, not, cond, _&&_, _||_}
+use mathlib.Core.List.{List, [], _∷_, _++_, append-assoc}
+use mathlib.Core.Logic.{_≢_}
+use mathlib.Core.Option.{Option, none, some}
+use mathlib.Core.Path.{_≡_, refl, sym, ap, ap₂, _∙_}
+use native.Mathlib.Omega.{arith}
+use borrow.Author.Tests.{ltb-true, leb-true, le-leb, lt-ltb, eqb-true, eqb-false, eq-eqb, ne-eqb}
+use lib.Dec.{ltb, leb, eqb}
+use lib.ListN.{length, length-append}
+use Rattle.format.specs.Bytes.{Bytes, ascii, same}
+use Rattle.format.specs.Reading.{got, accepted, checked}
+use Rattle.format.specs.Options.{mapSome}
+use Rattle.format.specs.Parts.{Part, sized, name, remaining, inside}
+use Rattle.format.specs.Walk.{preamble, begins, greatestId, isCustom, isCode, isData, rank, custom, isCalled, nameSection, hintSection, Custom, Section, Seen, nothing, seeing, idRules, nameRules, section, sections, framing, walk}
+use Rattle.format.specs.Laws.Outcomes.{not-got, got-value, got-next, got-rest, byTest, inTurn, passed, inPart, judged}
+use Rattle.format.specs.Laws.Turns.{inSections}
+use Rattle.format.specs.declared.Reason.{Reason}
+use Rattle.grammar.specs.Lists.{Sized}
+use Rattle.grammar.specs.Names.{Name}
+use Rattle.grammar.specs.Modules.{magic, version, Section as BareSection, Framed, customSection, otherSection, Sections, noSection, aSection, Ordered, Module, aModule}
+use Rattle.grammar.specs.Forgetting.{bareCustom, bareSection, bareSections}
+use Rattle.grammar.specs.Laws.Exact.{bytes-after, read-bytes, left-bytes, no-longer}
+use Rattle.grammar.specs.Laws.Texts.{false-true}
+use Rattle.grammar.specs.Laws.Lists.{sized-exact, contents-bytes}
+use Rattle.grammar.specs.Laws.Names.{name-exact}
+use Rattle.grammar.specs.Laws.Order.{calledIn, to-called, from-called, Allows, after, Run, end, step, ordered-run, run-ordered}
+
+-- The checks of one section that the walk makes
+record Passed (seen : Seen) (id : ℕ) (c : Option Custom) : Type 0 where
+  known : leb id greatestId ≡ true
+  order : (isCustom id || ltb (seen .rank) (rank id)) ≡ true
+  no-data : not (isData id && seen .name) ≡ true
+  no-name : not (isCalled nameSection c && seen .name) ≡ true
+  no-hints : not (isCalled hintSection c && seen .hints) ≡ true
+  no-late-hints : not (isCalled hintSection c && seen .code) ≡ true
+
+last-check {ℓ} : {C : Type ℓ} (b : Bool) (why : Reason) (at o : ℕ) (bs : List ℕ) {v : Unit {0}} {o′ : ℕ} {rest : List ℕ} → checked b why at o bs ≡ got v o′ rest → (b ≡ true → o ≡ o′ → bs ≡ rest → C) → C
+last-check true why at o bs e k = k refl (got-next e) (got-rest e)
+last-check false why at o bs e k = absurd (not-got e)
+
+in-section {ℓ} : {C : Type ℓ} (seen : Seen) (o id : ℕ) (bs : List ℕ) {s : Section} {o₁ : ℕ} {r₁ : List ℕ} → section seen o id (suc o) bs ≡ got s o₁ r₁
+    → ((p : Part) (c : Option Custom) (o₂ : ℕ) (r₂ : List ℕ) → Passed seen id c → sized (suc o) bs ≡ got p o₁ r₁ → custom id (p .at) (p .bytes) ≡ got c o₂ r₂ → record { id = id; at = o; contents = p; custom = c } ≡ s → C) → C
+unfolding section idRules nameRules
+in-section seen o id bs e k =
+    inTurn (idRules seen o id (suc o) bs) _ e λ _ o₃ r₃ e₁ e₂.
+    passed (leb id greatestId) _ _ _ _ _ e₁ λ t₁ e₃. passed (isCustom id || ltb (seen .rank) (rank id)) _ _ _ _ _ e₃ λ t₂ e₄.
+    last-check (not (isData id && seen .name)) _ _ _ _ e₄ λ t₃ a a′.
+    inTurn (sized o₃ r₃) _ e₂ λ p o₄ r₄ e₅ e₆. inTurn (inside (custom id) p o₄ r₄) _ e₆ λ c o₅ r₅ e₇ e₈.
+    inPart (custom id (p .at) (p .bytes)) o₄ r₄ e₇ λ o₂ r₂ e₉ q q′.
+    inTurn (nameRules seen o c o₅ r₅) _ e₈ λ _ o₆ r₆ e₁₀ e₁₁.
+    passed (not (isCalled nameSection c && seen .name)) _ _ _ _ _ e₁₀ λ t₄ e₁₂. passed (not (isCalled hintSection c && seen .hints)) _ _ _ _ _ e₁₂ λ t₅ e₁₃.
+    last-check (not (isCalled hintSection c && seen .code)) _ _ _ _ e₁₃ λ t₆ b b′.
+    k p c o₂ r₂ (record { known = t₁; order = t₂; no-data = t₃; no-name = t₄; no-hints = t₅; no-late-hints = t₆ })
+    (rw (← got-next e₁₁, ← got-rest e₁₁, ← b, ← b′, ← q, ← q′, a, a′) e₅) e₉ (got-value e₁₁)
+
+section-reads : (seen : Seen) (o id : ℕ) (bs : List ℕ) (p : Part) (c : Option Custom) {o₁ : ℕ} {r₁ : List ℕ} {o₂ : ℕ} {r₂ : List ℕ} → Passed seen id c → sized (suc o) bs ≡ got p o₁ r₁ → custom id (p .at) (p .bytes) ≡ got c o₂ r₂
+    → section seen o id (suc o) bs ≡ got (record { id = id; at = o; contents = p; custom = c }) o₁ r₁
+unfolding section idRules nameRules
+section-reads seen o id bs p c h e₁ e₂ = rw (h .known, h .order, h .no-data, e₁, e₂, h .no-name, h .no-hints, h .no-late-hints)
+
+-- They are what the rules allow
+not-both : (a b : Bool) → (a ≡ true → b ≡ true → ⊥) → not (a && b) ≡ true
+not-both true true h = absurd (h refl refl)
+not-both true false h = refl
+not-both false b h = refl
+
+both-not : (a b : Bool) → not (a && b) ≡ true → b ≡ true → a ≡ true → ⊥
+both-not true true h p q = false-true h
+both-not true false h p q = false-true p
+both-not false b h p q = false-true q
+
+called-bare : (x : List ℕ) (c : Option Custom) → isCalled x c ≡ calledIn x (mapSome bareCustom c)
+unfolding isCalled
+called-bare x none = refl
+called-bare x (some c) = refl
+
+module _ (seen : Seen) (s : Section) where
+  passed-allows : Passed seen (s .id) (s .custom) → Allows seen (bareSection s)
+  unfolding greatestId isCustom isData rank nameSection hintSection
+  passed-allows h = record {
+    known = leb-true (s .id) 12 (h .known);
+    order = λ n. let t : ltb (seen .rank) (s .id) ≡ true = rw (ne-eqb (s .id) 0 n) at (h .order) in ltb-true (seen .rank) (s .id) t;
+    no-data = λ e is. both-not (eqb (s .id) 11) (seen .name) (h .no-data) e (eq-eqb (s .id) 11 is);
+    no-name = λ e c. both-not (isCalled (ascii "name") (s .custom)) (seen .name) (h .no-name) e (called-bare _ (s .custom) ∙ from-called _ (bareSection s) c);
+    no-hints = λ e c. both-not (isCalled (ascii "metadata.code.branch_hint") (s .custom)) (seen .hints) (h .no-hints) e (called-bare _ (s .custom) ∙ from-called _ (bareSection s) c);
+    no-late-hints = λ e c. both-not (isCalled (ascii "metadata.code.branch_hint") (s .custom)) (seen .code) (h .no-late-hints) e (called-bare _ (s .custom) ∙ from-called _ (bareSection s) c);
+  }
+
+  allows-passed : Allows seen (bareSection s) → Passed seen (s .id) (s .custom)
+  unfolding greatestId isCustom isData rank nameSection hintSection
+  allows-passed h = record {
+    known = le-leb (s .id) 12 (h .known);
+    order = byTest (eqb (s .id) 0) (λ t. rw t) (λ t. rw t (lt-ltb (seen .rank) (s .id) (h .order (eqb-false (s .id) 0 t))));
+    no-data = not-both (eqb (s .id) 11) (seen .name) (λ t e. h .no-data e (eqb-true (s .id) 11 t));
+    no-name = not-both (isCalled (ascii "name") (s .custom)) (seen .name) (λ t e. h .no-name e (to-called _ (bareSection s) (sym (called-bare _ (s .custom)) ∙ t)));
+    no-hints = not-both (isCalled (ascii "metadata.code.branch_hint") (s .custom)) (seen .hints) (λ t e. h .no-hints e (to-called _ (bareSection s) (sym (called-bare _ (s .custom)) ∙ t)));
+    no-late-hints = not-both (isCalled (ascii "metadata.code.branch_hint") (s .custom)) (seen .code) (λ t e. h .no-late-hints e (to-called _ (bareSection s) (sym (called-bare _ (s .custom)) ∙ t)));
+  }
+
+  seeing-after : seeing seen s ≡ after seen (bareSection s)
+  unfolding seeing isCustom isCode rank nameSection hintSection
+  seeing-after = rw (called-bare (ascii "name") (s .custom), called-bare (ascii "metadata.code.branch_hint") (s .custom))
+
+-- one section
+framed : (id o : ℕ) (p : Part) {c : Option Custom} {o₂ : ℕ} {r₂ part : List ℕ} → Bytes (p .bytes) → Sized part (p .bytes) → custom id (p .at) (p .bytes) ≡ got c o₂ r₂ → Framed (id ∷ part) (record { id = id; contents = p .bytes; custom = mapSome bareCustom c })
+unfolding custom remaining
+framed zero o p h s e =
+    inTurn (name (p .at) (p .bytes)) _ e λ n o₁ r₁ e₁ e₂.
+    let text = name-exact .sound (p .at) (p .bytes) h e₁ in
+    rw (← got-value e₂, text .is) (customSection (rw (text .is) at s) (text .means))
+framed (suc id) o p h s e = rw (← got-value e) (otherSection {id = suc id} (λ q. omega (arith, q)) s)
+
+record FramedRead (seen : Seen) (bs : List ℕ) (s : BareSection) (o : ℕ) (rest : List ℕ) : Type 0 where
+  part : List ℕ
+  is : bs ≡ s .id ∷ part
+  value : Section
+  next : ℕ
+  reads : section seen o (s .id) (suc o) (part ++ rest) ≡ got value next rest
+  same : bareSection value ≡ s
+
+allowed-read : (seen : Seen) (o id : ℕ) (part rest : List ℕ) (p : Part) (c : Option Custom) (s : BareSection) {o₁ o₂ : ℕ} {r₂ : List ℕ} → sized (suc o) (part ++ rest) ≡ got p o₁ rest → custom id (p .at) (p .bytes) ≡ got c o₂ r₂ → bareSection (record { id = id; at = o; contents = p; custom = c }) ≡ s → Allows seen s → FramedRead seen (id ∷ part) s o rest
+allowed-read seen o id part rest p c s e₁ e₂ same h =
+    let read : Section = record { id = id; at = o; contents = p; custom = c } in
+    rw (← same) (record { part = part; is = refl; value = read; next = _; reads = section-reads seen o id (part ++ rest) p c (allows-passed seen read (rw same h)) e₁ e₂; same = refl })
+
+framed-complete : {bs : List ℕ} {s : BareSection} → Framed bs s → (seen : Seen) → Allows seen s → (o : ℕ) (rest : List ℕ) → FramedRead seen bs s o rest
+unfolding custom remaining
+framed-complete (customSection {part = part} {name = nm} {payload = payload} s n) seen h o rest =
+    let a = sized-exact .complete s (suc o) rest in
+    let b = name-exact .complete n (a .value .at) payload in
+    let c : Option Custom = some (record { name = b .value; payload = record { at = b .next; bytes = payload } }) in
+    let reads : custom 0 (a .value .at) (a .value .bytes) ≡ got c (b .next + length payload) [] = rw (a .same, b .reads) in
+    allowed-read seen o 0 part rest (a .value) c _ (a .reads) reads (rw (a .same, b .same)) h
+framed-complete (otherSection {id = zero} n s) seen h o rest = absurd (n refl)
+framed-complete (otherSection {id = suc id} {part = part} n s) seen h o rest =
+    let a = sized-exact .complete s (suc o) rest in
+    allowed-read seen o (suc id) part rest (a .value) none _ (a .reads) refl (rw (a .same)) h
+
+-- sections up to the end
+sections-sound : (most : ℕ) (seen : Seen) (o : ℕ) (bs : List ℕ) {ss : List Section} {o′ : ℕ} {rest : List ℕ} → length bs ≤ most → Bytes bs → sections most seen o bs ≡ got ss o′ rest → Sections bs (bareSections ss) × Run seen (bareSections ss)
+unfolding sections
+sections-sound zero seen o [] f h e = rw (← got-value e) (noSection, end)
+sections-sound zero seen o (b ∷ bs) f h e = absurd (omega arith)
+sections-sound (suc most) seen o [] f h e = rw (← got-value e) (noSection, end)
+sections-sound (suc most) seen o (id ∷ bs) f h e =
+    inSections most seen o id bs e λ s o₁ r₁ more e₁ e₂ is. in-section seen o id bs e₁ λ p c o₂ r₂ checks e₃ e₄ is-s.
+    let h₁ : Bytes bs = λ i. h (suc i) in
+    let part = sized-exact .sound (suc o) bs h₁ e₃ in
+    let frame = framed id o p (contents-bytes (part .means) (read-bytes part h₁)) (part .means) e₄ in
+    let ih = sections-sound most (seeing seen s) o₁ r₁ (omega (arith, no-longer part)) (left-bytes part h₁) e₂ in
+    let read : Section = record { id = id; at = o; contents = p; custom = c } in
+    let run : Run (after seen (bareSection read)) (bareSections more) = rw (← is-s, seeing-after seen read) at (ih .1) in
+    rw (← is, ← is-s, part .is) (aSection frame (ih .0), step (passed-allows seen read checks) run)
+
+record SectionsRead (most : ℕ) (seen : Seen) (bs : List ℕ) (ss : List BareSection) (o : ℕ) : Type 0 where
+  value : List Section
+  next : ℕ
+  reads : sections most seen o bs ≡ got value next []
+  same : bareSections value ≡ ss
+
+sections-complete : {bs : List ℕ} {ss : List BareSection} → Sections bs ss → (most : ℕ) (seen : Seen) → length bs ≤ most → Run seen ss → (o : ℕ) → SectionsRead most seen bs ss o
+unfolding sections
+sections-complete noSection zero seen f r o = record { value = []; next = o; reads = refl; same = refl }
+sections-complete noSection (suc most) seen f r o = record { value = []; next = o; reads = refl; same = refl }
+sections-complete (aSection {bs = bs} {others = others} frame m) zero seen f (step h r) o =
+    let a = framed-complete frame seen h o others in
+    absurd (omega (arith, length-append bs others, ap length (a .is)))
+sections-complete (aSection {bs = bs} {others = others} {s = s} frame m) (suc most) seen f (step h r) o =
+    let a = framed-complete frame seen h o others in
+    let now : seeing seen (a .value) ≡ after seen s = seeing-after seen (a .value) ∙ ap (after seen) (a .same) in
+    let ih = sections-complete m most (seeing seen (a .value)) (omega (arith, length-append bs others, ap length (a .is))) (rw now r) (a .next) in
+    rw (a .is) (record {
+      value = a .value ∷ ih .value;
+      next = ih .next;
+      reads = rw (a .reads, ih .reads);
+      same = ap₂ (λ x xs. x ∷ xs) (a .same) (ih .same);
+    })
+
+-- the preamble
+begins-sound : (xs : List ℕ) (o : ℕ) (bs : List ℕ) {v : Unit {0}} {o′ : ℕ} {rest : List ℕ} → begins xs o bs ≡ got v o′ rest → bs ≡ xs ++ rest
+unfolding begins
+begins-sound [] o bs e = got-rest e
+begins-sound (x ∷ xs) o [] e = absurd (not-got e)
+begins-sound (x ∷ xs) o (b ∷ bs) e =
+    byTest (eqb x b)
+    (λ t. ap₂ (λ y ys. y ∷ ys) (sym (eqb-true x b t)) (begins-sound xs (suc o) bs (rw t at e)))
+    (λ t. absurd (not-got (rw t at e)))
+
+begins-complete : (xs : List ℕ) (o : ℕ) (rest : List ℕ) → (o′ : ℕ) × (begins xs o (xs ++ rest) ≡ got tt o′ rest)
+unfolding begins
+begins-complete [] o rest = (o, refl)
+begins-complete (x ∷ xs) o rest = let (o′, e) = begins-complete xs (suc o) rest in (o′, rw (eq-eqb x x refl) e)
+
+-- THE MODULE
+preamble-bytes : (bs : List ℕ) → magic ++ version ++ bs ≡ preamble ++ bs
+unfolding preamble
+preamble-bytes bs = refl
+
+pub walk-sound : (m : List ℕ) {ss : List Section} → Bytes m → walk m ≡ accepted ss → Module m (bareSections ss)
+unfolding walk framing
+walk-sound m h e =
+    judged (framing 0 m) e λ o rest e₁. inTurn (begins preamble 0 m) _ e₁ λ v o₁ r₁ e₂ e₃.
+    let is = begins-sound preamble 0 m e₂ in
+    let (read, run) = sections-sound (length m) nothing o₁ r₁ (omega (arith, ap length is, length-append preamble r₁)) (bytes-after preamble r₁ (rw is at h)) e₃ in
+    rw (is ∙ sym (preamble-bytes r₁)) (aModule read (run-ordered run))
+
+preamble-read : (bs : List ℕ) {ss : List BareSection} → Sections bs ss → Ordered ss → (read : List Section) × (walk (preamble ++ bs) ≡ accepted read) × (bareSections read ≡ ss)
+unfolding walk framing
+preamble-read bs {ss} read ordered =
+    let (o, e) = begins-complete preamble 0 bs in
+    let r = sections-complete read (length (preamble ++ bs)) nothing (omega (arith, length-append preamble bs)) (ordered-run ss ordered) o in
+    (r .value, rw (e, r .reads), r .same)
+
+pub walk-complete : {m : List ℕ} {ss : List BareSection} → Module m ss → (read : List Section) × (walk m ≡ accepted read) × (bareSections read ≡ ss)
+walk-complete (aModule {bs = bs} read ordered) = rw (preamble-bytes bs) (preamble-read bs read ordered)
