@@ -1,10 +1,21 @@
--- What a walk's section says when its places are forgotten: what the grammar speaks of. Assumes nothing.
+-- What the library's judgements say when places are forgotten: that is what the grammar speaks of. Assumes nothing.
 use Prim.Native.Nat.{ℕ}
 use mathlib.Core.List.{List, [], _∷_}
-use mathlib.Core.Option.{Option}
 use Rattle.format.specs.Options.{mapSome}
-use Rattle.format.specs.Walk.{Custom, Section}
+use Rattle.format.specs.Reading.{Reader, Judged, mapJudged}
+use Rattle.format.specs.Parts.{Part}
+use Rattle.format.specs.Tables.{Table, mapTable}
+use Rattle.format.specs.Names.{Content, knownKind, judgeNames}
+use Rattle.format.specs.Metadata.{judgeMetadata}
+use Rattle.format.specs.Canonical.{bare, bareItems}
+use Rattle.format.specs.Walk.{Custom, Section, walk}
 use Rattle.grammar.specs.Modules.{Custom as BareCustom, Section as BareSection}
+
+abbrev pub namesRead : List ℕ → Judged (Table (Content (List ℕ)))
+namesRead p = mapJudged (mapTable bare) (judgeNames knownKind 0 p)
+
+abbrev pub metadataRead : Reader Part → List ℕ → Judged (Table (Table (List ℕ)))
+metadataRead item p = mapJudged bareItems (judgeMetadata item 0 p)
 
 abbrev pub bareCustom : Custom → BareCustom
 bareCustom c = record { name = c .name .bytes; payload = c .payload .bytes }
@@ -15,3 +26,6 @@ bareSection s = record { id = s .id; contents = s .contents .bytes; custom = map
 abbrev pub bareSections : List Section → List BareSection
 bareSections [] = []
 bareSections (s ∷ ss) = bareSection s ∷ bareSections ss
+
+abbrev pub sectionsRead : List ℕ → Judged (List BareSection)
+sectionsRead m = mapJudged bareSections (walk m)

@@ -1,6 +1,10 @@
+pub mod Tests
 pub mod Exact
+pub mod Judgements
 pub mod Numbers
+pub mod Ranges
 pub mod Texts
+pub mod Encodings
 pub mod Lists
 pub mod Names
 pub mod Metadata

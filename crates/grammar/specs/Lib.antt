@@ -6,3 +6,4 @@ pub mod Metadata
 pub mod Modules
 pub mod Forgetting
 pub mod Laws
+pub mod Grammar

@@ -15,7 +15,7 @@ use Rattle.format.specs.declared.Reason.the-variants.{NotHint}
 use Rattle.grammar.specs.Lists.{Sized}
 use Rattle.grammar.specs.Metadata.{Format, Item, item as anItem, CodeMetadata, Unknown, anyData, BranchHint, unlikely, likely}
 use Rattle.grammar.specs.Laws.Exact.{Exact, exact-for, fills-sound, fills-complete}
-use Rattle.grammar.specs.Laws.Texts.{false-true}
+use Rattle.grammar.specs.Laws.Tests.{false-true}
 use Rattle.grammar.specs.Laws.Lists.{sized-exact, tested-exact, table-exact}
 
 item-part : (bs x : List ℕ) → Item Unknown bs x → Sized bs x
@@ -44,10 +44,10 @@ hint-exact = tested-exact (λ x. isSome (hintOf x)) NotHint (λ o p. o) (λ bs x
 
 -- THE PAYLOAD
 module _ {item : Reader Part} {T : Format} (exact : Exact item (λ p. p .bytes) (Item T)) where
-  pub metadata-sound : (p : List ℕ) {t : Table (Table Part)} → Bytes p → judgeMetadata item 0 p ≡ accepted t → CodeMetadata T p (bareItems t)
+  pub metadata-sound : (p : List ℕ) (t : Table (Table Part)) → Bytes p → judgeMetadata item 0 p ≡ accepted t → CodeMetadata T p (bareItems t)
   unfolding judgeMetadata metadata
-  metadata-sound p h e = judged (metadata item 0 p) e λ o rest e₁. fills-sound (table-exact (table-exact exact)) 0 p h e₁
+  metadata-sound p t h e = judged (metadata item 0 p) e λ o rest e₁. fills-sound (table-exact (table-exact exact)) 0 p h e₁
 
-  pub metadata-complete : {p : List ℕ} {m : Table (Table (List ℕ))} → CodeMetadata T p m → (t : Table (Table Part)) × (judgeMetadata item 0 p ≡ accepted t) × (bareItems t ≡ m)
+  pub metadata-complete : (p : List ℕ) (m : Table (Table (List ℕ))) → CodeMetadata T p m → (t : Table (Table Part)) × (judgeMetadata item 0 p ≡ accepted t) × (bareItems t ≡ m)
   unfolding judgeMetadata metadata
-  metadata-complete g = let (t, o, e, q) = fills-complete (table-exact (table-exact exact)) g 0 in (t, rw e, q)
+  metadata-complete p m g = let (t, o, e, q) = fills-complete (table-exact (table-exact exact)) g 0 in (t, rw e, q)

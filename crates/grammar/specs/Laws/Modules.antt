@@ -22,7 +22,7 @@ use Rattle.grammar.specs.Names.{Name}
 use Rattle.grammar.specs.Modules.{magic, version, Section as BareSection, Framed, customSection, otherSection, Sections, noSection, aSection, Ordered, Module, aModule}
 use Rattle.grammar.specs.Forgetting.{bareCustom, bareSection, bareSections}
 use Rattle.grammar.specs.Laws.Exact.{bytes-after, read-bytes, left-bytes, no-longer}
-use Rattle.grammar.specs.Laws.Texts.{false-true}
+use Rattle.grammar.specs.Laws.Tests.{false-true}
 use Rattle.grammar.specs.Laws.Lists.{sized-exact, contents-bytes}
 use Rattle.grammar.specs.Laws.Names.{name-exact}
 use Rattle.grammar.specs.Laws.Order.{calledIn, to-called, from-called, Allows, after, Run, end, step, ordered-run, run-ordered}
@@ -198,9 +198,9 @@ preamble-bytes : (bs : List ℕ) → magic ++ version ++ bs ≡ preamble ++ bs
 unfolding preamble
 preamble-bytes bs = refl
 
-pub walk-sound : (m : List ℕ) {ss : List Section} → Bytes m → walk m ≡ accepted ss → Module m (bareSections ss)
+pub walk-sound : (m : List ℕ) (ss : List Section) → Bytes m → walk m ≡ accepted ss → Module m (bareSections ss)
 unfolding walk framing
-walk-sound m h e =
+walk-sound m ss h e =
     judged (framing 0 m) e λ o rest e₁. inTurn (begins preamble 0 m) _ e₁ λ v o₁ r₁ e₂ e₃.
     let is = begins-sound preamble 0 m e₂ in
     let (read, run) = sections-sound (length m) nothing o₁ r₁ (omega (arith, ap length is, length-append preamble r₁)) (bytes-after preamble r₁ (rw is at h)) e₃ in
@@ -213,5 +213,5 @@ preamble-read bs {ss} read ordered =
     let r = sections-complete read (length (preamble ++ bs)) nothing (omega (arith, length-append preamble bs)) (ordered-run ss ordered) o in
     (r .value, rw (e, r .reads), r .same)
 
-pub walk-complete : {m : List ℕ} {ss : List BareSection} → Module m ss → (read : List Section) × (walk m ≡ accepted read) × (bareSections read ≡ ss)
-walk-complete (aModule {bs = bs} read ordered) = rw (preamble-bytes bs) (preamble-read bs read ordered)
+pub walk-complete : (m : List ℕ) (ss : List BareSection) → Module m ss → (read : List Section) × (walk m ≡ accepted read) × (bareSections read ≡ ss)
+walk-complete m ss (aModule {bs = bs} read ordered) = rw (preamble-bytes bs) (preamble-read bs read ordered)

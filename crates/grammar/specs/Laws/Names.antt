@@ -21,7 +21,8 @@ use Rattle.format.specs.declared.Reason.the-variants.{NotText}
 use Rattle.grammar.specs.Lists.{Sized}
 use Rattle.grammar.specs.Names.{Name, name as aName, NameMap, IndirectNameMap, Contents, moduleName, functionNames, localNames, typeNames, fieldNames, tagNames, anyBytes, Subsections, noSubsection, subsection, NamePayload, payload as aPayload}
 use Rattle.grammar.specs.Laws.Exact.{read-bytes, left-bytes, no-longer, Exact, fills-sound, fills-complete}
-use Rattle.grammar.specs.Laws.Texts.{text-utf8, utf8-text}
+use Rattle.grammar.specs.Laws.Ranges.{text-utf8}
+use Rattle.grammar.specs.Laws.Texts.{utf8-text}
 use Rattle.grammar.specs.Laws.Lists.{sized-exact, contents-bytes, tested-exact, table-exact, From, fromNil, fromRow, from-increasing, increasing-from}
 
 name-from : (bs x : List ℕ) → Name bs x → Sized bs x × (utf8 x ≡ true)
@@ -144,15 +145,15 @@ subsections-complete (subsection {id = id} {part = part} {others = others} s c m
     }
 
 -- THE PAYLOAD
-pub names-sound : (p : List ℕ) {t : Table (Content Part)} → Bytes p → judgeNames knownKind 0 p ≡ accepted t → NamePayload p (mapTable bare t)
+pub names-sound : (p : List ℕ) (t : Table (Content Part)) → Bytes p → judgeNames knownKind 0 p ≡ accepted t → NamePayload p (mapTable bare t)
 unfolding judgeNames payload
-names-sound p h e =
+names-sound p t h e =
     judged (payload knownKind 0 p) e λ o rest e₁.
     let (ss, f) = subsections-sound (length p) 0 0 p (omega arith) h e₁ in
     aPayload ss (from-increasing f)
 
-pub names-complete : {p : List ℕ} {m : Table (Content (List ℕ))} → NamePayload p m → (t : Table (Content Part)) × (judgeNames knownKind 0 p ≡ accepted t) × (mapTable bare t ≡ m)
+pub names-complete : (p : List ℕ) (m : Table (Content (List ℕ))) → NamePayload p m → (t : Table (Content Part)) × (judgeNames knownKind 0 p ≡ accepted t) × (mapTable bare t ≡ m)
 unfolding judgeNames payload
-names-complete (aPayload {bs = p} ss i) =
+names-complete p m (aPayload ss i) =
     let r = subsections-complete ss (length p) 0 (omega arith) (increasing-from i) 0 in
     (r .value, rw (r .reads), r .same)

@@ -1,7 +1,8 @@
 -- The reader of numbers accepts exactly what the grammar of unsigned integers has a meaning for.
 use Prim.Native.Nat.{ℕ, zero, suc, _+_, _-_, _*_, _%_, _^_, _≤_, _<_}
 use mathlib.Core.List.{List, [], _∷_, _++_}
-use mathlib.Core.Path.{_≡_, refl, ap, ap₂}
+use mathlib.Core.Logic.{_↔_}
+use mathlib.Core.Path.{_≡_, refl, sym, ap, ap₂, _∙_}
 use native.Mathlib.Nat.{le-trans}
 use native.Mathlib.Omega.{arith}
 use borrow.Author.Tests.{ltb-true, ltb-false, leb-true, lt-ltb, le-ltb, le-leb}
@@ -55,3 +56,12 @@ number-complete u o rest = groups-complete u 4 o o rest refl
 pub number-sound : (o : ℕ) (bs : List ℕ) {v o′ : ℕ} {rest : List ℕ} → Bytes bs → number o bs ≡ got v o′ rest → Stretch U32 v rest bs
 unfolding number
 number-sound o bs h e = groups-sound 4 32 o o bs refl h e
+
+pub number-exactly : (o : ℕ) (bs : List ℕ) → Bytes bs → (v o′ : ℕ) (rest : List ℕ) → (number o bs ≡ got v o′ rest) ↔ ((front : List ℕ) × U32 front v × (bs ≡ front ++ rest) × (o′ ≡ o + length front))
+number-exactly o bs h v o′ rest = (
+  λ e. let s = number-sound o bs h e in (s .front, s .means, s .is, got-next (sym e ∙ ap (number o) (s .is) ∙ number-complete (s .means) o rest)),
+  λ f. ap (number o) (f .2) ∙ number-complete (f .1) o rest ∙ ap (λ x. got v x rest) (sym (f .3)),
+)
+
+pub number-one-value : (bs : List ℕ) (v w : ℕ) → U32 bs v → U32 bs w → v ≡ w
+number-one-value bs v w u x = got-value (sym (number-complete u 0 []) ∙ number-complete x 0 [])

@@ -13,7 +13,7 @@ use Rattle.format.specs.Walk.{Seen, nothing}
 use Rattle.format.specs.Laws.Outcomes.{byTest}
 use Rattle.format.specs.Laws.Options.{some-is}
 use Rattle.grammar.specs.Modules.{Custom, Section, Among, here, further, Before, fromHere, fromFurther, Called, NameSection, HintSection, Ordered}
-use Rattle.grammar.specs.Laws.Texts.{false-true}
+use Rattle.grammar.specs.Laws.Tests.{false-true}
 
 -- Called by a name, as a test
 pub same-true : (x y : List ℕ) → same x y ≡ true → x ≡ y
