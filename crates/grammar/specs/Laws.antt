@@ -9,4 +9,5 @@ pub mod Lists
 pub mod Names
 pub mod Metadata
 pub mod Order
+pub mod Checks
 pub mod Modules

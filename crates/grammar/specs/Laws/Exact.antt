@@ -1,9 +1,9 @@
 -- A reader that is exact for a grammar: what it reads is what the grammar has a meaning for, with that meaning, and it reads whatever the grammar has one for. So meanings are unique.
-use Prim.Native.Nat.{ℕ, zero, suc, _+_, _≤_}
+use Prim.Native.Nat.{ℕ, zero, suc, _≤_}
 use mathlib.Core.List.{List, [], _∷_, _++_, append-nil}
-use mathlib.Core.Path.{_≡_, refl, sym, ap, _∙_}
+use mathlib.Core.Path.{_≡_, sym, ap, _∙_}
 use native.Mathlib.Omega.{arith}
-use lib.ListN.{getD, length, length-append}
+use lib.ListN.{length, length-append}
 use Rattle.format.specs.Bytes.{Bytes}
 use Rattle.format.specs.Reading.{got, Reader, filling}
 use Rattle.format.specs.Laws.Outcomes.{got-value, inTurn, ended}

@@ -1,7 +1,7 @@
 -- The readers of sized parts and of lists are exact.
-use Prim.Native.Nat.{ℕ, zero, suc, _+_, _≤_, _<_}
+use Prim.Native.Nat.{ℕ, zero, suc, _+_, _≤_}
 use mathlib.Core.Bool.{Bool, true}
-use mathlib.Core.List.{List, [], _∷_, _++_, append-assoc}
+use mathlib.Core.List.{List, [], _++_, append-assoc}
 use mathlib.Core.Path.{_≡_, refl, sym, ap, ap₂, _∙_}
 use native.Mathlib.Omega.{arith}
 use borrow.Author.Tests.{le-leb}
@@ -14,7 +14,7 @@ use Rattle.format.specs.Tables.{Table, nil, row, mapTable, rows, table}
 use Rattle.format.specs.Laws.Outcomes.{got-value, got-rest}
 use Rattle.format.specs.Laws.Turns.{inSized, tested, inTested, inRow, inTable}
 use Rattle.format.specs.declared.Reason.{Reason}
-use Rattle.grammar.specs.Numbers.{Grammar, U32}
+use Rattle.grammar.specs.Numbers.{Grammar}
 use Rattle.grammar.specs.Lists.{Sized, sized as aPart, Entries, noEntry, entry, Increasing, noRow, oneRow, twoRows, Listed, listed}
 use Rattle.grammar.specs.Laws.Exact.{bytes-after, Stretch, left-bytes, Accepts, Exact}
 use Rattle.grammar.specs.Laws.Numbers.{number-sound, number-complete}

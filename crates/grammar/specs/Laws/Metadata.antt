@@ -2,11 +2,11 @@
 use Prim.Native.Nat.{ℕ, zero, suc}
 use mathlib.Core.Bool.{true}
 use mathlib.Core.List.{List, [], _∷_}
-use mathlib.Core.Path.{_≡_, refl, ap}
+use mathlib.Core.Path.{_≡_, refl}
 use Rattle.format.specs.Bytes.{Bytes}
 use Rattle.format.specs.Reading.{Reader, accepted}
 use Rattle.format.specs.Options.{isSome}
-use Rattle.format.specs.Parts.{Part, sized}
+use Rattle.format.specs.Parts.{Part}
 use Rattle.format.specs.Tables.{Table}
 use Rattle.format.specs.Metadata.{hintOf, anyItem, hintItem, metadata, judgeMetadata}
 use Rattle.format.specs.Canonical.{bareItems}

@@ -1,107 +1,27 @@
 -- The walk is exact: it accepts exactly the modules that the grammar has a meaning for.
-use Prim.Native.Nat.{ℕ, zero, suc, _+_, _≤_, _<_}
-use mathlib.Core.Bool.{Bool, true, false, not, cond, _&&_, _||_}
-use mathlib.Core.List.{List, [], _∷_, _++_, append-assoc}
-use mathlib.Core.Logic.{_≢_}
+use Prim.Native.Nat.{ℕ, zero, suc, _+_, _≤_}
+use mathlib.Core.List.{List, [], _∷_, _++_}
 use mathlib.Core.Option.{Option, none, some}
 use mathlib.Core.Path.{_≡_, refl, sym, ap, ap₂, _∙_}
 use native.Mathlib.Omega.{arith}
-use borrow.Author.Tests.{ltb-true, leb-true, le-leb, lt-ltb, eqb-true, eqb-false, eq-eqb, ne-eqb}
-use lib.Dec.{ltb, leb, eqb}
+use borrow.Author.Tests.{eqb-true, eq-eqb}
+use lib.Dec.{eqb}
 use lib.ListN.{length, length-append}
-use Rattle.format.specs.Bytes.{Bytes, ascii, same}
-use Rattle.format.specs.Reading.{got, accepted, checked}
+use Rattle.format.specs.Bytes.{Bytes, same}
+use Rattle.format.specs.Reading.{got, accepted}
 use Rattle.format.specs.Options.{mapSome}
-use Rattle.format.specs.Parts.{Part, sized, name, remaining, inside}
-use Rattle.format.specs.Walk.{preamble, begins, greatestId, isCustom, isCode, isData, rank, custom, isCalled, nameSection, hintSection, Custom, Section, Seen, nothing, seeing, idRules, nameRules, section, sections, framing, walk}
-use Rattle.format.specs.Laws.Outcomes.{not-got, got-value, got-next, got-rest, byTest, inTurn, passed, inPart, judged}
+use Rattle.format.specs.Parts.{Part, sized, name, remaining}
+use Rattle.format.specs.Walk.{preamble, begins, custom, Custom, Section, Seen, nothing, seeing, section, sections, framing, walk}
+use Rattle.format.specs.Laws.Outcomes.{not-got, got-value, got-rest, byTest, inTurn, judged}
 use Rattle.format.specs.Laws.Turns.{inSections}
-use Rattle.format.specs.declared.Reason.{Reason}
 use Rattle.grammar.specs.Lists.{Sized}
-use Rattle.grammar.specs.Names.{Name}
 use Rattle.grammar.specs.Modules.{magic, version, Section as BareSection, Framed, customSection, otherSection, Sections, noSection, aSection, Ordered, Module, aModule}
 use Rattle.grammar.specs.Forgetting.{bareCustom, bareSection, bareSections}
 use Rattle.grammar.specs.Laws.Exact.{bytes-after, read-bytes, left-bytes, no-longer}
-use Rattle.grammar.specs.Laws.Tests.{false-true}
 use Rattle.grammar.specs.Laws.Lists.{sized-exact, contents-bytes}
 use Rattle.grammar.specs.Laws.Names.{name-exact}
-use Rattle.grammar.specs.Laws.Order.{calledIn, to-called, from-called, Allows, after, Run, end, step, ordered-run, run-ordered}
-
--- The checks of one section that the walk makes
-record Passed (seen : Seen) (id : ℕ) (c : Option Custom) : Type 0 where
-  known : leb id greatestId ≡ true
-  order : (isCustom id || ltb (seen .rank) (rank id)) ≡ true
-  no-data : not (isData id && seen .name) ≡ true
-  no-name : not (isCalled nameSection c && seen .name) ≡ true
-  no-hints : not (isCalled hintSection c && seen .hints) ≡ true
-  no-late-hints : not (isCalled hintSection c && seen .code) ≡ true
-
-last-check {ℓ} : {C : Type ℓ} (b : Bool) (why : Reason) (at o : ℕ) (bs : List ℕ) {v : Unit {0}} {o′ : ℕ} {rest : List ℕ} → checked b why at o bs ≡ got v o′ rest → (b ≡ true → o ≡ o′ → bs ≡ rest → C) → C
-last-check true why at o bs e k = k refl (got-next e) (got-rest e)
-last-check false why at o bs e k = absurd (not-got e)
-
-in-section {ℓ} : {C : Type ℓ} (seen : Seen) (o id : ℕ) (bs : List ℕ) {s : Section} {o₁ : ℕ} {r₁ : List ℕ} → section seen o id (suc o) bs ≡ got s o₁ r₁
-    → ((p : Part) (c : Option Custom) (o₂ : ℕ) (r₂ : List ℕ) → Passed seen id c → sized (suc o) bs ≡ got p o₁ r₁ → custom id (p .at) (p .bytes) ≡ got c o₂ r₂ → record { id = id; at = o; contents = p; custom = c } ≡ s → C) → C
-unfolding section idRules nameRules
-in-section seen o id bs e k =
-    inTurn (idRules seen o id (suc o) bs) _ e λ _ o₃ r₃ e₁ e₂.
-    passed (leb id greatestId) _ _ _ _ _ e₁ λ t₁ e₃. passed (isCustom id || ltb (seen .rank) (rank id)) _ _ _ _ _ e₃ λ t₂ e₄.
-    last-check (not (isData id && seen .name)) _ _ _ _ e₄ λ t₃ a a′.
-    inTurn (sized o₃ r₃) _ e₂ λ p o₄ r₄ e₅ e₆. inTurn (inside (custom id) p o₄ r₄) _ e₆ λ c o₅ r₅ e₇ e₈.
-    inPart (custom id (p .at) (p .bytes)) o₄ r₄ e₇ λ o₂ r₂ e₉ q q′.
-    inTurn (nameRules seen o c o₅ r₅) _ e₈ λ _ o₆ r₆ e₁₀ e₁₁.
-    passed (not (isCalled nameSection c && seen .name)) _ _ _ _ _ e₁₀ λ t₄ e₁₂. passed (not (isCalled hintSection c && seen .hints)) _ _ _ _ _ e₁₂ λ t₅ e₁₃.
-    last-check (not (isCalled hintSection c && seen .code)) _ _ _ _ e₁₃ λ t₆ b b′.
-    k p c o₂ r₂ (record { known = t₁; order = t₂; no-data = t₃; no-name = t₄; no-hints = t₅; no-late-hints = t₆ })
-    (rw (← got-next e₁₁, ← got-rest e₁₁, ← b, ← b′, ← q, ← q′, a, a′) e₅) e₉ (got-value e₁₁)
-
-section-reads : (seen : Seen) (o id : ℕ) (bs : List ℕ) (p : Part) (c : Option Custom) {o₁ : ℕ} {r₁ : List ℕ} {o₂ : ℕ} {r₂ : List ℕ} → Passed seen id c → sized (suc o) bs ≡ got p o₁ r₁ → custom id (p .at) (p .bytes) ≡ got c o₂ r₂
-    → section seen o id (suc o) bs ≡ got (record { id = id; at = o; contents = p; custom = c }) o₁ r₁
-unfolding section idRules nameRules
-section-reads seen o id bs p c h e₁ e₂ = rw (h .known, h .order, h .no-data, e₁, e₂, h .no-name, h .no-hints, h .no-late-hints)
-
--- They are what the rules allow
-not-both : (a b : Bool) → (a ≡ true → b ≡ true → ⊥) → not (a && b) ≡ true
-not-both true true h = absurd (h refl refl)
-not-both true false h = refl
-not-both false b h = refl
-
-both-not : (a b : Bool) → not (a && b) ≡ true → b ≡ true → a ≡ true → ⊥
-both-not true true h p q = false-true h
-both-not true false h p q = false-true p
-both-not false b h p q = false-true q
-
-called-bare : (x : List ℕ) (c : Option Custom) → isCalled x c ≡ calledIn x (mapSome bareCustom c)
-unfolding isCalled
-called-bare x none = refl
-called-bare x (some c) = refl
-
-module _ (seen : Seen) (s : Section) where
-  passed-allows : Passed seen (s .id) (s .custom) → Allows seen (bareSection s)
-  unfolding greatestId isCustom isData rank nameSection hintSection
-  passed-allows h = record {
-    known = leb-true (s .id) 12 (h .known);
-    order = λ n. let t : ltb (seen .rank) (s .id) ≡ true = rw (ne-eqb (s .id) 0 n) at (h .order) in ltb-true (seen .rank) (s .id) t;
-    no-data = λ e is. both-not (eqb (s .id) 11) (seen .name) (h .no-data) e (eq-eqb (s .id) 11 is);
-    no-name = λ e c. both-not (isCalled (ascii "name") (s .custom)) (seen .name) (h .no-name) e (called-bare _ (s .custom) ∙ from-called _ (bareSection s) c);
-    no-hints = λ e c. both-not (isCalled (ascii "metadata.code.branch_hint") (s .custom)) (seen .hints) (h .no-hints) e (called-bare _ (s .custom) ∙ from-called _ (bareSection s) c);
-    no-late-hints = λ e c. both-not (isCalled (ascii "metadata.code.branch_hint") (s .custom)) (seen .code) (h .no-late-hints) e (called-bare _ (s .custom) ∙ from-called _ (bareSection s) c);
-  }
-
-  allows-passed : Allows seen (bareSection s) → Passed seen (s .id) (s .custom)
-  unfolding greatestId isCustom isData rank nameSection hintSection
-  allows-passed h = record {
-    known = le-leb (s .id) 12 (h .known);
-    order = byTest (eqb (s .id) 0) (λ t. rw t) (λ t. rw t (lt-ltb (seen .rank) (s .id) (h .order (eqb-false (s .id) 0 t))));
-    no-data = not-both (eqb (s .id) 11) (seen .name) (λ t e. h .no-data e (eqb-true (s .id) 11 t));
-    no-name = not-both (isCalled (ascii "name") (s .custom)) (seen .name) (λ t e. h .no-name e (to-called _ (bareSection s) (sym (called-bare _ (s .custom)) ∙ t)));
-    no-hints = not-both (isCalled (ascii "metadata.code.branch_hint") (s .custom)) (seen .hints) (λ t e. h .no-hints e (to-called _ (bareSection s) (sym (called-bare _ (s .custom)) ∙ t)));
-    no-late-hints = not-both (isCalled (ascii "metadata.code.branch_hint") (s .custom)) (seen .code) (λ t e. h .no-late-hints e (to-called _ (bareSection s) (sym (called-bare _ (s .custom)) ∙ t)));
-  }
-
-  seeing-after : seeing seen s ≡ after seen (bareSection s)
-  unfolding seeing isCustom isCode rank nameSection hintSection
-  seeing-after = rw (called-bare (ascii "name") (s .custom), called-bare (ascii "metadata.code.branch_hint") (s .custom))
+use Rattle.grammar.specs.Laws.Order.{Allows, after, Run, end, step, ordered-run, run-ordered}
+use Rattle.grammar.specs.Laws.Checks.{in-section, section-reads, passed-allows, allows-passed, seeing-after}
 
 -- one section
 framed : (id o : ℕ) (p : Part) {c : Option Custom} {o₂ : ℕ} {r₂ part : List ℕ} → Bytes (p .bytes) → Sized part (p .bytes) → custom id (p .at) (p .bytes) ≡ got c o₂ r₂ → Framed (id ∷ part) (record { id = id; contents = p .bytes; custom = mapSome bareCustom c })

@@ -1,16 +1,16 @@
 -- The reader of name payloads is exact.
 use Prim.Native.Nat.{ℕ, zero, suc, _+_, _≤_}
 use mathlib.Core.Bool.{true}
-use mathlib.Core.List.{List, [], _∷_, _++_}
-use mathlib.Core.Logic.{_≢_, _↔_}
-use mathlib.Core.Path.{_≡_, refl, sym, ap, ap₂, _∙_}
+use mathlib.Core.List.{List, [], _∷_}
+use mathlib.Core.Logic.{_≢_}
+use mathlib.Core.Path.{_≡_, refl, ap, ap₂}
 use native.Mathlib.Omega.{arith}
 use borrow.Author.Tests.{le-leb, eqb-true, eqb-false, ne-eqb}
 use lib.Dec.{eqb}
 use lib.ListN.{length, length-append}
 use Rattle.format.specs.Bytes.{Bytes}
 use Rattle.format.specs.Reading.{got, filling, accepted}
-use Rattle.format.specs.Parts.{Part, sized, name, remaining}
+use Rattle.format.specs.Parts.{Part, name, remaining}
 use Rattle.format.specs.Text.{utf8}
 use Rattle.format.specs.Tables.{Table, nil, row, lookup, mapTable, table}
 use Rattle.format.specs.Names.{Kind, nameMap, indirectMap, kept, known, knownKind, Content, single, names, namesBy, whole, contents, subsections, payload, judgeNames}

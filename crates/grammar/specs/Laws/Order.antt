@@ -1,17 +1,16 @@
 -- The rules of order, said of every two sections, are what the walk checks from section to section by what it has seen.
-use Prim.Native.Nat.{ℕ, zero, suc, _≤_, _<_}
-use mathlib.Core.Bool.{Bool, true, false, not, cond, _&&_, _||_}
+use Prim.Native.Nat.{ℕ, _≤_, _<_}
+use mathlib.Core.Bool.{Bool, true, false, cond, _||_}
 use mathlib.Core.List.{List, [], _∷_}
 use mathlib.Core.Logic.{_≢_}
 use mathlib.Core.Option.{Option, none, some}
-use mathlib.Core.Path.{_≡_, refl, sym, ap, ap₂, _∙_}
+use mathlib.Core.Path.{_≡_, refl, sym, ap, ap₂}
 use native.Mathlib.Omega.{arith}
 use borrow.Author.Tests.{eqb-true, eqb-false, eq-eqb, ne-eqb}
 use lib.Dec.{eqb}
 use Rattle.format.specs.Bytes.{ascii, same}
 use Rattle.format.specs.Walk.{Seen, nothing}
 use Rattle.format.specs.Laws.Outcomes.{byTest}
-use Rattle.format.specs.Laws.Options.{some-is}
 use Rattle.grammar.specs.Modules.{Custom, Section, Among, here, further, Before, fromHere, fromFurther, Called, NameSection, HintSection, Ordered}
 use Rattle.grammar.specs.Laws.Tests.{false-true}
 
