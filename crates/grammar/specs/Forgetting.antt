@@ -11,11 +11,11 @@ use Rattle.format.specs.Canonical.{bare, bareItems}
 use Rattle.format.specs.Walk.{Custom, Section, walk}
 use Rattle.grammar.specs.Modules.{Custom as BareCustom, Section as BareSection}
 
-abbrev pub namesRead : List ℕ → Judged (Table (Content (List ℕ)))
-namesRead p = mapJudged (mapTable bare) (judgeNames knownKind 0 p)
+abbrev pub namesRead : ℕ → List ℕ → Judged (Table (Content (List ℕ)))
+namesRead at p = mapJudged (mapTable bare) (judgeNames knownKind at p)
 
-abbrev pub metadataRead : Reader Part → List ℕ → Judged (Table (Table (List ℕ)))
-metadataRead item p = mapJudged bareItems (judgeMetadata item 0 p)
+abbrev pub metadataRead : Reader Part → ℕ → List ℕ → Judged (Table (Table (List ℕ)))
+metadataRead item at p = mapJudged bareItems (judgeMetadata item at p)
 
 abbrev pub bareCustom : Custom → BareCustom
 bareCustom c = record { name = c .name .bytes; payload = c .payload .bytes }

@@ -56,16 +56,16 @@ module _ {A B : Type 0} {judgement : List ℕ → Judged A} {plain : A → B} {g
   exact : Accepts (λ p. mapJudged plain (judgement p)) grammar
   exact = record { accepted-exactly = means-exactly sound complete; refused-exactly = meaningless-exactly sound complete; one-meaning = means-one sound complete }
 
--- a name payload
-pub names-exact : Accepts namesRead NamePayload
-names-exact = exact names-sound names-complete
+-- a name payload, wherever it begins in what was lent
+pub names-exact : (at : ℕ) → Accepts (namesRead at) NamePayload
+names-exact at = exact (names-sound at) (names-complete at)
 
 -- code metadata of any format, and branch hints
-pub metadata-exact : Accepts (metadataRead anyItem) (CodeMetadata Unknown)
-metadata-exact = exact (metadata-sound any-exact) (metadata-complete any-exact)
+pub metadata-exact : (at : ℕ) → Accepts (metadataRead anyItem at) (CodeMetadata Unknown)
+metadata-exact at = exact (metadata-sound any-exact at) (metadata-complete any-exact at)
 
-pub hints-exact : Accepts (metadataRead hintItem) (CodeMetadata BranchHint)
-hints-exact = exact (metadata-sound hint-exact) (metadata-complete hint-exact)
+pub hints-exact : (at : ℕ) → Accepts (metadataRead hintItem at) (CodeMetadata BranchHint)
+hints-exact at = exact (metadata-sound hint-exact at) (metadata-complete hint-exact at)
 
 -- the frame of a module
 pub modules-exact : Accepts sectionsRead Module

@@ -13,7 +13,7 @@ Format = List ℕ → Type 0
 pub data Item (T : Format) : List ℕ → List ℕ → Type 0 where
   item : {bs data′ : List ℕ} → Sized bs data′ → T data′ → Item T bs data′
 
--- codemetadatafunc(T) ::= x:funcidx list(codemetadataitem(T)); codemetadata(T) ::= .. list(codemetadatafunc(T))
+-- codemetadatafunc(T) ::= x:funcidx list(codemetadataitem(T)), codemetadata(T) ::= .. list(codemetadatafunc(T)), both "in order of increasing" number, "and duplicate" ones "are not allowed"
 abbrev pub CodeMetadata : Format → Grammar (Table (Table (List ℕ)))
 CodeMetadata T = Listed (Listed (Item T))
 

@@ -8,7 +8,7 @@ use Rattle.grammar.specs.Numbers.{Grammar}
 use Rattle.grammar.specs.Texts.{Text}
 use Rattle.grammar.specs.Lists.{Sized, Increasing, Listed}
 
--- name ::= b*:list(byte) ⇒ name (if utf8(name) = b*)
+-- name ::= b*:list(byte) ⇒ name (if utf8(name) = b*), where list(byte) is a count and so many bytes
 pub data Name : List ℕ → List ℕ → Type 0 where
   name : {bs text characters : List ℕ} → Sized bs text → Text text characters → Name bs text
 
@@ -20,7 +20,7 @@ NameMap = Listed Name
 abbrev pub IndirectNameMap : Grammar (Table (Table (List ℕ)))
 IndirectNameMap = Listed NameMap
 
--- the contents of the subsection with an id; under any other id they may be anything
+-- the contents B of the subsection namesubsection_N(B): modulenamesubsec ::= namesubsection_0(name), funcnamesubsec ::= namesubsection_1(namemap), and so on by the source's table of ids. Tag names stand there under 11, and the table decides over the production that prints 1. Under any other id the contents may be any bytes
 pub data Contents : ℕ → List ℕ → Content (List ℕ) → Type 0 where
   moduleName : {bs text : List ℕ} → Name bs text → Contents 0 bs (single text)
   functionNames : {bs : List ℕ} {t : Table (List ℕ)} → NameMap bs t → Contents 1 bs (names t)
@@ -30,11 +30,11 @@ pub data Contents : ℕ → List ℕ → Content (List ℕ) → Type 0 where
   tagNames : {bs : List ℕ} {t : Table (List ℕ)} → NameMap bs t → Contents 11 bs (names t)
   anyBytes : {id : ℕ} {bs : List ℕ} → id ≢ 0 → id ≢ 1 → id ≢ 2 → id ≢ 4 → id ≢ 10 → id ≢ 11 → Contents id bs (whole bs)
 
--- subsections: id:byte size:u32 contents (if size = ||contents||), one after another
+-- namesubsection_N(B) ::= N:byte size:u32 B (if size = ||B||), one after another
 pub data Subsections : List ℕ → Table (Content (List ℕ)) → Type 0 where
   noSubsection : Subsections [] nil
   subsection : {id : ℕ} {part contents others : List ℕ} {c : Content (List ℕ)} {t : Table (Content (List ℕ))} → Sized part contents → Contents id contents c → Subsections others t → Subsections (id ∷ part ++ others) (row id c t)
 
--- each subsection at most once, and in order of increasing id
+-- "Each subsection may occur at most once, and in order of increasing id."
 pub data NamePayload : List ℕ → Table (Content (List ℕ)) → Type 0 where
   payload : {bs : List ℕ} {t : Table (Content (List ℕ))} → Subsections bs t → Increasing t → NamePayload bs t

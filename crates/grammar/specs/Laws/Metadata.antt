@@ -42,12 +42,12 @@ pub hint-exact : Exact hintItem (λ p. p .bytes) (Item BranchHint)
 unfolding hintItem
 hint-exact = tested-exact (λ x. isSome (hintOf x)) NotHint (λ o p. o) (λ bs x s t. anItem s (is-hint x t)) hint-is
 
--- THE PAYLOAD
+-- THE PAYLOAD, wherever it begins in what was lent
 module _ {item : Reader Part} {T : Format} (exact : Exact item (λ p. p .bytes) (Item T)) where
-  pub metadata-sound : (p : List ℕ) (t : Table (Table Part)) → Bytes p → judgeMetadata item 0 p ≡ accepted t → CodeMetadata T p (bareItems t)
+  pub metadata-sound : (at : ℕ) (p : List ℕ) (t : Table (Table Part)) → Bytes p → judgeMetadata item at p ≡ accepted t → CodeMetadata T p (bareItems t)
   unfolding judgeMetadata metadata
-  metadata-sound p t h e = judged (metadata item 0 p) e λ o rest e₁. fills-sound (table-exact (table-exact exact)) 0 p h e₁
+  metadata-sound at p t h e = judged (metadata item at p) e λ o rest e₁. fills-sound (table-exact (table-exact exact)) at p h e₁
 
-  pub metadata-complete : (p : List ℕ) (m : Table (Table (List ℕ))) → CodeMetadata T p m → (t : Table (Table Part)) × (judgeMetadata item 0 p ≡ accepted t) × (bareItems t ≡ m)
+  pub metadata-complete : (at : ℕ) (p : List ℕ) (m : Table (Table (List ℕ))) → CodeMetadata T p m → (t : Table (Table Part)) × (judgeMetadata item at p ≡ accepted t) × (bareItems t ≡ m)
   unfolding judgeMetadata metadata
-  metadata-complete p m g = let (t, o, e, q) = fills-complete (table-exact (table-exact exact)) g 0 in (t, rw e, q)
+  metadata-complete at p m g = let (t, o, e, q) = fills-complete (table-exact (table-exact exact)) g at in (t, rw e, q)

@@ -7,7 +7,7 @@ use native.Mathlib.Omega.{arith}
 use borrow.Author.Tests.{eqb-true, eq-eqb}
 use lib.Dec.{eqb}
 use lib.ListN.{length, length-append}
-use Rattle.format.specs.Bytes.{Bytes, same}
+use Rattle.format.specs.Bytes.{Bytes}
 use Rattle.format.specs.Reading.{got, accepted}
 use Rattle.format.specs.Options.{mapSome}
 use Rattle.format.specs.Parts.{Part, sized, name, remaining}
@@ -24,13 +24,13 @@ use Rattle.grammar.specs.Laws.Order.{Allows, after, Run, end, step, orde
 use Rattle.grammar.specs.Laws.Checks.{in-section, section-reads, passed-allows, allows-passed, seeing-after}
 
 -- one section
-framed : (id o : ℕ) (p : Part) {c : Option Custom} {o₂ : ℕ} {r₂ part : List ℕ} → Bytes (p .bytes) → Sized part (p .bytes) → custom id (p .at) (p .bytes) ≡ got c o₂ r₂ → Framed (id ∷ part) (record { id = id; contents = p .bytes; custom = mapSome bareCustom c })
+framed : (id : ℕ) (p : Part) {c : Option Custom} {o₂ : ℕ} {r₂ part : List ℕ} → Bytes (p .bytes) → Sized part (p .bytes) → custom id (p .at) (p .bytes) ≡ got c o₂ r₂ → Framed (id ∷ part) (record { id = id; contents = p .bytes; custom = mapSome bareCustom c })
 unfolding custom remaining
-framed zero o p h s e =
+framed zero p h s e =
     inTurn (name (p .at) (p .bytes)) _ e λ n o₁ r₁ e₁ e₂.
     let text = name-exact .sound (p .at) (p .bytes) h e₁ in
     rw (← got-value e₂, text .is) (customSection (rw (text .is) at s) (text .means))
-framed (suc id) o p h s e = rw (← got-value e) (otherSection {id = suc id} (λ q. omega (arith, q)) s)
+framed (suc id) p h s e = rw (← got-value e) (otherSection {id = suc id} (λ q. omega (arith, q)) s)
 
 record FramedRead (seen : Seen) (bs : List ℕ) (s : BareSection) (o : ℕ) (rest : List ℕ) : Type 0 where
   part : List ℕ
@@ -68,7 +68,7 @@ sections-sound (suc most) seen o (id ∷ bs) f h e =
     inSections most seen o id bs e λ s o₁ r₁ more e₁ e₂ is. in-section seen o id bs e₁ λ p c o₂ r₂ checks e₃ e₄ is-s.
     let h₁ : Bytes bs = λ i. h (suc i) in
     let part = sized-exact .sound (suc o) bs h₁ e₃ in
-    let frame = framed id o p (contents-bytes (part .means) (read-bytes part h₁)) (part .means) e₄ in
+    let frame = framed id p (contents-bytes (part .means) (read-bytes part h₁)) (part .means) e₄ in
     let ih = sections-sound most (seeing seen s) o₁ r₁ (omega (arith, no-longer part)) (left-bytes part h₁) e₂ in
     let read : Section = record { id = id; at = o; contents = p; custom = c } in
     let run : Run (after seen (bareSection read)) (bareSections more) = rw (← is-s, seeing-after seen read) at (ih .1) in

@@ -144,16 +144,16 @@ subsections-complete (subsection {id = id} {part = part} {others = others} s c m
       same = ap₂ (row id) (b .same) (ih .same);
     }
 
--- THE PAYLOAD
-pub names-sound : (p : List ℕ) (t : Table (Content Part)) → Bytes p → judgeNames knownKind 0 p ≡ accepted t → NamePayload p (mapTable bare t)
+-- THE PAYLOAD, wherever it begins in what was lent
+pub names-sound : (at : ℕ) (p : List ℕ) (t : Table (Content Part)) → Bytes p → judgeNames knownKind at p ≡ accepted t → NamePayload p (mapTable bare t)
 unfolding judgeNames payload
-names-sound p t h e =
-    judged (payload knownKind 0 p) e λ o rest e₁.
-    let (ss, f) = subsections-sound (length p) 0 0 p (omega arith) h e₁ in
+names-sound at p t h e =
+    judged (payload knownKind at p) e λ o rest e₁.
+    let (ss, f) = subsections-sound (length p) 0 at p (omega arith) h e₁ in
     aPayload ss (from-increasing f)
 
-pub names-complete : (p : List ℕ) (m : Table (Content (List ℕ))) → NamePayload p m → (t : Table (Content Part)) × (judgeNames knownKind 0 p ≡ accepted t) × (mapTable bare t ≡ m)
+pub names-complete : (at : ℕ) (p : List ℕ) (m : Table (Content (List ℕ))) → NamePayload p m → (t : Table (Content Part)) × (judgeNames knownKind at p ≡ accepted t) × (mapTable bare t ≡ m)
 unfolding judgeNames payload
-names-complete p m (aPayload ss i) =
-    let r = subsections-complete ss (length p) 0 (omega arith) (increasing-from i) 0 in
+names-complete at p m (aPayload ss i) =
+    let r = subsections-complete ss (length p) 0 (omega arith) (increasing-from i) at in
     (r .value, rw (r .reads), r .same)
