@@ -14,7 +14,7 @@ use Rattle.format.specs.Parts.{Part, name, remaining}
 use Rattle.format.specs.Tables.{lookup, table}
 use Rattle.format.specs.Names.{Kind as AnyKind, oneName, nameMap, indirectMap, kept, known, knownKind, contents}
 use Rattle.format.specs.Questions.{Query, itsName, itsContents, nameOf, nameWithin, answerIn, answer, asked, askAt, ask, asPlace, answered, Question, moduleName, functionName, typeName, tagName, localName, fieldName, keptContents, idOf, queryOf}
-use Rattle.format.specs.Laws.Outcomes.{not-accepted, accepted-is, byOutcome}
+use Rattle.format.specs.Laws.Outcomes.{not-accepted, accepted-is, byOutcome, mapped}
 use Rattle.format.specs.declared.Answer.{Answer}
 use Rattle.format.specs.declared.Answer.the-variants.{None as NoAnswer, Refused as NotAnswered}
 use Rattle.format.specs.declared.Refusal.{Refusal}
@@ -27,7 +27,7 @@ use Rattle.format.specs.declared.TagIndex.{TagIndex}
 use Rattle.reading.specs.Cursors.{Inside, left}
 use Rattle.reading.specs.declared.Cursor.{Cursor}
 use Rattle.names.specs.Contents.{kindMeant, asksIn, Asks, placeAt}
-use Rattle.names.specs.Places.{subInside, Stands, Accepts, Judges, Finds, AsksAt, refusalIn}
+use Rattle.names.specs.Places.{subOf, subInside, KnownAt, Stands, Accepts, Judges, Finds, AsksAt, refusalIn}
 use Rattle.names.specs.declared.kinds.Kind.{Kind}
 use Rattle.names.specs.declared.kinds.Kind.the-variants.{OneName, NameMap, IndirectMap, Kept}
 use Rattle.names.specs.declared.places.Sub.{Sub}
@@ -38,6 +38,7 @@ use Rattle.names.specs.declared.judging.Judged.the-variants.{Accepted, R
 use Rattle.names.proofs.kinds.Kind as kind-type
 use Rattle.names.proofs.places.Sub as sub-type
 use Rattle.names.proofs.judging.Judged as judged-type
+use Rattle.names.proofs.ContentLaws.{known-inside, map-known, indirect-known, seek-ordered}
 use Rattle.names.proofs.FrameLaws.{asked-lies}
 use Rattle.names.proofs.JudgeLaws.{all-inside}
 
@@ -76,6 +77,8 @@ pub place-ahead : (s : List ℕ) {place : Sub} {part : Cursor} → place ≡ At 
 place-ahead s {part = part} e i = let h : Inside s part = rw e at i in h .ahead
 
 pub ruleset place-steps = (nothing-asked, place-asked, place-inside, place-ahead, kept-asked, needs)
+
+pub ruleset map-steps = (nothing-asked, known-inside, map-known, indirect-known, seek-ordered, needs)
 
 -- One law for all questions: the place that the id has, asked
 pub place-answers : {s : List ℕ} {at : ℕ} {bs : List ℕ} {p : Places} (id : ℕ) (q : Query) (place : Sub) {y : Answer} (a : Accepts s at bs p) → Stands s place (lookup id (a .lying)) → AsksAt (knownKind id) q s place y → answered y ≡ asPlace (asked knownKind id q at bs)
@@ -121,27 +124,41 @@ module _ {s : List ℕ} {at : ℕ} {bs : List ℕ} {j : Judged} where
     unfolding askAt idOf queryOf knownKind known lookup
     field-answers t k asks = let a = accepts judged e in place-answers 10 (nameWithin (t .0) (k .0)) (p .fields) a (a .all-stand .fields-stand) asks
 
--- each place lies inside
+-- what was accepted stands where its id lies
+known-stands : {s : List ℕ} {at : ℕ} {bs : List ℕ} {p : Places} (id : ℕ) (place : Sub) (a : Accepts s at bs p) → Stands s place (lookup id (a .lying)) → KnownAt (knownKind id) s place
+unfolding asked
+known-stands id Absent a st = record { inside = tt; known = tt }
+known-stands {s} {at} {bs} id (At d) a st =
+    let told : asked knownKind id itsName at bs ≡ accepted (answer id itsName (a .held)) = rw (a .judged) refl in
+    let there : asksIn (knownKind id) itsName (subOf s (At d)) ≡ accepted (answer id itsName (a .held)) = ap (asksIn (knownKind id) itsName) (st .is) ∙ sym (asked-lies knownKind id itsName at bs (a .judged) (a .framed)) ∙ told in
+    record { inside = st .inside; known = mapped (answerIn itsName) (judge (contents (knownKind id) (d .at) (left _ d))) there λ v e q. record { value = v; judged = e } }
+
+-- each place lies inside, and the maps there are known
 module _ (at : ℕ) (bs : List ℕ) {s : List ℕ} {j : Judged} {p : Places} (judged : Judges s at bs j) (e : j ≡ Accepted p) where
   pub module-inside : subInside s (p .module)
   module-inside = accepts judged e .all-stand .module-stands .inside
 
-  pub functions-inside : subInside s (p .functions)
-  functions-inside = accepts judged e .all-stand .functions-stand .inside
+  pub functions-known : KnownAt nameMap s (p .functions)
+  unfolding knownKind known lookup
+  functions-known = let a = accepts judged e in known-stands 1 (p .functions) a (a .all-stand .functions-stand)
 
-  pub locals-inside : subInside s (p .locals)
-  locals-inside = accepts judged e .all-stand .locals-stand .inside
+  pub locals-known : KnownAt indirectMap s (p .locals)
+  unfolding knownKind known lookup
+  locals-known = let a = accepts judged e in known-stands 2 (p .locals) a (a .all-stand .locals-stand)
 
-  pub types-inside : subInside s (p .types)
-  types-inside = accepts judged e .all-stand .types-stand .inside
+  pub types-known : KnownAt nameMap s (p .types)
+  unfolding knownKind known lookup
+  types-known = let a = accepts judged e in known-stands 4 (p .types) a (a .all-stand .types-stand)
 
-  pub fields-inside : subInside s (p .fields)
-  fields-inside = accepts judged e .all-stand .fields-stand .inside
+  pub fields-known : KnownAt indirectMap s (p .fields)
+  unfolding knownKind known lookup
+  fields-known = let a = accepts judged e in known-stands 10 (p .fields) a (a .all-stand .fields-stand)
 
-  pub tags-inside : subInside s (p .tags)
-  tags-inside = accepts judged e .all-stand .tags-stand .inside
+  pub tags-known : KnownAt nameMap s (p .tags)
+  unfolding knownKind known lookup
+  tags-known = let a = accepts judged e in known-stands 11 (p .tags) a (a .all-stand .tags-stand)
 
-pub ruleset questions = (question-refused, module-answers, function-answers, type-answers, tag-answers, local-answers, field-answers, module-inside, functions-inside, locals-inside, types-inside, fields-inside, tags-inside, needs)
+pub ruleset questions = (question-refused, module-answers, function-answers, type-answers, tag-answers, local-answers, field-answers, module-inside, functions-known, locals-known, types-known, fields-known, tags-known, needs)
 
 -- What is kept: the ids that are known keep nothing
 known-silent : (kind : AnyKind) (o : ℕ) (bs : List ℕ) {x : Option Part} → (kind ≡ kept → ⊥) → mapJudged (answerIn itsContents) (judge (contents kind o bs)) ≡ accepted x → none ≡ x

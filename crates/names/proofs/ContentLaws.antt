@@ -14,7 +14,9 @@ use Rattle.format.specs.Parts.{Part, name, remaining}
 use Rattle.format.specs.Tables.{lookup, table}
 use Rattle.format.specs.Names.{Kind as AnyKind, oneName, nameMap, indirectMap, known, knownKind, Content, single, names, namesBy, contents}
 use Rattle.format.specs.Questions.{Query, itsName, nameOf, nameWithin, answerIn, answered, asPlace}
-use Rattle.format.specs.Laws.Outcomes.{byTest}
+use Rattle.format.specs.Laws.Outcomes.{byTest, byOutcome, accepted-is, not-accepted}
+use Rattle.format.specs.Laws.Laxer.{Laxer, name-laxer, table-laxer, filled-laxer}
+use Rattle.format.specs.Metadata.{anyItem}
 use Rattle.format.specs.declared.Answer.{Answer}
 use Rattle.format.specs.declared.Answer.the-variants.{None as NoAnswer, Refused as NotAnswered}
 use Rattle.format.specs.declared.Refusal.{Refusal}
@@ -29,6 +31,9 @@ use Rattle.tables.specs.declared.Seek.{Seek}
 use Rattle.tables.specs.declared.Seek.the-variants.{None, Found, Refused}
 use Rattle.tables.proofs.Laws.{refused-means, none-means, none-inside, found-means, found-inside, found-part}
 use Rattle.names.specs.Contents.{kindMeant, Asks, Rules, placeAt, filledBy, endOf, Ordered}
+use Rattle.names.specs.Places.{KnownAt, AsksAt}
+use Rattle.names.specs.declared.places.Sub.{Sub}
+use Rattle.names.specs.declared.places.Sub.the-variants.{At}
 use Rattle.names.specs.declared.kinds.Kind.{Kind}
 use Rattle.names.specs.declared.kinds.Kind.the-variants.{OneName, NameMap, IndirectMap, Kept}
 use Rattle.names.proofs.kinds.Kind as kind-type
@@ -88,6 +93,16 @@ fill-asked (stop n at) wrap q = refl
 fill-asked (got v o []) wrap q = refl
 fill-asked (got v o (b ∷ bs)) wrap q = refl
 
+-- what was accepted answers the same when it is read without the checks that it passed
+lax-asked : {A : Type 0} {strict lax : Reader A} → Laxer strict lax → (wrap : A → Content Part) (q : Query) (o : ℕ) (bs : List ℕ) {c : Content Part} → judge (andThen (filling strict o bs) (λ x. return (wrap x))) ≡ accepted c → judge (andThen (andThen (lax o bs) (λ x. return (answerIn q (wrap x)))) atEnd) ≡ accepted (answerIn q c)
+lax-asked {strict = strict} l wrap q o bs e =
+    byOutcome (filling strict o bs)
+    (λ v o′ rest r.
+    let (o₁, reads) = filled-laxer l o bs r in
+    let is = accepted-is (rw r at e) in
+    rw (reads, is) refl)
+    (λ n at r. absurd (not-accepted (rw r at e)))
+
 module _ {s : List ℕ} where
   at-the-end : (next : Cursor) (v : Option Part) (a : Answer) → Inside s next → answered a ≡ asPlace (accepted v) → answered (filledBy next a) ≡ asPlace (judge (atEnd v (next .at) (left s next)))
   unfolding asPlace
@@ -116,6 +131,24 @@ module _ {s : List ℕ} where
   pub indirect-asks : {part : Cursor} {key inner : ℕ} {x : Seek} {y : Answer} → Inside s part → Seeks (soughtWithin name key inner) s part x → y ≡ endOf x → Asks indirectMap (nameWithin key inner) s part y
   unfolding contents soughtWithin
   indirect-asks {part} {key} {inner} {x} i k e = record { says = rw (e, end-means x i k, fill-asked (table (table name) (part .at) (left s part)) namesBy (nameWithin key inner)) }
+
+  module _ {place : Sub} {part : Cursor} (at-part : place ≡ At part) where
+    pub known-inside : {kind : AnyKind} → KnownAt kind s place → Inside s part
+    known-inside h = rw at-part at (h .inside)
+
+    pub map-known : {x : Seek} {y : Answer} {key : ℕ} → KnownAt nameMap s place → Seeks (sought anyItem key) s part x → y ≡ endOf x → AsksAt nameMap (nameOf key) s place y
+    unfolding contents sought anyItem
+    map-known {x} {key = key} h k e =
+        let i = known-inside h in
+        let a = rw at-part at (h .known) in
+        record { says = rw (e, end-means x i k, at-part, a .judged, lax-asked (table-laxer name-laxer) names (nameOf key) (part .at) (left s part) (a .judged)) refl }
+
+    pub indirect-known : {x : Seek} {y : Answer} {key inner : ℕ} → KnownAt indirectMap s place → Seeks (soughtWithin anyItem key inner) s part x → y ≡ endOf x → AsksAt indirectMap (nameWithin key inner) s place y
+    unfolding contents soughtWithin anyItem
+    indirect-known {x} {key = key} {inner = inner} h k e =
+        let i = known-inside h in
+        let a = rw at-part at (h .known) in
+        record { says = rw (e, end-means x i k, at-part, a .judged, lax-asked (table-laxer (table-laxer name-laxer)) namesBy (nameWithin key inner) (part .at) (left s part) (a .judged)) refl }
 
   pub seek-ordered : {read : Reader (Option Part)} {d : Cursor} (x : Seek) → Inside s d → Seeks read s d x → Ordered x
   seek-ordered (None next) i k = tt

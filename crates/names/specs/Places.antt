@@ -6,15 +6,15 @@ use mathlib.Core.Option.{Option, none, some}
 use mathlib.Core.Path.{_≡_}
 use lib.Dec.{eqb}
 use Rattle.format.specs.Refusals.{numberOf}
-use Rattle.format.specs.Reading.{Judged as Judgement, accepted, refused}
+use Rattle.format.specs.Reading.{Judged as Judgement, accepted, refused, judge, Accepted as AcceptedBy}
 use Rattle.format.specs.Parts.{Part}
 use Rattle.format.specs.Tables.{Table, nil, row, lookup}
-use Rattle.format.specs.Names.{Kind, Content, knownKind, judgeNames}
+use Rattle.format.specs.Names.{Kind, Content, contents, knownKind, judgeNames}
 use Rattle.format.specs.Questions.{Query, answered, asPlace}
 use Rattle.format.specs.declared.Answer.{Answer}
 use Rattle.format.specs.declared.Reason.the-variants.{NoPreamble}
 use Rattle.format.specs.declared.Refusal.{Refusal}
-use Rattle.reading.specs.Cursors.{Inside, partOf}
+use Rattle.reading.specs.Cursors.{Inside, left, partOf}
 use Rattle.reading.specs.declared.Cursor.{Cursor}
 use Rattle.names.specs.Contents.{asksIn}
 use Rattle.names.specs.Frames.{judgeFrames}
@@ -86,6 +86,15 @@ pub record Puts (p : Places) (id : ℕ) (part : Cursor) (r : Places) : Type 0 wh
 -- where an id lies in an accepted payload
 pub record Finds (s : List ℕ) (at : ℕ) (bs : List ℕ) (id : ℕ) (r : Sub) : Type 0 where
   pub stands : (f : Table Part) → judgeFrames at bs ≡ accepted f → Stands s r (lookup id f)
+
+-- the contents at a place were accepted
+abbrev pub subKnown : Kind → List ℕ → Sub → Type 0
+subKnown kind s Absent = Unit {0}
+subKnown kind s (At d) = AcceptedBy (λ bs. judge (contents kind (d .at) bs)) (left s d)
+
+pub record KnownAt (kind : Kind) (s : List ℕ) (place : Sub) : Type 0 where
+  pub inside : subInside s place
+  pub known : subKnown kind s place
 
 -- What the contents at a place answer
 pub record AsksAt (kind : Kind) (q : Query) (s : List ℕ) (place : Sub) (r : Answer) : Type 0 where

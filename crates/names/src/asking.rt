@@ -2,9 +2,8 @@
 ghost use mathlib.Core.Path.{_≡_};
 ghost use Rattle.format.specs.Names.{oneName, nameMap, indirectMap, kept};
 ghost use Rattle.format.specs.Questions.{itsName, itsContents, nameOf, nameWithin};
-ghost use Rattle.names.specs.Places.{subInside, AsksAt, refusalIn};
-use crate::contents::indirect_map;
-use crate::contents::name_map;
+ghost use Rattle.names.specs.Places.{subInside, KnownAt, AsksAt, refusalIn};
+use crate::contents::ended;
 use crate::contents::one_name;
 use crate::judging::Judged;
 use crate::places::Sub;
@@ -13,6 +12,7 @@ use format::Offset;
 use format::Place;
 use format::Reason;
 use format::Refusal;
+use tables::Item;
 
 // The refusal of a judgement that is not accepted.
 pub fn refusal_of(judged: Judged) -> Refusal
@@ -38,25 +38,25 @@ pub fn the_name(s: &[u8], place: Sub) -> Answer
     }
 }
 
-// The name at `key` of the name map there.
+// The name at `key` of the name map there. It was accepted, so its text is not looked at again.
 pub fn named(s: &[u8], place: Sub, key: u32) -> Answer
-    requires { ⌜ subInside (now s) place ⌝ }
+    requires { ⌜ KnownAt nameMap (now s) place ⌝ }
     ensures { λ r. ⌜ AsksAt nameMap (nameOf key) (now (s .entry)) place r ⌝ }
 {
     match place {
         Sub::Absent => Answer::None,
-        Sub::At(part) => name_map(s, part, key),
+        Sub::At(part) => ended(tables::table(part, s, Item::Data, key)),
     }
 }
 
-// The name at `inner` in the map at `key` of the indirect map there.
+// The name at `inner` in the map at `key` of the indirect map there, likewise.
 pub fn named_within(s: &[u8], place: Sub, key: u32, inner: u32) -> Answer
-    requires { ⌜ subInside (now s) place ⌝ }
+    requires { ⌜ KnownAt indirectMap (now s) place ⌝ }
     ensures { λ r. ⌜ AsksAt indirectMap (nameWithin key inner) (now (s .entry)) place r ⌝ }
 {
     match place {
         Sub::Absent => Answer::None,
-        Sub::At(part) => indirect_map(s, part, key, inner),
+        Sub::At(part) => ended(tables::tables(part, s, Item::Data, key, inner)),
     }
 }
 

@@ -30,7 +30,7 @@ fn filled(next: Cursor, answer: Answer) -> Answer
 }
 
 // The answer of a search at its end.
-fn ended(found: Seek) -> Answer
+pub fn ended(found: Seek) -> Answer
     requires { ⌜ Ordered found ⌝ }
     ensures { λ r. ⌜ r ≡ endOf found ⌝ }
 {

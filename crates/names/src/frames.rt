@@ -1,5 +1,4 @@
 // From subsection to subsection.
-ghost use mathlib.Core.Path.{_≡_};
 ghost use Rattle.format.specs.Names.{knownKind};
 ghost use Rattle.reading.specs.Cursors.{Inside};
 ghost use Rattle.names.specs.Frames.{frame, subsection, FrameReads};

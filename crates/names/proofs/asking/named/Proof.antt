@@ -1,21 +1,25 @@
-use Rattle.names.proofs.AskLaws.{place-steps}
+use Rattle.names.proofs.AskLaws.{map-steps}
 use Rattle.names.proofs.asking.named.Statement.{statement}
 use Rattle.names.proofs.asking.named.Tie as tie
 
 enum-told : tie.Need-enum-told
-enum-told c = search place-steps
+enum-told c = search map-steps
 
 enum-known-place : tie.Need-enum-known-place
-enum-known-place c = search place-steps
+enum-known-place c = search map-steps
 
-name-map-requires : tie.Need-name-map-requires
-name-map-requires c κs = search place-steps
+table-requires : tie.Need-table-requires
+table-requires c κs = search map-steps
+
+ended-requires : tie.Need-ended-requires
+ended-requires c κs = search map-steps
 
 returns : tie.Need-returns
-returns c = search place-steps
+returns c = search map-steps
 
 returns-2 : tie.Need-returns-2
-returns-2 c = search place-steps
+returns-2 c = search map-steps
 
 pub named-spec : {M : Type 1} → statement M
-named-spec = tie.close (tie.spec enum-told enum-known-place name-map-requires returns returns-2)
+named-spec =
+    tie.close (tie.spec enum-told enum-known-place table-requires ended-requires returns returns-2)

@@ -1,22 +1,26 @@
-use Rattle.names.proofs.AskLaws.{place-steps}
+use Rattle.names.proofs.AskLaws.{map-steps}
 use Rattle.names.proofs.asking.named_within.Statement.{statement}
 use Rattle.names.proofs.asking.named_within.Tie as tie
 
 enum-told : tie.Need-enum-told
-enum-told c = search place-steps
+enum-told c = search map-steps
 
 enum-known-place : tie.Need-enum-known-place
-enum-known-place c = search place-steps
+enum-known-place c = search map-steps
 
-indirect-map-requires : tie.Need-indirect-map-requires
-indirect-map-requires c κs = search place-steps
+tables-requires : tie.Need-tables-requires
+tables-requires c κs = search map-steps
+
+ended-requires : tie.Need-ended-requires
+ended-requires c κs = search map-steps
 
 returns : tie.Need-returns
-returns c = search place-steps
+returns c = search map-steps
 
 returns-2 : tie.Need-returns-2
-returns-2 c = search place-steps
+returns-2 c = search map-steps
 
 pub named-within-spec : {M : Type 1} → statement M
 named-within-spec =
-    tie.close (tie.spec enum-told enum-known-place indirect-map-requires returns returns-2)
+    tie.close
+    (tie.spec enum-told enum-known-place tables-requires ended-requires returns returns-2)
