@@ -136,6 +136,9 @@ pub fn is_text(s: &[u8], from: usize, to: usize) -> bool
     ensures { λ r. ⌜ r ≡ utf8 (slice from to (now (s .entry))) ⌝ }
 {
     let near = after_ascii(s, from, to);
+    if to <= near {
+        return true;
+    }
     let mut i = after_characters(s, near, to);
     while i < to {
         let n = character(s, i, to);

@@ -13,6 +13,9 @@ abbrev μ-loop : tie.MeasureT-loop
 after-ascii-requires : tie.Need-after-ascii-requires Inv-loop μ-loop
 after-ascii-requires c κs = search turns
 
+returns : tie.Need-returns Inv-loop μ-loop
+returns c = search turns
+
 after-characters-requires : tie.Need-after-characters-requires Inv-loop μ-loop
 after-characters-requires c κs = search turns
 
@@ -22,8 +25,8 @@ loop-holds c = search turns
 character-requires : tie.Need-character-requires Inv-loop μ-loop
 character-requires c κs = search turns
 
-returns : tie.Need-returns Inv-loop μ-loop
-returns c = search turns
+returns-2 : tie.Need-returns-2 Inv-loop μ-loop
+returns-2 c = search turns
 
 add-i : tie.Need-add-i Inv-loop μ-loop
 add-i c = search turns
@@ -34,8 +37,8 @@ loop-less c = search turns
 loop-again : tie.Need-loop-again Inv-loop μ-loop
 loop-again c = search turns
 
-returns-2 : tie.Need-returns-2 Inv-loop μ-loop
-returns-2 c = search turns
+returns-3 : tie.Need-returns-3 Inv-loop μ-loop
+returns-3 c = search turns
 
 pub is-text-spec : {M : Type 1} → statement M
 is-text-spec =
@@ -44,11 +47,12 @@ is-text-spec =
     Inv-loop
     μ-loop
     after-ascii-requires
+    returns
     after-characters-requires
     loop-holds
     character-requires
-    returns
+    returns-2
     add-i
     loop-less
     loop-again
-    returns-2)
+    returns-3)
