@@ -72,6 +72,12 @@ payloads =
     nameIs "04 F4 8F BF BF" gives found 1 4 ∷
     nameIs "04 F4 90 80 80" gives refusal 4 1 ∷
     nameIs "01 00" gives found 1 1 ∷
+    -- a character of four bytes that three would do for, and the first and last that three bytes and a free second one allow
+    nameIs "04 F0 8F BF BF" gives refusal 4 1 ∷
+    nameIs "04 F0 90 80 80" gives found 1 4 ∷
+    nameIs "03 E0 A0 80" gives found 1 3 ∷
+    nameIs "03 E1 80 80" gives found 1 3 ∷
+    nameIs "03 EC BF BF" gives found 1 3 ∷
     nameIs "03 EF BB BF" gives found 1 3 ∷
     nameIs "03 EF BF BF" gives found 1 3 ∷
     -- 11 before what follows the index; 9 before the size; 10 before a fault of the next subsection
@@ -164,6 +170,9 @@ modules =
     walkIs (ordinary 11 "" ++ customSection "name" "" ++ ordinary 11 "") gives refusal 6 17 ∷
     walkIs (customSection "name" "" ++ (11 ∷ 0xFF ∷ [])) gives refusal 8 15 ∷
     walkIs (customSection "name" "" ++ theHints "") gives value 2 0 ∷
+    -- data count is not data; code is remembered behind other sections
+    walkIs (customSection "name" "" ++ ordinary 12 "") gives value 2 0 ∷
+    walkIs (ordinary 10 "" ++ customSection "x" "" ++ theHints "") gives refusal 8 14 ∷
     -- a second `name` that runs past the module is 2 before 7; hints, code, hints: 7 before 8
     walkIs (customSection "name" "" ++ (0 ∷ 6 ∷ 4 ∷ ascii "name")) gives refusal 2 16 ∷
     walkIs (customSection "name" "" ++ customSection "name" "") gives refusal 7 15 ∷
