@@ -1,8 +1,9 @@
 //! The name payloads of the committed fixtures, where module and payload are accepted.
 
 use std::fs;
-use std::path::{Path, PathBuf};
+use std::path::Path;
 
+use comparison::fixtures::modules;
 use comparison::library::{custom, names_judge};
 
 use crate::payload::{Kind, Payload};
@@ -11,18 +12,6 @@ const FOUND: u32 = 1;
 
 pub fn payloads() -> Vec<Payload> {
     modules().iter().filter_map(|path| accepted(path)).collect()
-}
-
-/// In the order of their names, which is not that of the folder.
-fn modules() -> Vec<PathBuf> {
-    let folder = Path::new(env!("CARGO_MANIFEST_DIR")).join("../fixtures");
-    let mut modules: Vec<PathBuf> = fs::read_dir(folder)
-        .expect("host/fixtures can be read")
-        .map(|entry| entry.expect("an entry can be read").path())
-        .filter(|path| path.extension().is_some_and(|kind| kind == "wasm"))
-        .collect();
-    modules.sort();
-    modules
 }
 
 fn accepted(path: &Path) -> Option<Payload> {

@@ -1,4 +1,5 @@
-//! The C calls as the header declares them, on slices.
+//! The C calls as the header declares them, on slices. They are declared here by themselves, so that a mistake in the
+//! declarations of the safe crate would be seen.
 
 // The crate that links the library is used for nothing else here.
 use wakemiono as _;

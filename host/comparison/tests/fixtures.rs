@@ -1,24 +1,13 @@
 //! Modules of several producers: their listings, and every call compared on them and on their payloads.
 
+use comparison::fixtures::modules;
 use comparison::library::{self, custom, section, walk, Told};
 use comparison::tally::Tally;
 use std::fmt::Write;
 use std::fs;
-use std::path::{Path, PathBuf};
 
 const FOUND: u32 = 1;
 const REFUSED: u32 = 2;
-
-fn fixtures() -> Vec<PathBuf> {
-    let folder = Path::new(env!("CARGO_MANIFEST_DIR")).join("../fixtures");
-    let mut modules: Vec<PathBuf> = fs::read_dir(folder)
-        .expect("host/fixtures can be read")
-        .map(|entry| entry.expect("an entry can be read").path())
-        .filter(|path| path.extension().is_some_and(|kind| kind == "wasm"))
-        .collect();
-    modules.sort();
-    modules
-}
 
 fn payload_line(label: &str, payload: Told) -> String {
     match payload.kind {
@@ -27,7 +16,7 @@ fn payload_line(label: &str, payload: Told) -> String {
     }
 }
 
-/// The listing, as the document has it.
+/// The listing, as the rules have it.
 fn listing(module: &[u8]) -> String {
     let count = walk(module);
     if count.kind == REFUSED {
@@ -44,7 +33,7 @@ fn listing(module: &[u8]) -> String {
 
 #[test]
 fn listings() {
-    let modules = fixtures();
+    let modules = modules();
     assert!(
         modules.len() >= 20,
         "only {} fixtures were found",
@@ -61,7 +50,7 @@ fn listings() {
 #[test]
 fn calls() {
     let mut tally = Tally::default();
-    for path in fixtures() {
+    for path in modules() {
         let module = fs::read(path).expect("a fixture can be read");
         tally.module(&module);
         for (name, of_names) in [(&b"name"[..], true), (b"metadata.code.branch_hint", false)] {
@@ -104,7 +93,7 @@ fn asked(module: &[u8], words: &[&str]) -> Told {
 #[test]
 fn answers() {
     let mut asked_for = 0;
-    for path in fixtures() {
+    for path in modules() {
         let Ok(answers) = fs::read_to_string(path.with_extension("answers")) else {
             continue;
         };

@@ -1,0 +1,16 @@
+//! The committed fixtures.
+
+use std::fs;
+use std::path::{Path, PathBuf};
+
+/// Their modules, in the order of their names, which is not that of the folder.
+pub fn modules() -> Vec<PathBuf> {
+    let folder = Path::new(env!("CARGO_MANIFEST_DIR")).join("../fixtures");
+    let mut modules: Vec<PathBuf> = fs::read_dir(folder)
+        .expect("host/fixtures can be read")
+        .map(|entry| entry.expect("an entry can be read").path())
+        .filter(|path| path.extension().is_some_and(|kind| kind == "wasm"))
+        .collect();
+    modules.sort();
+    modules
+}
