@@ -1,5 +1,6 @@
 pub mod Outcomes
 pub mod Options
+pub mod Tight
 pub mod Numbers
 pub mod Turns
 pub mod Codecs
@@ -11,6 +12,7 @@ pub mod Trimming
 pub mod Answers
 pub mod CanonicalNames
 pub mod CanonicalMetadata
+pub mod Unchanged
 pub mod Refusals
 pub mod Hints
 pub mod Places

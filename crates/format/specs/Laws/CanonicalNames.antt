@@ -48,7 +48,7 @@ module _ (kindOf : ℕ → Kind) where
   unfolding answer
   norm-determined a b h = table-sure (λ q c. answerIn q c) SubNorm (λ id c p. norm-loud (p .0)) (λ id c d p q e. norm-sure (p .0) (q .0) e) a b h
 
-  subsections-shorter : {t : Subsections} {least : ℕ} → Sorted (SubFine kindOf) least t → length (writeSubsections (keepRows trim t)) ≤ length (writeSubsections t)
+  pub subsections-shorter : {t : Subsections} {least : ℕ} → Sorted (SubFine kindOf) least t → length (writeSubsections (keepRows trim t)) ≤ length (writeSubsections t)
   unfolding keepRows writeSubsections
   subsections-shorter end = omega arith
   subsections-shorter (next {v = c} l p s) =

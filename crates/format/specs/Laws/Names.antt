@@ -1,4 +1,4 @@
--- The name payload: what is read is well formed and no shorter than its shortest writing; what is well formed is read back from its writing; an accepted payload is read to its end.
+-- The name payload: what is read is well formed and no shorter than its shortest writing, and as long only where it is that writing; what is well formed is read back from its writing; an accepted payload is read to its end.
 use Prim.Native.Nat.{ℕ, zero, suc, _+_, _≤_}
 use mathlib.Core.Bool.{true}
 use mathlib.Core.List.{List, [], _∷_}
@@ -11,10 +11,11 @@ use Rattle.format.specs.Parts.{Part, name, remaining}
 use Rattle.format.specs.Text.{utf8}
 use Rattle.format.specs.Tables.{Table, nil, row, size, mapTable, table}
 use Rattle.format.specs.Names.{Kind, oneName, nameMap, indirectMap, kept, Content, single, names, namesBy, whole, contents, subsections, payload}
-use Rattle.format.specs.Canonical.{bare, writeContent, writeSubsections}
+use Rattle.format.specs.Canonical.{bare, writePart, writeContent, writeSubsections}
 use Rattle.format.specs.Laws.Outcomes.{got-value, got-rest, inTurn}
 use Rattle.format.specs.Laws.Turns.{inSubsection}
-use Rattle.format.specs.Laws.Codecs.{Fits32, sized-codec, name-codec, Sorted, end, next, TableFine, table-codec, writePart-mono, fill-sound, fill-back}
+use Rattle.format.specs.Laws.Tight.{Tight, tight-none, tight-all, tight-byte, tight-join}
+use Rattle.format.specs.Laws.Codecs.{Fits32, sized-codec, name-codec, Sorted, end, next, TableFine, table-codec, writePart-mono, part-tight, fill-sound, fill-back}
 
 abbrev pub NameFine : List ℕ → Type 0
 NameFine x = Fits32 (length x) × (utf8 x ≡ true)
@@ -28,22 +29,23 @@ pub data ContentFine : Kind → Content (List ℕ) → Type 0 where
 pub record ContentRead (k : Kind) (c : Content (List ℕ)) (bs : List ℕ) : Type 0 where
   pub fine : ContentFine k c
   pub shorter : length (writeContent c) ≤ length bs
+  pub tight : Tight (writeContent c) [] bs
 
 pub contents-sound : (k : Kind) (o : ℕ) (bs : List ℕ) {c : Content Part} {o′ : ℕ} {rest : List ℕ} → contents k o bs ≡ got c o′ rest → ContentRead k (bare c) bs
 unfolding contents writeContent bare remaining
 contents-sound oneName o bs e =
     inTurn (filling name o bs) _ e λ x o₁ r₁ e₁ e₂.
     let s = fill-sound name-codec o bs e₁ in
-    rw (← got-value e₂) (record { fine = singleFine (s .fine); shorter = omega (arith, s .shorter) })
+    rw (← got-value e₂) (record { fine = singleFine (s .fine); shorter = omega (arith, s .shorter); tight = s .tight })
 contents-sound nameMap o bs e =
     inTurn (filling (table name) o bs) _ e λ x o₁ r₁ e₁ e₂.
     let s = fill-sound (table-codec name-codec) o bs e₁ in
-    rw (← got-value e₂) (record { fine = namesFine (s .fine); shorter = omega (arith, s .shorter) })
+    rw (← got-value e₂) (record { fine = namesFine (s .fine); shorter = omega (arith, s .shorter); tight = s .tight })
 contents-sound indirectMap o bs e =
     inTurn (filling (table (table name)) o bs) _ e λ x o₁ r₁ e₁ e₂.
     let s = fill-sound (table-codec (table-codec name-codec)) o bs e₁ in
-    rw (← got-value e₂) (record { fine = namesByFine (s .fine); shorter = omega (arith, s .shorter) })
-contents-sound kept o bs e = rw (← got-value e) (record { fine = wholeFine; shorter = omega arith })
+    rw (← got-value e₂) (record { fine = namesByFine (s .fine); shorter = omega (arith, s .shorter); tight = s .tight })
+contents-sound kept o bs e = rw (← got-value e) (record { fine = wholeFine; shorter = omega arith; tight = tight-all bs })
 
 record ContentBack (k : Kind) (c : Content (List ℕ)) (o : ℕ) : Type 0 where
   value : Content Part
@@ -65,19 +67,22 @@ module _ (kindOf : ℕ → Kind) where
   pub record SubsectionsRead (least : ℕ) (t : Table (Content (List ℕ))) (rest bs : List ℕ) : Type 0 where
     pub sorted : Sorted SubFine least t
     pub shorter : length (writeSubsections t) + length rest ≤ length bs
+    pub tight : Tight (writeSubsections t) rest bs
 
   subsections-sound : (most least o : ℕ) (bs : List ℕ) {t : Table (Content Part)} {o′ : ℕ} {rest : List ℕ} → subsections kindOf most least o bs ≡ got t o′ rest → SubsectionsRead least (mapTable bare t) rest bs
   unfolding subsections mapTable writeSubsections
-  subsections-sound zero least o bs e = rw (← got-value e, ← got-rest e) (record { sorted = end; shorter = omega arith })
-  subsections-sound (suc most) least o [] e = rw (← got-value e, ← got-rest e) (record { sorted = end; shorter = omega arith })
+  subsections-sound zero least o bs e = rw (← got-value e, ← got-rest e) (record { sorted = end; shorter = omega arith; tight = tight-none _ })
+  subsections-sound (suc most) least o [] e = rw (← got-value e, ← got-rest e) (record { sorted = end; shorter = omega arith; tight = tight-none _ })
   subsections-sound (suc most) least o (id ∷ bs) e =
       inSubsection kindOf most least o id bs e λ p o₁ r₁ c o₂ r₂ more above e₁ e₂ e₃ is.
       let s = sized-codec .sound (suc o) bs e₁ in
       let cs = contents-sound (kindOf id) (p .at) (p .bytes) e₂ in
       let ih = subsections-sound most (suc id) o₁ r₁ e₃ in
+      let part : length (writePart (writeContent (bare c))) + length r₁ ≤ length bs = omega (arith, s .shorter, writePart-mono (writeContent (bare c)) (p .bytes) (cs .shorter)) in
       rw (← is) (record {
         sorted = next above (cs .fine, omega (arith, cs .shorter, s .fine)) (ih .sorted);
         shorter = simp length-append (omega (arith, s .shorter, writePart-mono (writeContent (bare c)) (p .bytes) (cs .shorter), ih .shorter));
+        tight = tight-byte id (tight-join part (part-tight (cs .shorter) (cs .tight) (s .shorter) (s .tight)) (ih .shorter) (ih .tight));
       })
 
   record SubsectionsBack (most least : ℕ) (t : Table (Content (List ℕ))) (o : ℕ) : Type 0 where

@@ -1,7 +1,7 @@
--- Numbers: what is read has 32 bits and is no shorter than its fewest bytes; the fewest bytes read back; a smaller number takes no more bytes.
+-- Numbers: what is read has 32 bits and is no shorter than its fewest bytes, and as long only where it is these; the fewest bytes read back; a smaller number takes no more bytes.
 use Prim.Native.Nat.{ℕ, zero, suc, _+_, _*_, _%_, _/_, _≤_, _<_}
 use mathlib.Core.List.{List, [], _∷_, _++_}
-use mathlib.Core.Path.{_≡_, ap}
+use mathlib.Core.Path.{_≡_, refl, ap, ap₂}
 use native.Mathlib.Omega.{arith}
 use borrow.Author.Tests.{ltb-true, ltb-false, leb-true, le-ltb, le-leb}
 use lib.Dec.{ltb, leb}
@@ -9,6 +9,7 @@ use lib.ListN.{length}
 use Rattle.format.specs.Reading.{got, return}
 use Rattle.format.specs.Numbers.{groups, fewest, shortest}
 use Rattle.format.specs.Laws.Outcomes.{not-got, got-value, got-rest, byTest, inTurn}
+use Rattle.format.specs.Laws.Tight.{Tight}
 
 -- what `more` bytes after the next one can hold
 abbrev pub limit : ℕ → ℕ
@@ -18,10 +19,16 @@ limit (suc k) = 128 * limit k
 pub record NumberRead (k v : ℕ) (rest bs : List ℕ) : Type 0 where
   pub small : v < limit k
   pub shorter : length (fewest k v) + length rest ≤ length bs
+  pub tight : Tight (fewest k v) rest bs
 
 pub limit-positive : (k : ℕ) → 0 < limit k
 limit-positive zero = omega arith
 limit-positive (suc k) = omega (arith, limit-positive k)
+
+fewest-positive : (k v : ℕ) → 0 < length (fewest k v)
+unfolding fewest
+fewest-positive zero v = omega arith
+fewest-positive (suc k) v = byTest (ltb v 128) (λ t. rw t (omega arith)) (λ t. rw t (omega arith))
 
 pub groups-sound : (k s o : ℕ) (bs : List ℕ) {v o′ : ℕ} {rest : List ℕ} → groups k s o bs ≡ got v o′ rest → NumberRead k v rest bs
 unfolding groups fewest
@@ -31,7 +38,7 @@ groups-sound zero s o (b ∷ bs) {v} {o′} {rest} e =
     (λ t. let e′ : got b (suc o) bs ≡ got v o′ rest = rw t at e in
     let v-is = got-value e′ in
     let r-is = got-rest e′ in
-    record { small = omega (arith, leb-true b 15 t); shorter = rw (← r-is) (omega arith) })
+    record { small = omega (arith, leb-true b 15 t); shorter = rw (← r-is) (omega arith); tight = record { same = λ _ _. ap₂ (λ (x : ℕ) (xs : List ℕ). x ∷ xs) v-is r-is } })
     (λ t. absurd (not-got (rw t at e)))
 groups-sound (suc k) s o (b ∷ bs) {v} {o′} {rest} e =
     byTest (ltb b 128)
@@ -39,7 +46,7 @@ groups-sound (suc k) s o (b ∷ bs) {v} {o′} {rest} e =
     let v-is = got-value e′ in
     let r-is = got-rest e′ in
     let h = ltb-true b 128 t in
-    record { small = omega (arith, limit-positive k); shorter = rw (← r-is, ← v-is, t) (omega arith) })
+    record { small = omega (arith, limit-positive k); shorter = rw (← r-is, ← v-is, t) (omega arith); tight = rw (← r-is, ← v-is, t) (record { same = λ _ _. refl }) })
     (λ t. inTurn (groups k s (suc o) bs) (λ w. return (b % 128 + 128 * w)) (rw t at e) λ w o₁ r₁ e₁ e₂.
     let ih = groups-sound k s (suc o) bs e₁ in
     let v-is = got-value e₂ in
@@ -47,6 +54,9 @@ groups-sound (suc k) s o (b ∷ bs) {v} {o′} {rest} e =
     record {
       small = omega arith;
       shorter = rw (← got-rest e₂) (byTest (ltb v 128) (λ z. rw z (omega (arith, ih .shorter))) (λ z. rw (z, d) (omega (arith, ih .shorter))));
+      tight = rw (← got-rest e₂) (byTest (ltb v 128)
+          (λ z. rw z (record { same = λ h long. absurd (omega (arith, long, ih .shorter, fewest-positive k w)) }))
+          (λ z. rw (z, d) (record { same = λ h long. ap₂ (λ (x : ℕ) (xs : List ℕ). x ∷ xs) (omega (arith, h 0, ltb-false b 128 t, v-is)) (ih .tight .same (λ i. h (suc i)) (omega (arith, long))) })));
     })
 
 -- reading back the fewest bytes
@@ -74,5 +84,5 @@ unfolding shortest
 shortest-mono m n h = fewest-mono 4 m n h
 
 pub shortest-positive : (v : ℕ) → 0 < length (shortest v)
-unfolding shortest fewest
-shortest-positive v = byTest (ltb v 128) (λ t. rw t (omega arith)) (λ t. rw t (omega arith))
+unfolding shortest
+shortest-positive v = fewest-positive 4 v
