@@ -1,5 +1,5 @@
 -- Metadata that stands at a cursor: its count and its functions, how long they are written anew, and the two ways to end.
-use Prim.Native.Nat.{ℕ, _+_, _^_, _≤_, _<_}
+use Prim.Native.Nat.{ℕ, _+_, _-_, _^_, _≤_, _<_}
 use mathlib.Core.List.{List, [], _++_}
 use mathlib.Core.Path.{_≡_, refl, sym, ap, _∙_}
 use native.Mathlib.Omega.{arith}
@@ -19,6 +19,8 @@ use Rattle.format.specs.Laws.Numbers.{shortest-mono}
 use Rattle.format.specs.Laws.Outcomes.{judged, mapped, refused-exactly}
 use Rattle.format.specs.Laws.Outputs.{writes-refused, writes-short}
 use Rattle.format.specs.Laws.Passing.{sized-passes}
+use Rattle.format.specs.Laws.Codecs.{sized-codec}
+use Rattle.format.specs.Laws.Unchanged.{functions-tight}
 use Rattle.format.specs.declared.Reason.the-variants.{NoPreamble, OutputTooShort}
 use Rattle.format.specs.declared.Refusal.{Refusal}
 use Rattle.format.specs.declared.Written.{Written}
@@ -27,17 +29,18 @@ use Rattle.copying.specs.Bytes.{keptGroups, groupsOf}
 use Rattle.copying.specs.Standing.{Stands, Known, Fits, Puts, MeasuresGroups}
 use Rattle.copying.specs.declared.Groups.{Groups}
 use Rattle.copying.specs.declared.Put.{Put}
-use Rattle.copying.proofs.Laws.{table-passable, stand, one-value, known-count, table-rows, rows-table, number-shorter, groups-count, groups-shorter}
+use Rattle.copying.proofs.Laws.{table-passable, stand, one-value, known-count, table-rows, rows-table, part-length, number-shorter, groups-count, groups-shorter}
 use Rattle.metadata.specs.Judgements.{judged as saysOf}
 use Rattle.metadata.specs.declared.Judged.{Judged}
 use Rattle.metadata.specs.declared.Judged.the-variants.{Accepted, Refused as NotAccepted}
 use Rattle.metadata.proofs.Judged as judged-type
-use Rattle.reading.specs.Cursors.{Inside}
+use Rattle.reading.specs.Cursors.{Inside, left}
 use Rattle.reading.specs.declared.Cursor.{Cursor}
 use Rattle.reading.proofs.Laws.{left-all}
 use Rattle.writing.specs.Wrote.{Wrote}
 use Rattle.writing.proofs.Laws.{wrote-join, wrote-length, writes-wrote}
 use Rattle.rewrite.specs.Items.{refusalIn, RewritesItems}
+use Rattle.rewrite.specs.Whole.{FitsWhole, PutsWhole}
 
 -- A judgement's refusal
 pub refusal-is : (j : Judged) {r : Refusal} → j ≡ NotAccepted r → r ≡ refusalIn j
@@ -57,6 +60,9 @@ items-bytes t = refl
 module _ {s : List ℕ} {c : Cursor} (known : Known (table (table sized)) s c) where
   pub items-count : Known number s c
   items-count = known-count (table sized) (known .stands)
+
+  pub items-ordered : c .at ≤ c .end
+  items-ordered = known .stands .inside .ahead
 
   module _ (n : ℕ) {d : Cursor} (count : Stands number s c n d) where
     pub items-groups : Known (rows (table sized) n 0) s d
@@ -81,6 +87,16 @@ module _ {s : List ℕ} {c : Cursor} (known : Known (table (table sized)) s c) w
         pub items-short : length old < size-length + g .length → RewritesItems s c old old (Refused (record { reason = OutputTooShort; offset = record { 0 = size-length + g .length } }))
         items-short h = record { value = measured .value; next = g .next; stands = items-stand; writes = rw (← items-long) (writes-short refl (rw items-long h)) }
 
+        -- as long as they are, they are what they are
+        module _ (same : size-length + g .length ≡ c .end - c .at) where
+          pub items-whole-room : size-length + g .length ≤ length old → FitsWhole s c old
+          items-whole-room room = record { inside = known .stands .inside; room = omega (arith, room, same) }
+
+          pub items-whole : {new : List ℕ} {end : ℕ} → PutsWhole s c old new end → RewritesItems s c old new (Length end)
+          items-whole p =
+              let is = functions-tight sized-codec (c .at) (left s c) (p .bytes) (items-stand .reads) (omega (arith, items-long, same, part-length (items-stand .inside))) in
+              record { value = measured .value; next = g .next; stands = items-stand; writes = writes-wrote refl (rw (← is) at (p .wrote)) }
+
         module _ (room : size-length + g .length ≤ length old) {mid : List ℕ} {first : ℕ} (wrote : Wrote old mid 0 first (shortest (g .kept))) where
           pub items-groups-room : Fits (rows (table sized) n 0) groupsOf s d mid first
           items-groups-room = record { value = measured .value; next = g .next; stands = measured .stands; room = omega (arith, room, long, measured .long, wrote .next-is, wrote-length wrote) }
@@ -91,7 +107,7 @@ module _ {s : List ℕ} {c : Cursor} (known : Known (table (table sized)) s c) w
               let bytes : shortest (g .kept) ++ groupsOf (p .value) ≡ rewriteMetadata (measured .value) = rw (same, items-bytes (measured .value), measured .many) in
               record { value = measured .value; next = g .next; stands = items-stand; writes = writes-wrote refl (rw bytes at (wrote-join wrote (p .wrote))) }
 
-pub ruleset item-steps = (items-count, items-groups, items-fit, items-short, items-groups-room, items-put, needs)
+pub ruleset item-steps = (items-count, items-ordered, items-groups, items-fit, items-short, items-whole-room, items-whole, items-groups-room, items-put, needs)
 
 -- A payload that was judged: refused, or its functions stand where it begins
 as-refused : (j : Judged) → tagOf judged-type.the-type j ≡ 1 → j ≡ NotAccepted (refusalIn j)

@@ -1,5 +1,6 @@
 pub mod ContentLaws
 pub mod PutLaws
+pub mod WholeLaws
 pub mod SubsectionLaws
 pub mod SubsectionPuts
 pub mod NameLaws

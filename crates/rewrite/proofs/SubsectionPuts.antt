@@ -14,15 +14,19 @@ use Rattle.format.specs.Names.{Content, knownKind}
 use Rattle.format.specs.Canonical.{bare, trim, writePart, writeContent, rewriteNames}
 use Rattle.format.specs.Laws.Options.{some-is, not-some, byOption}
 use Rattle.format.specs.Laws.Outputs.{writes-short}
+use Rattle.format.specs.Laws.Unchanged.{payload-tight}
 use Rattle.format.specs.declared.Reason.the-variants.{OutputTooShort}
 use Rattle.format.specs.declared.Written.the-variants.{Length, Refused}
+use Rattle.copying.proofs.Laws.{part-length}
+use Rattle.reading.specs.Cursors.{left}
 use Rattle.reading.specs.declared.Cursor.{Cursor}
 use Rattle.writing.specs.Wrote.{Wrote}
 use Rattle.writing.proofs.Laws.{wrote-nothing, wrote-join, wrote-length, writes-wrote}
 use Rattle.names.specs.Contents.{kindMeant}
 use Rattle.names.specs.declared.kinds.Kind.{Kind}
 use Rattle.rewrite.specs.Contents.{ContentStands, KnownContent, countOf, sizesOf, leftOf, Trims, FitsContent, Counted, PutsContent}
-use Rattle.rewrite.specs.Subsections.{subBytes, KnownFrame, FrameStands, FitsSubsection, PutsSubsection, MeasuresPayload, FitsPayload, PutsPayload, RewritesNames}
+use Rattle.rewrite.specs.Subsections.{subBytes, KnownFrame, FrameStands, FitsSubsection, PutsSubsection, KnownPayload, MeasuresPayload, FitsPayload, PutsPayload, RewritesNames}
+use Rattle.rewrite.specs.Whole.{FitsWhole, PutsWhole}
 use Rattle.rewrite.specs.declared.contents.Sizes.{Sizes}
 use Rattle.rewrite.specs.declared.contents.Left.{Left}
 use Rattle.rewrite.specs.declared.contents.Left.the-variants.{Contents}
@@ -158,7 +162,7 @@ module _ {s : List ℕ} {c : Cursor} {old new : List ℕ} {place : ℕ} {next : 
 
 pub ruleset names-written = (names-none, names-put, names-frame, names-less, names-room, names-more, wrote-length, needs)
 
--- The payload: measured, then written
+-- The payload: measured, then copied or written
 module _ {s : List ℕ} {c : Cursor} {needed : ℕ} (m : MeasuresPayload s c needed) {old : List ℕ} where
   pub payload-short : length old < needed → RewritesNames s c old old (Refused (record { reason = OutputTooShort; offset = record { 0 = needed } }))
   payload-short h = record { value = m .value; stands = m .stands; writes = rw (m .long) (writes-short refl (rw (m .long) at h)) }
@@ -166,7 +170,21 @@ module _ {s : List ℕ} {c : Cursor} {needed : ℕ} (m : MeasuresPayload s c nee
   pub payload-room : needed ≤ length old → FitsPayload s c old
   payload-room h = record { value = m .value; stands = m .stands; room = rw (m .long) at h }
 
+  -- as long as it is, it is what it is
+  module _ (same : needed ≡ c .end - c .at) where
+    pub payload-whole-room : needed ≤ length old → FitsWhole s c old
+    payload-whole-room h = record { inside = m .stands .inside; room = omega (arith, h, same) }
+
+    pub payload-whole : {new : List ℕ} {end : ℕ} → PutsWhole s c old new end → RewritesNames s c old new (Length end)
+    payload-whole p =
+        let w = m .stands in
+        let is = payload-tight knownKind (c .at) (left s c) (p .bytes) (w .reads) (omega (arith, m .long, same, part-length (w .inside))) in
+        record { value = m .value; stands = w; writes = writes-wrote refl (rw (← is) at (p .wrote)) }
+
+pub payload-ordered : {s : List ℕ} {c : Cursor} → KnownPayload s c → c .at ≤ c .end
+payload-ordered k = k .stands .inside .ahead
+
 pub payload-put : {s : List ℕ} {c : Cursor} {old new : List ℕ} {end : ℕ} → PutsPayload s c old new end → RewritesNames s c old new (Length end)
 payload-put p = record { value = p .value; stands = p .stands; writes = writes-wrote refl (p .wrote) }
 
-pub ruleset payload-written = (payload-short, payload-room, payload-put, wrote-length, needs)
+pub ruleset payload-written = (payload-short, payload-room, payload-ordered, payload-whole-room, payload-whole, payload-put, wrote-length, needs)

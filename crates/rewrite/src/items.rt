@@ -4,6 +4,7 @@ ghost use Rattle.copying.specs.Standing.{Known};
 ghost use Rattle.format.specs.Parts.{sized};
 ghost use Rattle.format.specs.Tables.{table};
 ghost use Rattle.rewrite.specs.Items.{refusalIn, RewritesItems};
+use crate::whole::put_whole;
 use copying::groups_length;
 use copying::number_here;
 use copying::put_groups;
@@ -29,7 +30,7 @@ pub fn refusal_of(judged: Judged) -> Refusal
     }
 }
 
-// All functions with their items. They are measured first, so that nothing is stored where the output is too short.
+// All functions with their items. They are measured first, so that nothing is stored where the output is too short; and where they come out as long as they are, they are copied.
 pub fn put_items(p: &[u8], c: Cursor, out: &mut [u8]) -> Written
     requires { ⌜ Known (table (table sized)) (now p) c ⌝ }
     ensures { λ r. ⌜ RewritesItems (now (p .entry)) c (now (out .entry)) (now (out .exit)) r ⌝ }
@@ -43,6 +44,10 @@ pub fn put_items(p: &[u8], c: Cursor, out: &mut [u8]) -> Written
             reason: Reason::OutputTooShort,
             offset: Offset(needed),
         });
+    }
+    if needed == c.end - c.at {
+        let end = put_whole(out, p, c);
+        return Written::Length(end);
     }
     let first = put_number(out, 0, functions.kept);
     let all = put_groups(out, first, count.next, p, count.value);

@@ -2,6 +2,7 @@
 mod contents;
 mod items;
 mod subsections;
+mod whole;
 
 ghost use Rattle.format.specs.Canonical.{canonicalNames, canonicalMetadata, canonicalHints};
 ghost use Rattle.format.specs.Outputs.{Writes};

@@ -5,6 +5,7 @@ ghost use Rattle.rewrite.specs.Subsections.{smallLeft, lengthLeft, Known
 use crate::contents::Left;
 use crate::contents::content_left;
 use crate::contents::put_content;
+use crate::whole::put_whole;
 use copying::part_here;
 use copying::sized_length;
 use format::Offset;
@@ -104,7 +105,7 @@ fn put_names(out: &mut [u8], s: &[u8], c: Cursor) -> usize
     place
 }
 
-// The whole payload. It is measured first, so that nothing is stored where the output is too short.
+// The whole payload. It is measured first, so that nothing is stored where the output is too short; and where it comes out as long as it is, it is copied.
 pub fn put_payload(p: &[u8], c: Cursor, out: &mut [u8]) -> Written
     requires { ⌜ KnownPayload (now p) c ⌝ }
     ensures { λ r. ⌜ RewritesNames (now (p .entry)) c (now (out .entry)) (now (out .exit)) r ⌝ }
@@ -115,6 +116,10 @@ pub fn put_payload(p: &[u8], c: Cursor, out: &mut [u8]) -> Written
             reason: Reason::OutputTooShort,
             offset: Offset(needed),
         });
+    }
+    if needed == c.end - c.at {
+        let end = put_whole(out, p, c);
+        return Written::Length(end);
     }
     let end = put_names(out, p, c);
     Written::Length(end)

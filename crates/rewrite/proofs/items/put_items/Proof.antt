@@ -18,17 +18,29 @@ add-needed c = search item-steps
 returns : tie.Need-returns
 returns c = search item-steps
 
-put-number-requires : tie.Need-put-number-requires
-put-number-requires c κs = search needs
+sub-if2 : tie.Need-sub-if2
+sub-if2 c = search item-steps
 
-put-groups-requires : tie.Need-put-groups-requires
-put-groups-requires c κs = search item-steps
+put-whole-requires : tie.Need-put-whole-requires
+put-whole-requires c κs = search item-steps
 
 same-length : tie.Need-same-length
 same-length c = search needs
 
 returns-2 : tie.Need-returns-2
 returns-2 c = search item-steps
+
+put-number-requires : tie.Need-put-number-requires
+put-number-requires c κs = search needs
+
+put-groups-requires : tie.Need-put-groups-requires
+put-groups-requires c κs = search item-steps
+
+same-length-2 : tie.Need-same-length-2
+same-length-2 c = search needs
+
+returns-3 : tie.Need-returns-3
+returns-3 c = search item-steps
 
 pub put-items-spec : {M : Type 1} → statement M
 put-items-spec =
@@ -39,7 +51,11 @@ put-items-spec =
     number-length-requires
     add-needed
     returns
+    sub-if2
+    put-whole-requires
+    same-length
+    returns-2
     put-number-requires
     put-groups-requires
-    same-length
-    returns-2)
+    same-length-2
+    returns-3)
