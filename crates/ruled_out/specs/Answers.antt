@@ -1,0 +1,60 @@
+-- What an answer at the C boundary says: the same as the answer that it was made of. Assumes nothing.
+use Prim.Native.Nat.{ℕ}
+use mathlib.Core.Bool.{cond}
+use mathlib.Core.Option.{Option, none, some}
+use mathlib.Core.Path.{_≡_, refl}
+use lib.Dec.{eqb}
+use Rattle.format.specs.Reading.{Judged, accepted, refused}
+use Rattle.format.specs.declared.Hint.{Hint}
+use Rattle.format.specs.declared.Hint.the-variants.{Unlikely, Likely}
+use Rattle.format.specs.declared.Place.{Place}
+use Rattle.walk.specs.declared.survey.SectionPlace.{SectionPlace}
+use Rattle.wakemiono.specs.Boundary.{wmPlace, wmSection, wmCount, wmJudged, wmHint}
+use Rattle.wakemiono.specs.declared.WmAnswer.{WmAnswer}
+
+-- kind 2 is a refusal; kind 0 is none
+abbrev pub unlessRefused : {A : Type 0} → (WmAnswer → A) → WmAnswer → Judged A
+unlessRefused read a = cond (eqb (a .kind) 2) (refused (a .code) (a .offset)) (accepted (read a))
+
+abbrev pub unlessNone : {A : Type 0} → (WmAnswer → A) → WmAnswer → Option A
+unlessNone read a = cond (eqb (a .kind) 0) none (some (read a))
+
+abbrev pub saysPlace : WmAnswer → Judged (Option Place)
+saysPlace = unlessRefused (unlessNone (λ a. record { offset = record { 0 = a .offset }; length = a .length }))
+
+abbrev pub saysSection : WmAnswer → Judged (Option SectionPlace)
+saysSection = unlessRefused (unlessNone (λ a. record { id = a .code; at = record { 0 = a .offset }; length = a .length }))
+
+-- kind 3 is unlikely, kind 4 likely
+abbrev pub saysHint : WmAnswer → Judged (Option Hint)
+saysHint = unlessRefused (unlessNone (λ a. cond (eqb (a .kind) 3) Unlikely Likely))
+
+abbrev pub saysCount : WmAnswer → Judged ℕ
+saysCount = unlessRefused (λ a. a .length)
+
+abbrev pub saysVerdict : WmAnswer → Judged (Unit {0})
+saysVerdict = unlessRefused (λ a. tt)
+
+pub place-said : (j : Judged (Option Place)) → saysPlace (wmPlace j) ≡ j
+place-said (accepted none) = refl
+place-said (accepted (some p)) = refl
+place-said (refused n at) = refl
+
+pub section-said : (j : Judged (Option SectionPlace)) → saysSection (wmSection j) ≡ j
+section-said (accepted none) = refl
+section-said (accepted (some s)) = refl
+section-said (refused n at) = refl
+
+pub hint-said : (j : Judged (Option Hint)) → saysHint (wmHint j) ≡ j
+hint-said (accepted none) = refl
+hint-said (accepted (some Unlikely)) = refl
+hint-said (accepted (some Likely)) = refl
+hint-said (refused n at) = refl
+
+pub count-said : (j : Judged ℕ) → saysCount (wmCount j) ≡ j
+count-said (accepted n) = refl
+count-said (refused n at) = refl
+
+pub verdict-said : (length : ℕ) (j : Judged (Unit {0})) → saysVerdict (wmJudged length j) ≡ j
+verdict-said length (accepted v) = refl
+verdict-said length (refused n at) = refl

@@ -1,0 +1,116 @@
+-- The wrong reader that checks a map's first entry and waves the others through. Of each kind of list: a payload whose first entry is fine by itself, and payloads whose second one is not above the first, is not text, or runs past its part. Every result that meets the promise says so of them.
+use Prim.Native.Nat.{ℕ}
+use mathlib.Core.List.{List, [], _∷_, map}
+use mathlib.Core.Path.{_≡_, refl, ap, _∙_}
+use lib.ListN.{length}
+use Rattle.format.specs.Bytes.{ascii, same}
+use Rattle.format.specs.Examples.{hex, digit}
+use Rattle.format.specs.Metadata.{hintOf, anyItem, hintItem, metadata, judgeMetadata}
+use Rattle.format.specs.Names.{known, knownKind, contents, subsections, payload, judgeNames}
+use Rattle.format.specs.Numbers.{number, groups}
+use Rattle.format.specs.Parts.{sized, name, remaining}
+use Rattle.format.specs.Reading.{Judged, accepted, refused, verdict}
+use Rattle.format.specs.Tables.{lookup, rows, table}
+use Rattle.format.specs.Text.{utf8, continues, following, wellFormed}
+use Rattle.format.specs.Walk.{preamble, begins, greatestId, isCustom, isCode, isData, rank, custom, isCalled, nameSection, hintSection, nothing, seeing, idRules, nameRules, section, sections, framing, walk, sectionCount}
+use Rattle.metadata.specs.Judgements.{judged}
+use Rattle.names.specs.Places.{Judges, verdictOf}
+use Rattle.names.proofs.Verdicts.{verdict-is}
+use Rattle.walk.specs.Surveys.{counted}
+use Rattle.wakemiono.specs.Boundary.{wmJudged, wmCount}
+use Rattle.ruled_out.specs.Answers.{saysVerdict, verdict-said, saysCount, count-said}
+use Rattle.ruled_out.specs.Promises.{Row, _demands_, Demanded, by-table}
+
+-- Names
+abbrev pub name-rows : List (Row (List ℕ) (Judged (Unit {0})))
+name-rows =
+    -- the function names; the type and tag names under 04 and 0B
+    hex "01 04 01 03 01 62" demands accepted tt ∷
+    hex "01 07 02 03 01 62 03 01 61" demands refused 11 6 ∷
+    hex "01 07 02 03 01 62 04 01 FF" demands refused 4 8 ∷
+    hex "01 07 02 03 01 62 04 02 61" demands refused 2 7 ∷
+    hex "04 07 02 03 01 62 03 01 61" demands refused 11 6 ∷
+    hex "0B 07 02 03 01 62 03 01 61" demands refused 11 6 ∷
+    -- the local names: the second group, and the first group's second entry; the field names under 0A
+    hex "02 06 01 03 01 00 01 78" demands accepted tt ∷
+    hex "02 0B 02 03 01 00 01 78 03 01 00 01 79" demands refused 11 8 ∷
+    hex "02 0B 02 03 01 00 01 78 04 01 00 01 FF" demands refused 4 12 ∷
+    hex "02 0B 02 03 01 00 01 78 04 01 00 02 79" demands refused 2 11 ∷
+    hex "02 09 01 03 02 00 01 78 00 01 79" demands refused 11 8 ∷
+    hex "0A 0B 02 03 01 00 01 78 03 01 00 01 79" demands refused 11 8 ∷
+    hex "0A 09 01 03 02 00 01 78 00 01 79" demands refused 11 8 ∷
+    -- the second subsection
+    hex "01 04 01 03 01 62 01 04 01 03 01 62" demands refused 9 6 ∷
+    []
+
+names-computed : map (λ (row : Row (List ℕ) (Judged (Unit {0}))). verdict (judgeNames knownKind 0 (row .input))) name-rows ≡ map (λ row. row .verdict) name-rows
+unfolding hex digit number groups utf8 continues following wellFormed sized name remaining lookup rows table known knownKind contents subsections payload judgeNames
+names-computed = refl
+
+pub names-judge : Demanded (λ p r. Judges p 0 p r) verdictOf name-rows
+names-judge = by-table (λ p r meets. verdict-is p 0 p r meets) name-rows names-computed
+
+pub wm-names-judge : Demanded (λ p a. a ≡ wmJudged (length p) (verdict (judgeNames knownKind 0 p))) saysVerdict name-rows
+wm-names-judge = by-table (λ p a meets. ap saysVerdict meets ∙ verdict-said (length p) (verdict (judgeNames knownKind 0 p))) name-rows names-computed
+
+-- Code metadata: the second function, and the first function's second item
+abbrev pub metadata-rows : List (Row (List ℕ) (Judged (Unit {0})))
+metadata-rows =
+    hex "01 02 01 05 01 41" demands accepted tt ∷
+    hex "02 02 01 05 01 41 02 00" demands refused 11 6 ∷
+    hex "02 02 01 05 01 41 03 01 05 02 41" demands refused 2 9 ∷
+    hex "01 02 02 05 01 41 05 01 41" demands refused 11 6 ∷
+    hex "01 02 02 05 01 41 06 02 41" demands refused 2 7 ∷
+    []
+
+metadata-computed : map (λ (row : Row (List ℕ) (Judged (Unit {0}))). verdict (judgeMetadata anyItem 0 (row .input))) metadata-rows ≡ map (λ row. row .verdict) metadata-rows
+unfolding hex digit number groups sized rows table anyItem metadata judgeMetadata
+metadata-computed = refl
+
+pub metadata-judge : Demanded (λ p r. judged r ≡ verdict (judgeMetadata anyItem 0 p)) judged metadata-rows
+metadata-judge = by-table (λ p r meets. meets) metadata-rows metadata-computed
+
+pub wm-metadata-judge : Demanded (λ p a. a ≡ wmJudged (length p) (verdict (judgeMetadata anyItem 0 p))) saysVerdict metadata-rows
+wm-metadata-judge = by-table (λ p a meets. ap saysVerdict meets ∙ verdict-said (length p) (verdict (judgeMetadata anyItem 0 p))) metadata-rows metadata-computed
+
+-- Hints: the same, and a second hint that is none
+abbrev pub hint-rows : List (Row (List ℕ) (Judged (Unit {0})))
+hint-rows =
+    hex "01 02 01 05 01 01" demands accepted tt ∷
+    hex "02 02 01 05 01 01 02 00" demands refused 11 6 ∷
+    hex "02 02 01 05 01 01 03 01 05 01 02" demands refused 12 9 ∷
+    hex "01 02 02 05 01 01 05 01 01" demands refused 11 6 ∷
+    hex "01 02 02 05 01 01 06 01 02" demands refused 12 7 ∷
+    []
+
+hints-computed : map (λ (row : Row (List ℕ) (Judged (Unit {0}))). verdict (judgeMetadata hintItem 0 (row .input))) hint-rows ≡ map (λ row. row .verdict) hint-rows
+unfolding hex digit number groups sized rows table hintOf hintItem metadata judgeMetadata
+hints-computed = refl
+
+pub metadata-judge-hints : Demanded (λ p r. judged r ≡ verdict (judgeMetadata hintItem 0 p)) judged hint-rows
+metadata-judge-hints = by-table (λ p r meets. meets) hint-rows hints-computed
+
+pub wm-hints-judge : Demanded (λ p a. a ≡ wmJudged (length p) (verdict (judgeMetadata hintItem 0 p))) saysVerdict hint-rows
+wm-hints-judge = by-table (λ p a meets. ap saysVerdict meets ∙ verdict-said (length p) (verdict (judgeMetadata hintItem 0 p))) hint-rows hints-computed
+
+-- Sections: the second one repeated, unknown, past the module; a second `name`, and data after it
+abbrev pub section-rows : List (Row (List ℕ) (Judged ℕ))
+section-rows =
+    hex "00 61 73 6D 01 00 00 00 01 00" demands accepted 1 ∷
+    hex "00 61 73 6D 01 00 00 00 01 00 01 00" demands refused 6 10 ∷
+    hex "00 61 73 6D 01 00 00 00 01 00 0D 00" demands refused 5 10 ∷
+    hex "00 61 73 6D 01 00 00 00 01 00 02 01" demands refused 2 11 ∷
+    hex "00 61 73 6D 01 00 00 00 00 05 04 6E 61 6D 65" demands accepted 1 ∷
+    hex "00 61 73 6D 01 00 00 00 00 05 04 6E 61 6D 65 00 05 04 6E 61 6D 65" demands refused 7 15 ∷
+    hex "00 61 73 6D 01 00 00 00 00 05 04 6E 61 6D 65 0B 00" demands refused 8 15 ∷
+    []
+
+sections-computed : map (λ (row : Row (List ℕ) (Judged ℕ)). sectionCount (row .input)) section-rows ≡ map (λ row. row .verdict) section-rows
+unfolding hex digit ascii same preamble begins greatestId isCustom isCode isData rank custom isCalled nameSection hintSection nothing seeing idRules nameRules section sections framing walk sectionCount number groups utf8 continues following wellFormed sized name remaining
+sections-computed = refl
+
+pub walk-count : Demanded (λ m r. counted r ≡ sectionCount m) counted section-rows
+walk-count = by-table (λ m r meets. meets) section-rows sections-computed
+
+pub wm-walk : Demanded (λ m a. a ≡ wmCount (sectionCount m)) saysCount section-rows
+wm-walk = by-table (λ m a meets. ap saysCount meets ∙ count-said (sectionCount m)) section-rows sections-computed

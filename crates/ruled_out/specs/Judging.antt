@@ -1,0 +1,81 @@
+-- Wrong judges: one that refuses everything, one that accepts everything, one that gives every refusal at one offset, and one that checks a map's first entry and waves the others through. Each judging call's promise rules them out, and so does that of its C call.
+use Prim.Native.Nat.{ℕ}
+use Prim.Native.String.{String}
+use mathlib.Core.Bool.{true, false}
+use mathlib.Core.List.{List, [], _∷_}
+use mathlib.Core.Option.{some}
+use mathlib.Core.Path.{_≡_, refl, ap, subst, _∙_}
+use borrow.Author.Tests.{eq-eqb}
+use lib.Dec.{eqb}
+use lib.ListN.{length}
+use Rattle.format.specs.Examples.{hex, digit}
+use Rattle.format.specs.Metadata.{hintOf, anyItem, hintItem, metadata, judgeMetadata}
+use Rattle.format.specs.Names.{known, knownKind, contents, subsections, payload, judgeNames}
+use Rattle.format.specs.Numbers.{number, groups}
+use Rattle.format.specs.Options.{mapSome}
+use Rattle.format.specs.Parts.{sized, name, remaining}
+use Rattle.format.specs.Reading.{Judged, accepted, refused, verdict}
+use Rattle.format.specs.Tables.{lookup, rows, table}
+use Rattle.format.specs.Text.{utf8, continues, following, wellFormed}
+use Rattle.metadata.specs.Judgements.{judged}
+use Rattle.names.specs.Places.{Judges, verdictOf}
+use Rattle.names.proofs.Verdicts.{verdict-is}
+use Rattle.wakemiono.specs.Boundary.{wmJudged}
+use Rattle.ruled_out.specs.Answers.{saysVerdict, verdict-said}
+use Rattle.ruled_out.specs.Promises.{RuledOut, Refuses, Accepts, Always, offsetIn, acceptedIn, Refusing, refuses, Tells, Row, _demands_, Demanded, by-input, by-two-inputs, by-table}
+
+module _ {Lent Result B : Type 0} (promise : Lent → Result → Type 0) (says : Result → Judged B) where
+  pub record JudgesRightly : Type 0 where
+    pub refuses-everything : RuledOut promise (λ _ r. Refuses (says r))
+    pub accepts-everything : RuledOut promise (λ _ r. Accepts (says r))
+    pub one-offset : (at : ℕ) → RuledOut promise (λ _ r. Always at (offsetIn (says r)))
+
+-- Shown by an input that is accepted and two that are refused at different offsets
+pub record Verdicts {Lent B : Type 0} (wanted : Lent → Judged B) : Type 0 where
+  pub fine : Lent
+  pub bad : Refusing Lent
+  pub worse : Refusing Lent
+  pub is-fine : Refuses (wanted fine) → ⊥
+  pub is-bad : wanted (bad .input) ≡ refused (bad .number) (bad .offset)
+  pub is-worse : wanted (worse .input) ≡ refused (worse .number) (worse .offset)
+  pub apart : eqb (bad .offset) (worse .offset) ≡ false
+
+module _ {Lent Result B : Type 0} {promise : Lent → Result → Type 0} {says : Result → Judged B} {wanted : Lent → Judged B} (tells : Tells promise says wanted) where
+  pub judges-rightly : Verdicts wanted → JudgesRightly promise says
+  judges-rightly v = record {
+    refuses-everything = by-input tells (λ j. Refuses j) (v .fine) (v .is-fine);
+    accepts-everything = by-input tells (λ j. Accepts j) (v .bad .input) (λ h. subst (λ j. Accepts j) (v .is-bad) h);
+    one-offset = by-two-inputs tells (λ j. offsetIn j) (eqb (v .bad .offset)) (v .bad .input) (v .worse .input) (ap (λ j. offsetIn j) (v .is-bad)) (ap (λ j. offsetIn j) (v .is-worse)) (eq-eqb (v .bad .offset) (v .bad .offset) refl) (v .apart);
+  }
+
+-- The name payload: the empty one is accepted; a map without its count, and a size that is missing, are refused
+names-verdicts : Verdicts (λ p. verdict (judgeNames knownKind 0 p))
+unfolding hex digit number groups sized known knownKind lookup contents subsections payload judgeNames table
+names-verdicts = record { fine = hex ""; bad = refuses (hex "01 00") 2 2; worse = refuses (hex "01") 2 1; is-fine = λ h. h; is-bad = refl; is-worse = refl; apart = refl }
+
+pub names-judge : JudgesRightly (λ p r. Judges p 0 p r) verdictOf
+names-judge = judges-rightly (λ p r meets. verdict-is p 0 p r meets) names-verdicts
+
+pub wm-names-judge : JudgesRightly (λ p a. a ≡ wmJudged (length p) (verdict (judgeNames knownKind 0 p))) saysVerdict
+wm-names-judge = judges-rightly (λ p a meets. ap saysVerdict meets ∙ verdict-said (length p) (verdict (judgeNames knownKind 0 p))) names-verdicts
+
+-- Code metadata of any format, and hints: a payload without functions is accepted; one without its count, a function without its index, a hint of 2 are refused
+metadata-verdicts : Verdicts (λ p. verdict (judgeMetadata anyItem 0 p))
+unfolding hex digit number groups sized rows table anyItem metadata judgeMetadata
+metadata-verdicts = record { fine = hex "00"; bad = refuses (hex "") 2 0; worse = refuses (hex "01") 2 1; is-fine = λ h. h; is-bad = refl; is-worse = refl; apart = refl }
+
+hints-verdicts : Verdicts (λ p. verdict (judgeMetadata hintItem 0 p))
+unfolding hex digit number groups sized rows table hintOf hintItem metadata judgeMetadata
+hints-verdicts = record { fine = hex "00"; bad = refuses (hex "01 02 01 05 01 02") 12 4; worse = refuses (hex "01") 2 1; is-fine = λ h. h; is-bad = refl; is-worse = refl; apart = refl }
+
+pub metadata-judge : JudgesRightly (λ p r. judged r ≡ verdict (judgeMetadata anyItem 0 p)) judged
+metadata-judge = judges-rightly (λ p r meets. meets) metadata-verdicts
+
+pub wm-metadata-judge : JudgesRightly (λ p a. a ≡ wmJudged (length p) (verdict (judgeMetadata anyItem 0 p))) saysVerdict
+wm-metadata-judge = judges-rightly (λ p a meets. ap saysVerdict meets ∙ verdict-said (length p) (verdict (judgeMetadata anyItem 0 p))) metadata-verdicts
+
+pub metadata-judge-hints : JudgesRightly (λ p r. judged r ≡ verdict (judgeMetadata hintItem 0 p)) judged
+metadata-judge-hints = judges-rightly (λ p r meets. meets) hints-verdicts
+
+pub wm-hints-judge : JudgesRightly (λ p a. a ≡ wmJudged (length p) (verdict (judgeMetadata hintItem 0 p))) saysVerdict
+wm-hints-judge = judges-rightly (λ p a meets. ap saysVerdict meets ∙ verdict-said (length p) (verdict (judgeMetadata hintItem 0 p))) hints-verdicts

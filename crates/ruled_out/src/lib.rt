@@ -1,0 +1,1 @@
+// No code: specs/ says which programs the promises rule out.
