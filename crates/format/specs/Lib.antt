@@ -21,3 +21,4 @@ pub mod Cases
 pub mod Laws
 pub mod Demands
 pub mod Results
+pub mod Determined

@@ -22,9 +22,9 @@ use Rattle.format.specs.Text.{utf8, continues, following, wellFormed}
 use Rattle.format.specs.declared.Written.{Written}
 use Rattle.wakemiono.specs.Boundary.{wmCount, WmWrites}
 use Rattle.wakemiono.specs.declared.WmAnswer.{WmAnswer}
-use Rattle.ruled_out.specs.Answers.{saysCount, count-said}
-use Rattle.ruled_out.specs.Judging.{JudgesRightly, Verdicts, judges-rightly}
-use Rattle.ruled_out.specs.Promises.{RuledOut, Refuses, Always, acceptedIn, finds, Finding, Refusing, refuses, Tells, not-both, by-two-inputs}
+use Rattle.promises.specs.Answers.{saysCount, count-said}
+use Rattle.promises.specs.Judging.{JudgesRightly, Verdicts, judges-rightly}
+use Rattle.promises.specs.RuledOut.{RuledOut, Refuses, Always, acceptedIn, finds, Finding, Refusing, refuses, Tells, not-both, by-two-inputs}
 
 -- What a call wrote: the first bytes of the output, as many as it says; or its refusal
 abbrev pub wrote : Judged ℕ → List ℕ → Judged (List ℕ)

@@ -18,8 +18,8 @@ use Rattle.names.specs.Places.{Judges, verdictOf}
 use Rattle.names.proofs.Verdicts.{verdict-is}
 use Rattle.walk.specs.Surveys.{counted}
 use Rattle.wakemiono.specs.Boundary.{wmJudged, wmCount}
-use Rattle.ruled_out.specs.Answers.{saysVerdict, verdict-said, saysCount, count-said}
-use Rattle.ruled_out.specs.Promises.{Row, _demands_, Demanded, by-table}
+use Rattle.promises.specs.Answers.{saysVerdict, verdict-said, saysCount, count-said}
+use Rattle.promises.specs.RuledOut.{Row, _demands_, Demanded, by-table}
 
 -- Names
 abbrev pub name-rows : List (Row (List ℕ) (Judged (Unit {0})))

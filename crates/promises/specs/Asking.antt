@@ -31,9 +31,9 @@ use Rattle.format.specs.declared.Place.{Place}
 use Rattle.format.specs.declared.TagIndex.{TagIndex}
 use Rattle.format.specs.declared.TypeIndex.{TypeIndex}
 use Rattle.wakemiono.specs.Boundary.{wmPlace, wmHint}
-use Rattle.ruled_out.specs.Answers.{saysPlace, place-said, saysHint, hint-said}
-use Rattle.ruled_out.specs.Judging.{JudgesRightly, Verdicts, judges-rightly}
-use Rattle.ruled_out.specs.Promises.{RuledOut, Refuses, NeverFinds, Never, Always, foundIn, Finding, finds, Refusing, refuses, Tells, by-input, by-two-inputs}
+use Rattle.promises.specs.Answers.{saysPlace, place-said, saysHint, hint-said}
+use Rattle.promises.specs.Judging.{JudgesRightly, Verdicts, judges-rightly}
+use Rattle.promises.specs.RuledOut.{RuledOut, Refuses, NeverFinds, Never, Always, foundIn, Finding, finds, Refusing, refuses, Tells, by-input, by-two-inputs}
 
 -- `size` is what is told of a thing that is found: its length, or which hint it is. An empty name has the size `least`
 module _ {Lent Result A C : Type 0} (promise : Lent → Result → Type 0) (says : Result → Judged (Option A)) (size : A → C) (least : C) where

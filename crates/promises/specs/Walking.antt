@@ -3,26 +3,34 @@ use Prim.Native.Nat.{ℕ}
 use Prim.Native.String.{String}
 use mathlib.Core.List.{List, [], _∷_, _++_}
 use mathlib.Core.Bool.{true, false}
-use mathlib.Core.Option.{Option, some}
+use mathlib.Core.Option.{Option, none, some}
 use mathlib.Core.Path.{_≡_, refl, ap, _∙_}
 use lib.Dec.{eqb}
-use lib.ListN.{length}
+use lib.ListN.{length, drop}
 use Rattle.format.specs.Bytes.{ascii, same}
 use Rattle.format.specs.Examples.{hex, digit}
 use Rattle.format.specs.Numbers.{number, groups}
 use Rattle.format.specs.Options.{mapSome}
 use Rattle.format.specs.Parts.{sized, name, remaining}
 use Rattle.format.specs.Questions.{asPlace, answered}
-use Rattle.format.specs.Reading.{Judged, mapJudged}
+use Rattle.format.specs.Reading.{Outcome, got, stop, Judged, accepted, refused, mapJudged}
+use Rattle.format.specs.Refusals.{numberOf}
 use Rattle.format.specs.Text.{utf8, continues, following, wellFormed}
-use Rattle.format.specs.Walk.{preamble, begins, greatestId, isCustom, isCode, isData, rank, custom, isCalled, nameSection, hintSection, nothing, seeing, idRules, nameRules, section, sections, framing, walk, sectionCount, sectionAt, payloadOf, payloadIn, customPayload}
+use Rattle.format.specs.Walk.{preamble, begins, greatestId, isCustom, isCode, isData, rank, custom, isCalled, nameSection, hintSection, nothing, seeing, idRules, nameRules, section, step, sections, framing, walk, sectionCount, sectionAt, payloadOf, payloadIn, customPayload}
+use Rattle.walk.specs.Sections.{seenOf}
+use Rattle.walk.specs.Steps.{Begins, Steps}
 use Rattle.walk.specs.Surveys.{counted, sectionAnswered, sectionPlace}
 use Rattle.walk.specs.declared.survey.SectionPlace.{SectionPlace}
+use Rattle.walk.specs.declared.step.Began.{Began}
+use Rattle.walk.specs.declared.step.Began.the-variants.{At, Refused as NotBegun}
+use Rattle.walk.specs.declared.step.Step.{Step}
+use Rattle.walk.specs.declared.step.Step.the-variants.{Section as ASection, Done, Refused}
+use Rattle.walk.specs.declared.step.Walk.{Walk}
 use Rattle.wakemiono.specs.Boundary.{wmCount, wmSection}
-use Rattle.ruled_out.specs.Answers.{saysCount, count-said, saysSection, section-said}
-use Rattle.ruled_out.specs.Asking.{AnswersRightly, Answers, answers-rightly, PlaceCalls, place-answers, place-calls}
-use Rattle.ruled_out.specs.Judging.{JudgesRightly, Verdicts, judges-rightly}
-use Rattle.ruled_out.specs.Promises.{RuledOut, Always, acceptedIn, finds, Refusing, refuses, Tells, by-two-inputs}
+use Rattle.promises.specs.Answers.{saysCount, count-said, saysSection, section-said}
+use Rattle.promises.specs.Asking.{AnswersRightly, Answers, answers-rightly, PlaceCalls, place-answers, place-calls}
+use Rattle.promises.specs.Judging.{JudgesRightly, Verdicts, judges-rightly}
+use Rattle.promises.specs.RuledOut.{RuledOut, Refuses, Accepts, Always, acceptedIn, finds, Refusing, refuses, Tells, by-input, by-two-inputs}
 
 -- a module: the preamble and some bytes
 module′ : String → List ℕ
@@ -97,3 +105,68 @@ custom-joined = answers-rightly (λ x r meets. meets) (place-answers _
     (refuses (module′ "00 03 02 78 79 0D 00", ascii "x", ascii "y") 5 13)
     (refuses (module′ "00 03 02 78 79 00 02 01 FF", ascii "x", ascii "y") 4 16)
     refl refl refl refl refl)
+
+-- Behind the preamble: a walk that never begins, and one that begins anywhere
+abbrev begun : Began → Judged ℕ
+begun (At w) = accepted (w .at)
+begun (NotBegun r) = refused (numberOf (r .reason)) (r .offset .0)
+
+-- how far a reading came
+abbrev came : {A : Type 0} → Outcome A → Judged ℕ
+came (got v o bs) = accepted o
+came (stop n at) = refused n at
+
+begin-told : Tells (λ m r. Begins m r) begun (λ m. came (begins preamble 0 m))
+begin-told m (At w) meets = ap came (meets .means)
+begin-told m (NotBegun r) meets = ap came (meets .means)
+
+pub begin-refuses : RuledOut (λ m r. Begins m r) (λ _ r. Refuses (begun r))
+unfolding module′ hex preamble begins
+begin-refuses = by-input begin-told (λ j. Refuses j) (module′ "") (λ h. h)
+
+pub begin-accepts : RuledOut (λ m r. Begins m r) (λ _ r. Accepts (begun r))
+unfolding preamble begins
+begin-accepts = by-input begin-told (λ j. Accepts j) [] (λ h. h)
+
+-- A step: one that refuses everything, never refuses, ends at once, or goes on always at the same offset. An empty section is a section: the walk goes on behind it, at 10
+abbrev goneOn : Step → Judged (Option ℕ)
+goneOn (ASection s next) = accepted (some (next .at))
+goneOn Done = accepted none
+goneOn (Refused r) = refused (numberOf (r .reason)) (r .offset .0)
+
+abbrev goesOn : {A : Type 0} → Outcome (Option A) → Judged (Option ℕ)
+goesOn (got none o bs) = accepted none
+goesOn (got (some s) o bs) = accepted (some o)
+goesOn (stop n at) = refused n at
+
+abbrev stepWanted : List ℕ × Walk → Judged (Option ℕ)
+stepWanted x = goesOn (step (seenOf (x .1 .seen)) (x .1 .at) (drop (x .1 .at) (x .0)))
+
+step-told : Tells (λ (x : List ℕ × Walk) r. Steps (x .0) (x .1) r) goneOn stepWanted
+step-told x (ASection s next) meets = ap goesOn (meets .means)
+step-told x Done meets = ap goesOn (meets .means)
+step-told x (Refused r) meets = ap goesOn (meets .means)
+
+-- behind the preamble, with nothing seen
+abbrev start : Walk
+start = record { at = 8; seen = record { rank = 0; code = false; name = false; hints = false } }
+
+step-answers : Answers stepWanted (λ next. next) 10 (eqb 10)
+unfolding module′ hex digit preamble greatestId isCustom isData rank isCalled nameSection hintSection idRules nameRules section step number groups sized custom
+step-answers = record {
+  empty = finds (module′ "01 00", start) 10;
+  more = finds (module′ "01 01 AA", start) 11;
+  bad = refuses (module′ "0D 00", start) 5 8;
+  worse = refuses (module′ "01 01", start) 2 9;
+  is-empty = refl;
+  is-more = refl;
+  is-bad = refl;
+  is-worse = refl;
+  size-empty = refl;
+  test-empty = refl;
+  test-more = refl;
+  apart = refl;
+}
+
+pub step-on : AnswersRightly (λ (x : List ℕ × Walk) r. Steps (x .0) (x .1) r) goneOn (λ next. next) 10
+step-on = answers-rightly step-told step-answers

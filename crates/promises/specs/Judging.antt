@@ -15,14 +15,16 @@ use Rattle.format.specs.Numbers.{number, groups}
 use Rattle.format.specs.Options.{mapSome}
 use Rattle.format.specs.Parts.{sized, name, remaining}
 use Rattle.format.specs.Reading.{Judged, accepted, refused, verdict}
+use Rattle.format.specs.Refusals.{numberOf}
 use Rattle.format.specs.Tables.{lookup, rows, table}
 use Rattle.format.specs.Text.{utf8, continues, following, wellFormed}
+use Rattle.format.specs.declared.Reason.the-variants.{NoPreamble, PastItsPart}
 use Rattle.metadata.specs.Judgements.{judged}
 use Rattle.names.specs.Places.{Judges, verdictOf}
 use Rattle.names.proofs.Verdicts.{verdict-is}
 use Rattle.wakemiono.specs.Boundary.{wmJudged}
-use Rattle.ruled_out.specs.Answers.{saysVerdict, verdict-said}
-use Rattle.ruled_out.specs.Promises.{RuledOut, Refuses, Accepts, Always, offsetIn, acceptedIn, Refusing, refuses, Tells, Row, _demands_, Demanded, by-input, by-two-inputs, by-table}
+use Rattle.promises.specs.Answers.{saysVerdict, verdict-said}
+use Rattle.promises.specs.RuledOut.{RuledOut, Refuses, Accepts, Always, offsetIn, acceptedIn, Refusing, refuses, Tells, Row, _demands_, Demanded, by-input, by-two-inputs, by-table}
 
 module _ {Lent Result B : Type 0} (promise : Lent → Result → Type 0) (says : Result → Judged B) where
   pub record JudgesRightly : Type 0 where
@@ -79,3 +81,7 @@ metadata-judge-hints = judges-rightly (λ p r meets. meets) hints-verdicts
 
 pub wm-hints-judge : JudgesRightly (λ p a. a ≡ wmJudged (length p) (verdict (judgeMetadata hintItem 0 p))) saysVerdict
 wm-hints-judge = judges-rightly (λ p a meets. ap saysVerdict meets ∙ verdict-said (length p) (verdict (judgeMetadata hintItem 0 p))) hints-verdicts
+
+-- The number of a reason: a function that gives one number for all
+pub reason-number : (n : ℕ) → RuledOut (λ reason r. r ≡ numberOf reason) (λ _ r. r ≡ n)
+reason-number n = by-two-inputs {says = λ r. r} (λ reason r meets. meets) (λ r. some r) (eqb 1) NoPreamble PastItsPart refl refl refl refl n

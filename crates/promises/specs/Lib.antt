@@ -1,4 +1,5 @@
-pub mod Promises
+pub mod Determined
+pub mod RuledOut
 pub mod Answers
 pub mod Judging
 pub mod FirstEntries

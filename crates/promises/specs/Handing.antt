@@ -23,14 +23,17 @@ use Rattle.format.specs.Tables.{lookup, rows, table}
 use Rattle.format.specs.Text.{utf8, continues, following, wellFormed}
 use Rattle.format.specs.Through.{through, askThrough, metadataSection, itemOf, askMetadataThrough}
 use Rattle.format.specs.Walk.{preamble, begins, greatestId, isCustom, isCode, isData, rank, custom, isCalled, nameSection, hintSection, nothing, seeing, idRules, nameRules, section, sections, framing, walk, payloadOf, payloadIn, customPayload}
+use Rattle.format.specs.declared.Answer.{Answer}
+use Rattle.format.specs.declared.Answer.the-variants.{None, Found}
 use Rattle.format.specs.declared.CodeOffset.{CodeOffset}
 use Rattle.format.specs.declared.FieldIndex.{FieldIndex}
 use Rattle.format.specs.declared.FunctionIndex.{FunctionIndex}
 use Rattle.format.specs.declared.LocalIndex.{LocalIndex}
 use Rattle.format.specs.declared.TagIndex.{TagIndex}
 use Rattle.format.specs.declared.TypeIndex.{TypeIndex}
-use Rattle.ruled_out.specs.Asking.{withNames, withData}
-use Rattle.ruled_out.specs.Promises.{RuledOut, Always, by-two-inputs}
+use Rattle.reading.specs.Taken.{takenOf, Takes}
+use Rattle.promises.specs.Asking.{withNames, withData}
+use Rattle.promises.specs.RuledOut.{RuledOut, Always, by-two-inputs}
 
 -- A question, the bytes that are lent, and where in memory they begin. What comes back is bytes, and where they begin
 module _ {Asked : Type 0} (answer : Asked → List ℕ → Judged (Option Part)) where
@@ -114,3 +117,8 @@ metadata-bytes = record {
   find-bytes = hands-rightly _ (record { 0 = 2 }, record { 0 = 5 }) (hex "01 02 01 05 00") (hex "01 02 01 05 81 00 41") 5 0x41 refl refl;
   metadata-bytes = hands-rightly _ (ascii "x", record { 0 = 2 }, record { 0 = 5 }) (withData "01 02 01 05 00") (withData "01 02 01 05 81 00 41") 31 0x41 refl refl;
 }
+
+-- An answer's part of any bytes
+pub taken : (y : List ℕ) → RuledOut (λ (x : List ℕ × (ℕ × ℕ) × Answer) (r : List ℕ × (ℕ × ℕ)). Takes (x .0) (x .1) (x .2) (r .0) (r .1)) (λ _ r. r .0 ≡ y)
+unfolding takenOf same
+taken y = by-two-inputs {says = λ r. r .0} (λ x r meets. meets .bytes-are) (λ part. some part) (same []) (0x61 ∷ [], (0, 0), None) (0x61 ∷ [], (0, 0), Found (record { offset = record { 0 = 0 }; length = 1 })) refl refl refl refl y

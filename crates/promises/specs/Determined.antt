@@ -1,0 +1,12 @@
+pub mod Format
+pub mod Reading
+pub mod Writing
+pub mod Copying
+pub mod Tables
+pub mod Walk
+pub mod Lists
+pub mod Names
+pub mod Metadata
+pub mod Rewrite
+pub mod Through
+pub mod Wakemiono

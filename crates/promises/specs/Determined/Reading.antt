@@ -1,0 +1,37 @@
+-- Each promise of the crate `reading` determines what comes back.
+use Prim.Native.Nat.{ℕ}
+use mathlib.Core.Bool.{Bool}
+use mathlib.Core.List.{List}
+use mathlib.Core.Path.{_≡_}
+use lib.Seq.{slice}
+use Rattle.format.specs.Determined.{Determines, Handed, equal-determined, part-determined}
+use Rattle.format.specs.Parts.{sized, name}
+use Rattle.format.specs.Text.{utf8}
+use Rattle.format.specs.declared.Answer.{Answer}
+use Rattle.reading.proofs.Same.{number-same, part-same}
+use Rattle.reading.specs.Cursors.{NumberReads, PartReads}
+use Rattle.reading.specs.Taken.{Takes}
+use Rattle.reading.specs.declared.Cursor.{Cursor}
+use Rattle.reading.specs.declared.NumberRead.{NumberRead}
+use Rattle.reading.specs.declared.PartRead.{PartRead}
+
+-- reading
+pub wide-determined : (x : ℕ) → Determines (λ (r : ℕ). r ≡ x)
+wide-determined x = equal-determined _
+
+pub number-determined : (c : Cursor) (s : List ℕ) → Determines (λ (r : NumberRead). NumberReads s c r)
+number-determined c s = number-same
+
+pub sized-determined : (c : Cursor) (s : List ℕ) → Determines (λ (r : PartRead). PartReads sized s c r)
+sized-determined c s = part-same
+
+pub name-determined : (c : Cursor) (s : List ℕ) → Determines (λ (r : PartRead). PartReads name s c r)
+name-determined c s = part-same
+
+-- reading::taking
+pub taken-determined : (p : List ℕ) (place : ℕ × ℕ) (answer : Answer) → Determines (λ (r : Handed). Takes p place answer (r .0) (r .1))
+taken-determined p place answer = λ a b p q. part-determined _ _ a b (p .bytes-are, p .begins-there) (q .bytes-are, q .begins-there)
+
+-- reading::text
+pub is-text-determined : (s : List ℕ) (from to : ℕ) → Determines (λ (r : Bool). r ≡ utf8 (slice from to s))
+is-text-determined s from to = equal-determined _

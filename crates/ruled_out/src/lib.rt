@@ -1,1 +1,0 @@
-// No code: specs/ says which programs the promises rule out.
