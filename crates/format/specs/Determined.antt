@@ -9,9 +9,7 @@ use Rattle.format.specs.Metadata.{hintAnswered}
 use Rattle.format.specs.Outputs.{Writes}
 use Rattle.format.specs.Laws.Answers.{same-answer, same-hint-answer}
 use Rattle.format.specs.Laws.Outputs.{writes-same}
-use Rattle.format.specs.declared.Answer.{Answer}
 use Rattle.format.specs.declared.Hint.{Hint}
-use Rattle.format.specs.declared.HintAnswer.{HintAnswer}
 use Rattle.format.specs.declared.Place.{Place}
 use Rattle.format.specs.declared.Written.{Written}
 

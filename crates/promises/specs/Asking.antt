@@ -2,8 +2,8 @@
 use Prim.Native.Nat.{ℕ}
 use Prim.Native.String.{String}
 use mathlib.Core.Bool.{Bool, true, false}
-use mathlib.Core.List.{List, [], _∷_, _++_}
-use mathlib.Core.Option.{Option, none, some}
+use mathlib.Core.List.{List, _∷_, _++_}
+use mathlib.Core.Option.{Option, some}
 use mathlib.Core.Path.{_≡_, refl, ap, subst, _∙_}
 use lib.Dec.{eqb}
 use lib.ListN.{length}
@@ -16,7 +16,7 @@ use Rattle.format.specs.Numbers.{number, groups, shortest, fewest}
 use Rattle.format.specs.Options.{mapSome}
 use Rattle.format.specs.Parts.{sized, name, remaining}
 use Rattle.format.specs.Questions.{moduleName, functionName, typeName, tagName, localName, fieldName, keptContents, answer, asked, idOf, queryOf, askAt, ask, asPlace, answered}
-use Rattle.format.specs.Reading.{Judged, accepted, refused, mapJudged}
+use Rattle.format.specs.Reading.{Judged, accepted, refused}
 use Rattle.format.specs.Tables.{lookup, rows, table}
 use Rattle.format.specs.Text.{utf8, continues, following, wellFormed}
 use Rattle.format.specs.Through.{through, askThrough, metadataSection, itemOf, askMetadataThrough, askHintThrough}
@@ -32,15 +32,19 @@ use Rattle.format.specs.declared.TagIndex.{TagIndex}
 use Rattle.format.specs.declared.TypeIndex.{TypeIndex}
 use Rattle.wakemiono.specs.Boundary.{wmPlace, wmHint}
 use Rattle.promises.specs.Answers.{saysPlace, place-said, saysHint, hint-said}
-use Rattle.promises.specs.Judging.{JudgesRightly, Verdicts, judges-rightly}
+use Rattle.promises.specs.Judging.{JudgesRightly, judges-rightly}
 use Rattle.promises.specs.RuledOut.{RuledOut, Refuses, NeverFinds, Never, Always, foundIn, Finding, finds, Refusing, refuses, Tells, by-input, by-two-inputs}
 
 -- `size` is what is told of a thing that is found: its length, or which hint it is. An empty name has the size `least`
 module _ {Lent Result A C : Type 0} (promise : Lent → Result → Type 0) (says : Result → Judged (Option A)) (size : A → C) (least : C) where
   pub record AnswersRightly : Type 0 where
+    -- refuses everything; never refuses; gives every refusal at one offset
     pub judges : JudgesRightly promise says
+    -- never finds anything
     pub always-none : RuledOut promise (λ _ r. NeverFinds (says r))
+    -- never finds anything empty
     pub empty-as-none : RuledOut promise (λ _ r. Never least (mapSome size (foundIn (says r))))
+    -- whatever it finds has one length
     pub one-size : (n : C) → RuledOut promise (λ _ r. Always n (mapSome size (foundIn (says r))))
 
 -- Shown by an input where something empty is found, one where something else is, and two that are refused at different offsets
@@ -102,7 +106,7 @@ module _ {Lent : Type 0} (wanted : Lent → Judged (Option Place)) where
     c-call = answers-rightly (λ x a meets. ap saysPlace meets ∙ place-said (wanted x)) answers;
   }
 
--- The questions to a name payload. Each input that is refused is damaged behind what is asked for: in a later subsection, in a map's second entry, in an indirect map's second group
+-- The questions to a name payload. The first input that is refused is damaged behind what is asked for: in a later subsection, in a map's second entry, in an indirect map's second group
 pub record NameQuestions : Type 0 where
   pub module-name : PlaceCalls (λ p. asPlace (ask moduleName p))
   pub function-name : PlaceCalls (λ (x : List ℕ × FunctionIndex). asPlace (ask (functionName (x .1)) (x .0)))

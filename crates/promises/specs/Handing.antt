@@ -1,8 +1,6 @@
 -- Wrong second calls: one that hands back one fixed part, or always the empty one; one that takes its part always from the same place of what was lent. Each promise of a call that hands back bytes rules them out.
 use Prim.Native.Nat.{ℕ, _+_}
-use Prim.Native.String.{String}
-use mathlib.Core.Bool.{Bool, true, false}
-use mathlib.Core.List.{List, [], _∷_, _++_}
+use mathlib.Core.List.{List, [], _∷_}
 use mathlib.Core.Option.{Option, some}
 use mathlib.Core.Path.{_≡_, refl, ap, sym, _∙_}
 use native.Mathlib.Omega.{arith}
@@ -33,7 +31,7 @@ use Rattle.format.specs.declared.TagIndex.{TagIndex}
 use Rattle.format.specs.declared.TypeIndex.{TypeIndex}
 use Rattle.reading.specs.Taken.{takenOf, Takes}
 use Rattle.promises.specs.Asking.{withNames, withData}
-use Rattle.promises.specs.RuledOut.{RuledOut, Always, by-two-inputs}
+use Rattle.promises.specs.RuledOut.{RuledOut, by-two-inputs}
 
 -- A question, the bytes that are lent, and where in memory they begin. What comes back is bytes, and where they begin
 module _ {Asked : Type 0} (answer : Asked → List ℕ → Judged (Option Part)) where

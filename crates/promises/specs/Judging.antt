@@ -1,8 +1,6 @@
 -- Wrong judges: one that refuses everything, one that accepts everything, one that gives every refusal at one offset, and one that checks a map's first entry and waves the others through. Each judging call's promise rules them out, and so does that of its C call.
 use Prim.Native.Nat.{ℕ}
-use Prim.Native.String.{String}
-use mathlib.Core.Bool.{true, false}
-use mathlib.Core.List.{List, [], _∷_}
+use mathlib.Core.Bool.{false}
 use mathlib.Core.Option.{some}
 use mathlib.Core.Path.{_≡_, refl, ap, subst, _∙_}
 use borrow.Author.Tests.{eq-eqb}
@@ -12,19 +10,17 @@ use Rattle.format.specs.Examples.{hex, digit}
 use Rattle.format.specs.Metadata.{hintOf, anyItem, hintItem, metadata, judgeMetadata}
 use Rattle.format.specs.Names.{known, knownKind, contents, subsections, payload, judgeNames}
 use Rattle.format.specs.Numbers.{number, groups}
-use Rattle.format.specs.Options.{mapSome}
-use Rattle.format.specs.Parts.{sized, name, remaining}
-use Rattle.format.specs.Reading.{Judged, accepted, refused, verdict}
+use Rattle.format.specs.Parts.{sized}
+use Rattle.format.specs.Reading.{Judged, refused, verdict}
 use Rattle.format.specs.Refusals.{numberOf}
 use Rattle.format.specs.Tables.{lookup, rows, table}
-use Rattle.format.specs.Text.{utf8, continues, following, wellFormed}
 use Rattle.format.specs.declared.Reason.the-variants.{NoPreamble, PastItsPart}
 use Rattle.metadata.specs.Judgements.{judged}
 use Rattle.names.specs.Places.{Judges, verdictOf}
 use Rattle.names.proofs.Verdicts.{verdict-is}
 use Rattle.wakemiono.specs.Boundary.{wmJudged}
 use Rattle.promises.specs.Answers.{saysVerdict, verdict-said}
-use Rattle.promises.specs.RuledOut.{RuledOut, Refuses, Accepts, Always, offsetIn, acceptedIn, Refusing, refuses, Tells, Row, _demands_, Demanded, by-input, by-two-inputs, by-table}
+use Rattle.promises.specs.RuledOut.{RuledOut, Refuses, Accepts, Always, offsetIn, Refusing, refuses, Tells, by-input, by-two-inputs}
 
 module _ {Lent Result B : Type 0} (promise : Lent → Result → Type 0) (says : Result → Judged B) where
   pub record JudgesRightly : Type 0 where

@@ -3,6 +3,7 @@ pub mod RuledOut
 pub mod Answers
 pub mod Judging
 pub mod FirstEntries
+pub mod Stopping
 pub mod Asking
 pub mod Handing
 pub mod Walking

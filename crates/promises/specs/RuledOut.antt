@@ -3,13 +3,13 @@ use Prim.Native.Nat.{ℕ}
 use mathlib.Core.Bool.{Bool, true, false}
 use mathlib.Core.List.{List, [], _∷_, map}
 use mathlib.Core.Option.{Option, none, some}
-use mathlib.Core.Path.{_≡_, refl, sym, ap, subst, _∙_}
+use mathlib.Core.Path.{_≡_, sym, ap, subst, _∙_}
 use native.Mathlib.Omega.{arith}
 use Rattle.format.specs.Reading.{Judged, accepted, refused}
 use Rattle.format.specs.Laws.Options.{not-some, some-is}
 use Rattle.format.specs.Laws.Outcomes.{byTest}
 
--- There is something to lend for which no result that meets the promise is what the wrong program answers
+-- There is something to lend for which no result that meets the promise is what the wrong program answers. That some result meets it there is shown by the call, which is proved to
 pub record RuledOut {Lent Result : Type 0} (promise wrong : Lent → Result → Type 0) : Type 0 where
   pub input : Lent
   pub otherwise : (r : Result) → promise input r → wrong input r → ⊥

@@ -1,8 +1,8 @@
 -- Wrong walks: one that refuses everything, one that accepts everything, one whose count of sections, or whose length of a section or of a payload, is not taken from the bytes, one that finds no section. Each promise of the walk rules them out, and so does that of its C call.
 use Prim.Native.Nat.{ℕ}
 use Prim.Native.String.{String}
-use mathlib.Core.List.{List, [], _∷_, _++_}
-use mathlib.Core.Bool.{true, false}
+use mathlib.Core.List.{List, [], _++_}
+use mathlib.Core.Bool.{false}
 use mathlib.Core.Option.{Option, none, some}
 use mathlib.Core.Path.{_≡_, refl, ap, _∙_}
 use lib.Dec.{eqb}
@@ -30,7 +30,7 @@ use Rattle.wakemiono.specs.Boundary.{wmCount, wmSection}
 use Rattle.promises.specs.Answers.{saysCount, count-said, saysSection, section-said}
 use Rattle.promises.specs.Asking.{AnswersRightly, Answers, answers-rightly, PlaceCalls, place-answers, place-calls}
 use Rattle.promises.specs.Judging.{JudgesRightly, Verdicts, judges-rightly}
-use Rattle.promises.specs.RuledOut.{RuledOut, Refuses, Accepts, Always, acceptedIn, finds, Refusing, refuses, Tells, by-input, by-two-inputs}
+use Rattle.promises.specs.RuledOut.{RuledOut, Refuses, Accepts, Always, acceptedIn, finds, refuses, Tells, by-input, by-two-inputs}
 
 -- a module: the preamble and some bytes
 module′ : String → List ℕ

@@ -1,8 +1,7 @@
 -- Wrong writers: one that refuses everything, one that never refuses, one that writes nothing, one that writes one fixed payload, one that copies its input as a rewriting. Each promise of a rewriting and of the writer from lists rules them out, and so does that of its C call. What comes back is the answer and the output's bytes.
 use Prim.Native.Nat.{ℕ}
 use mathlib.Core.Bool.{true, false}
-use mathlib.Core.List.{List, [], _∷_, _++_}
-use mathlib.Core.Option.{Option, some}
+use mathlib.Core.List.{List, [], _∷_}
 use mathlib.Core.Path.{_≡_, refl, ap, sym, subst, _∙_}
 use borrow.Author.Tests.{eq-eqb}
 use lib.Dec.{eqb}
@@ -20,10 +19,10 @@ use Rattle.format.specs.Reading.{Judged, accepted, refused, mapJudged}
 use Rattle.format.specs.Tables.{lookup, size, mapTable, rows, table}
 use Rattle.format.specs.Text.{utf8, continues, following, wellFormed}
 use Rattle.format.specs.declared.Written.{Written}
-use Rattle.wakemiono.specs.Boundary.{wmCount, WmWrites}
+use Rattle.wakemiono.specs.Boundary.{WmWrites}
 use Rattle.wakemiono.specs.declared.WmAnswer.{WmAnswer}
 use Rattle.promises.specs.Answers.{saysCount, count-said}
-use Rattle.promises.specs.Judging.{JudgesRightly, Verdicts, judges-rightly}
+use Rattle.promises.specs.Judging.{JudgesRightly, judges-rightly}
 use Rattle.promises.specs.RuledOut.{RuledOut, Refuses, Always, acceptedIn, finds, Finding, Refusing, refuses, Tells, not-both, by-two-inputs}
 
 -- What a call wrote: the first bytes of the output, as many as it says; or its refusal
@@ -34,15 +33,16 @@ wrote answer new = mapJudged (λ n. take n new) answer
 module _ {Lent Result : Type 0} (promise : Lent × List ℕ → Result × List ℕ → Type 0) (counts : Result → Judged ℕ) where
   pub record WritesRightly : Type 0 where
     pub judges : JudgesRightly promise (λ r. wrote (counts (r .0)) (r .1))
-    -- the output stays as it was
+    -- the output stays as it was, whatever is lent
     pub writes-nothing : RuledOut promise (λ x r. r .1 ≡ x .1)
-    -- also the empty one
+    -- one payload, also the empty one, whenever it does not refuse
     pub one-payload : (y : List ℕ) → RuledOut promise (λ _ r. Always y (acceptedIn (wrote (counts (r .0)) (r .1))))
 
 -- of a rewriting, whose input is a payload
 module _ {Result : Type 0} (promise : List ℕ × List ℕ → Result × List ℕ → Type 0) (counts : Result → Judged ℕ) where
   pub record RewritesRightly : Type 0 where
     pub writes : WritesRightly promise counts
+    -- the input itself, whenever it does not refuse
     pub copies-input : RuledOut promise (λ x r. Always (x .0) (acceptedIn (wrote (counts (r .0)) (r .1))))
 
 -- Shown by two inputs for which different bytes are to be written, the first of them other than what stood in the output, and two that are refused at different offsets

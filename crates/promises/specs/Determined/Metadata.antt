@@ -36,8 +36,8 @@ judge-hints-determined p = meaning-determined judged-same _
 pub find-determined : (p : List ℕ) (f : FunctionIndex) (at : CodeOffset) → Determines (λ (r : Answer). answered r ≡ asPlace (askMetadata anyItem f at 0 p))
 find-determined p f at = answer-determined _
 
-pub find-bytes-determined : (p : List ℕ) (place : ℕ × ℕ) (f : FunctionIndex) (at : CodeOffset) → Determines (λ (r : Handed). (r .0 ≡ asBytes (askMetadata anyItem f at 0 p)) × (r .1 ≡ (place .0, startOf (askMetadata anyItem f at 0 p) + place .1)))
-find-bytes-determined p place f at = part-determined _ _
+pub find-bytes-determined : (p : List ℕ) (lent-at : ℕ × ℕ) (f : FunctionIndex) (at : CodeOffset) → Determines (λ (r : Handed). (r .0 ≡ asBytes (askMetadata anyItem f at 0 p)) × (r .1 ≡ (lent-at .0, startOf (askMetadata anyItem f at 0 p) + lent-at .1)))
+find-bytes-determined p lent-at f at = part-determined _ _
 
 pub hint-determined : (p : List ℕ) (f : FunctionIndex) (at : CodeOffset) → Determines (λ (r : HintAnswer). hintAnswered r ≡ askHint f at 0 p)
 hint-determined p f at = hint-answer-determined _

@@ -58,48 +58,48 @@ pub refusal-of-determined : (judged : Judged) → Determines (λ (r : Refusal). 
 refusal-of-determined judged = equal-determined _
 
 pub the-name-determined : (s : List ℕ) (place : Sub) → Determines (λ (r : Answer). AsksAt oneName itsName s place r)
-the-name-determined s place = λ a b p q. same-answer a b (p .says ∙ sym (q .says))
+the-name-determined s place a b h h′ = same-answer a b (h .says ∙ sym (h′ .says))
 
 pub named-determined : (s : List ℕ) (place : Sub) (key : ℕ) → Determines (λ (r : Answer). AsksAt nameMap (nameOf key) s place r)
-named-determined s place key = λ a b p q. same-answer a b (p .says ∙ sym (q .says))
+named-determined s place key a b h h′ = same-answer a b (h .says ∙ sym (h′ .says))
 
 pub named-within-determined : (s : List ℕ) (place : Sub) (key inner : ℕ) → Determines (λ (r : Answer). AsksAt indirectMap (nameWithin key inner) s place r)
-named-within-determined s place key inner = λ a b p q. same-answer a b (p .says ∙ sym (q .says))
+named-within-determined s place key inner a b h h′ = same-answer a b (h .says ∙ sym (h′ .says))
 
 pub all-kept-determined : (s : List ℕ) (place : Sub) → Determines (λ (r : Answer). AsksAt kept itsContents s place r)
-all-kept-determined s place = λ a b p q. same-answer a b (p .says ∙ sym (q .says))
+all-kept-determined s place a b h h′ = same-answer a b (h .says ∙ sym (h′ .says))
 
 -- names::bytes
-pub module-name-bytes-determined : (p : List ℕ) (place : ℕ × ℕ) → Determines (λ (r : Handed). (r .0 ≡ asBytes (ask moduleName p)) × (r .1 ≡ (place .0, startOf (ask moduleName p) + place .1)))
-module-name-bytes-determined p place = part-determined _ _
+pub module-name-bytes-determined : (p : List ℕ) (lent-at : ℕ × ℕ) → Determines (λ (r : Handed). (r .0 ≡ asBytes (ask moduleName p)) × (r .1 ≡ (lent-at .0, startOf (ask moduleName p) + lent-at .1)))
+module-name-bytes-determined p lent-at = part-determined _ _
 
-pub function-name-bytes-determined : (p : List ℕ) (place : ℕ × ℕ) (k : FunctionIndex) → Determines (λ (r : Handed). (r .0 ≡ asBytes (ask (functionName k) p)) × (r .1 ≡ (place .0, startOf (ask (functionName k) p) + place .1)))
-function-name-bytes-determined p place k = part-determined _ _
+pub function-name-bytes-determined : (p : List ℕ) (lent-at : ℕ × ℕ) (k : FunctionIndex) → Determines (λ (r : Handed). (r .0 ≡ asBytes (ask (functionName k) p)) × (r .1 ≡ (lent-at .0, startOf (ask (functionName k) p) + lent-at .1)))
+function-name-bytes-determined p lent-at k = part-determined _ _
 
-pub type-name-bytes-determined : (p : List ℕ) (place : ℕ × ℕ) (k : TypeIndex) → Determines (λ (r : Handed). (r .0 ≡ asBytes (ask (typeName k) p)) × (r .1 ≡ (place .0, startOf (ask (typeName k) p) + place .1)))
-type-name-bytes-determined p place k = part-determined _ _
+pub type-name-bytes-determined : (p : List ℕ) (lent-at : ℕ × ℕ) (k : TypeIndex) → Determines (λ (r : Handed). (r .0 ≡ asBytes (ask (typeName k) p)) × (r .1 ≡ (lent-at .0, startOf (ask (typeName k) p) + lent-at .1)))
+type-name-bytes-determined p lent-at k = part-determined _ _
 
-pub tag-name-bytes-determined : (p : List ℕ) (place : ℕ × ℕ) (k : TagIndex) → Determines (λ (r : Handed). (r .0 ≡ asBytes (ask (tagName k) p)) × (r .1 ≡ (place .0, startOf (ask (tagName k) p) + place .1)))
-tag-name-bytes-determined p place k = part-determined _ _
+pub tag-name-bytes-determined : (p : List ℕ) (lent-at : ℕ × ℕ) (k : TagIndex) → Determines (λ (r : Handed). (r .0 ≡ asBytes (ask (tagName k) p)) × (r .1 ≡ (lent-at .0, startOf (ask (tagName k) p) + lent-at .1)))
+tag-name-bytes-determined p lent-at k = part-determined _ _
 
-pub local-name-bytes-determined : (p : List ℕ) (place : ℕ × ℕ) (f : FunctionIndex) (k : LocalIndex) → Determines (λ (r : Handed). (r .0 ≡ asBytes (ask (localName f k) p)) × (r .1 ≡ (place .0, startOf (ask (localName f k) p) + place .1)))
-local-name-bytes-determined p place f k = part-determined _ _
+pub local-name-bytes-determined : (p : List ℕ) (lent-at : ℕ × ℕ) (f : FunctionIndex) (k : LocalIndex) → Determines (λ (r : Handed). (r .0 ≡ asBytes (ask (localName f k) p)) × (r .1 ≡ (lent-at .0, startOf (ask (localName f k) p) + lent-at .1)))
+local-name-bytes-determined p lent-at f k = part-determined _ _
 
-pub field-name-bytes-determined : (p : List ℕ) (place : ℕ × ℕ) (t : TypeIndex) (k : FieldIndex) → Determines (λ (r : Handed). (r .0 ≡ asBytes (ask (fieldName t k) p)) × (r .1 ≡ (place .0, startOf (ask (fieldName t k) p) + place .1)))
-field-name-bytes-determined p place t k = part-determined _ _
+pub field-name-bytes-determined : (p : List ℕ) (lent-at : ℕ × ℕ) (t : TypeIndex) (k : FieldIndex) → Determines (λ (r : Handed). (r .0 ≡ asBytes (ask (fieldName t k) p)) × (r .1 ≡ (lent-at .0, startOf (ask (fieldName t k) p) + lent-at .1)))
+field-name-bytes-determined p lent-at t k = part-determined _ _
 
-pub kept-bytes-determined : (p : List ℕ) (place : ℕ × ℕ) (id : ℕ) → Determines (λ (r : Handed). (r .0 ≡ asBytes (ask (keptContents id) p)) × (r .1 ≡ (place .0, startOf (ask (keptContents id) p) + place .1)))
-kept-bytes-determined p place id = part-determined _ _
+pub kept-bytes-determined : (p : List ℕ) (lent-at : ℕ × ℕ) (id : ℕ) → Determines (λ (r : Handed). (r .0 ≡ asBytes (ask (keptContents id) p)) × (r .1 ≡ (lent-at .0, startOf (ask (keptContents id) p) + lent-at .1)))
+kept-bytes-determined p lent-at id = part-determined _ _
 
 -- names::contents
 pub one-name-determined : (s : List ℕ) (part : Cursor) → Determines (λ (r : Answer). Asks oneName itsName s part r)
-one-name-determined s part = λ a b p q. same-answer a b (p .says ∙ sym (q .says))
+one-name-determined s part a b h h′ = same-answer a b (h .says ∙ sym (h′ .says))
 
 pub name-map-determined : (s : List ℕ) (part : Cursor) (key : ℕ) → Determines (λ (r : Answer). Asks nameMap (nameOf key) s part r)
-name-map-determined s part key = λ a b p q. same-answer a b (p .says ∙ sym (q .says))
+name-map-determined s part key a b h h′ = same-answer a b (h .says ∙ sym (h′ .says))
 
 pub indirect-map-determined : (s : List ℕ) (part : Cursor) (key inner : ℕ) → Determines (λ (r : Answer). Asks indirectMap (nameWithin key inner) s part r)
-indirect-map-determined s part key inner = λ a b p q. same-answer a b (p .says ∙ sym (q .says))
+indirect-map-determined s part key inner a b h h′ = same-answer a b (h .says ∙ sym (h′ .says))
 
 -- names::frames
 pub frame-determined : (s : List ℕ) (c : Cursor) (least : ℕ) → Determines (λ (r : FrameRead). FrameReads frame least s c r)

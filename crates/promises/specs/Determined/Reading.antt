@@ -29,8 +29,8 @@ pub name-determined : (c : Cursor) (s : List ℕ) → Determines (λ (r : PartRe
 name-determined c s = part-same
 
 -- reading::taking
-pub taken-determined : (p : List ℕ) (place : ℕ × ℕ) (answer : Answer) → Determines (λ (r : Handed). Takes p place answer (r .0) (r .1))
-taken-determined p place answer = λ a b p q. part-determined _ _ a b (p .bytes-are, p .begins-there) (q .bytes-are, q .begins-there)
+pub taken-determined : (p : List ℕ) (lent-at : ℕ × ℕ) (answer : Answer) → Determines (λ (r : Handed). Takes p lent-at answer (r .0) (r .1))
+taken-determined p lent-at answer a b h h′ = part-determined _ _ a b (h .bytes-are, h .begins-there) (h′ .bytes-are, h′ .begins-there)
 
 -- reading::text
 pub is-text-determined : (s : List ℕ) (from to : ℕ) → Determines (λ (r : Bool). r ≡ utf8 (slice from to s))

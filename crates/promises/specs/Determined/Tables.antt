@@ -15,7 +15,7 @@ pub value-determined : (c : Cursor) (s : List ℕ) (item : Item) → Determines 
 value-determined c s item = part-same
 
 pub table-determined : (c : Cursor) (s : List ℕ) (item : Item) (key : ℕ) → Inside s c → Determines (λ (r : Seek). Seeks (sought (readerOf item) key) s c r)
-table-determined c s item key = λ inside a b p q. seeks-same p q inside
+table-determined c s item key inside a b h h′ = seeks-same h h′ inside
 
 pub tables-determined : (c : Cursor) (s : List ℕ) (item : Item) (key inner : ℕ) → Inside s c → Determines (λ (r : Seek). Seeks (soughtWithin (readerOf item) key inner) s c r)
-tables-determined c s item key inner = λ inside a b p q. seeks-same p q inside
+tables-determined c s item key inner inside a b h h′ = seeks-same h h′ inside

@@ -44,26 +44,26 @@ pub hint-determined : (m : List ℕ) (f : FunctionIndex) (at : CodeOffset) → D
 hint-determined m f at = hint-answer-determined _
 
 -- through::bytes
-pub module-name-bytes-determined : (m : List ℕ) (place : ℕ × ℕ) → Determines (λ (r : Handed). (r .0 ≡ asBytes (askThrough moduleName m)) × (r .1 ≡ (place .0, startOf (askThrough moduleName m) + place .1)))
-module-name-bytes-determined m place = part-determined _ _
+pub module-name-bytes-determined : (m : List ℕ) (lent-at : ℕ × ℕ) → Determines (λ (r : Handed). (r .0 ≡ asBytes (askThrough moduleName m)) × (r .1 ≡ (lent-at .0, startOf (askThrough moduleName m) + lent-at .1)))
+module-name-bytes-determined m lent-at = part-determined _ _
 
-pub function-name-bytes-determined : (m : List ℕ) (place : ℕ × ℕ) (k : FunctionIndex) → Determines (λ (r : Handed). (r .0 ≡ asBytes (askThrough (functionName k) m)) × (r .1 ≡ (place .0, startOf (askThrough (functionName k) m) + place .1)))
-function-name-bytes-determined m place k = part-determined _ _
+pub function-name-bytes-determined : (m : List ℕ) (lent-at : ℕ × ℕ) (k : FunctionIndex) → Determines (λ (r : Handed). (r .0 ≡ asBytes (askThrough (functionName k) m)) × (r .1 ≡ (lent-at .0, startOf (askThrough (functionName k) m) + lent-at .1)))
+function-name-bytes-determined m lent-at k = part-determined _ _
 
-pub type-name-bytes-determined : (m : List ℕ) (place : ℕ × ℕ) (k : TypeIndex) → Determines (λ (r : Handed). (r .0 ≡ asBytes (askThrough (typeName k) m)) × (r .1 ≡ (place .0, startOf (askThrough (typeName k) m) + place .1)))
-type-name-bytes-determined m place k = part-determined _ _
+pub type-name-bytes-determined : (m : List ℕ) (lent-at : ℕ × ℕ) (k : TypeIndex) → Determines (λ (r : Handed). (r .0 ≡ asBytes (askThrough (typeName k) m)) × (r .1 ≡ (lent-at .0, startOf (askThrough (typeName k) m) + lent-at .1)))
+type-name-bytes-determined m lent-at k = part-determined _ _
 
-pub tag-name-bytes-determined : (m : List ℕ) (place : ℕ × ℕ) (k : TagIndex) → Determines (λ (r : Handed). (r .0 ≡ asBytes (askThrough (tagName k) m)) × (r .1 ≡ (place .0, startOf (askThrough (tagName k) m) + place .1)))
-tag-name-bytes-determined m place k = part-determined _ _
+pub tag-name-bytes-determined : (m : List ℕ) (lent-at : ℕ × ℕ) (k : TagIndex) → Determines (λ (r : Handed). (r .0 ≡ asBytes (askThrough (tagName k) m)) × (r .1 ≡ (lent-at .0, startOf (askThrough (tagName k) m) + lent-at .1)))
+tag-name-bytes-determined m lent-at k = part-determined _ _
 
-pub local-name-bytes-determined : (m : List ℕ) (place : ℕ × ℕ) (f : FunctionIndex) (k : LocalIndex) → Determines (λ (r : Handed). (r .0 ≡ asBytes (askThrough (localName f k) m)) × (r .1 ≡ (place .0, startOf (askThrough (localName f k) m) + place .1)))
-local-name-bytes-determined m place f k = part-determined _ _
+pub local-name-bytes-determined : (m : List ℕ) (lent-at : ℕ × ℕ) (f : FunctionIndex) (k : LocalIndex) → Determines (λ (r : Handed). (r .0 ≡ asBytes (askThrough (localName f k) m)) × (r .1 ≡ (lent-at .0, startOf (askThrough (localName f k) m) + lent-at .1)))
+local-name-bytes-determined m lent-at f k = part-determined _ _
 
-pub field-name-bytes-determined : (m : List ℕ) (place : ℕ × ℕ) (t : TypeIndex) (k : FieldIndex) → Determines (λ (r : Handed). (r .0 ≡ asBytes (askThrough (fieldName t k) m)) × (r .1 ≡ (place .0, startOf (askThrough (fieldName t k) m) + place .1)))
-field-name-bytes-determined m place t k = part-determined _ _
+pub field-name-bytes-determined : (m : List ℕ) (lent-at : ℕ × ℕ) (t : TypeIndex) (k : FieldIndex) → Determines (λ (r : Handed). (r .0 ≡ asBytes (askThrough (fieldName t k) m)) × (r .1 ≡ (lent-at .0, startOf (askThrough (fieldName t k) m) + lent-at .1)))
+field-name-bytes-determined m lent-at t k = part-determined _ _
 
-pub kept-bytes-determined : (m : List ℕ) (place : ℕ × ℕ) (id : ℕ) → Determines (λ (r : Handed). (r .0 ≡ asBytes (askThrough (keptContents id) m)) × (r .1 ≡ (place .0, startOf (askThrough (keptContents id) m) + place .1)))
-kept-bytes-determined m place id = part-determined _ _
+pub kept-bytes-determined : (m : List ℕ) (lent-at : ℕ × ℕ) (id : ℕ) → Determines (λ (r : Handed). (r .0 ≡ asBytes (askThrough (keptContents id) m)) × (r .1 ≡ (lent-at .0, startOf (askThrough (keptContents id) m) + lent-at .1)))
+kept-bytes-determined m lent-at id = part-determined _ _
 
-pub metadata-bytes-determined : (m : List ℕ) (place : ℕ × ℕ) (format : List ℕ) (f : FunctionIndex) (at : CodeOffset) → Determines (λ (r : Handed). (r .0 ≡ asBytes (askMetadataThrough format f at m)) × (r .1 ≡ (place .0, startOf (askMetadataThrough format f at m) + place .1)))
-metadata-bytes-determined m place format f at = part-determined _ _
+pub metadata-bytes-determined : (m : List ℕ) (lent-at : ℕ × ℕ) (format : List ℕ) (f : FunctionIndex) (at : CodeOffset) → Determines (λ (r : Handed). (r .0 ≡ asBytes (askMetadataThrough format f at m)) × (r .1 ≡ (lent-at .0, startOf (askMetadataThrough format f at m) + lent-at .1)))
+metadata-bytes-determined m lent-at format f at = part-determined _ _

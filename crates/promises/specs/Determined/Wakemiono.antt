@@ -9,7 +9,6 @@ use Rattle.format.specs.Lists.{functionNames}
 use Rattle.format.specs.Metadata.{anyItem, hintItem, judgeMetadata, askMetadata, askHint}
 use Rattle.format.specs.Names.{knownKind, judgeNames}
 use Rattle.format.specs.Options.{mapSome}
-use Rattle.format.specs.Parts.{name}
 use Rattle.format.specs.Questions.{moduleName, functionName, typeName, tagName, localName, fieldName, keptContents, ask, asPlace}
 use Rattle.format.specs.Reading.{mapJudged, verdict, Judged}
 use Rattle.format.specs.Through.{askThrough, askMetadataThrough, askHintThrough}

@@ -6,7 +6,6 @@ use mathlib.Core.Path.{_≡_}
 use Rattle.format.specs.Bytes.{same}
 use Rattle.format.specs.Determined.{Determines, equal-determined, meaning-determined, answer-determined}
 use Rattle.format.specs.Options.{mapSome}
-use Rattle.format.specs.Parts.{name}
 use Rattle.format.specs.Questions.{asPlace, answered}
 use Rattle.format.specs.Reading.{mapJudged}
 use Rattle.format.specs.Walk.{sectionCount, sectionAt, customPayload}
