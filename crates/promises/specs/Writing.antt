@@ -2,13 +2,17 @@
 use Prim.Native.Nat.{ℕ}
 use mathlib.Core.Bool.{true, false}
 use mathlib.Core.List.{List, [], _∷_}
+use mathlib.Core.Option.{some}
 use mathlib.Core.Path.{_≡_, refl, ap, sym, subst, _∙_}
+use native.Mathlib.Omega.{arith}
 use borrow.Author.Tests.{eq-eqb}
 use lib.Dec.{eqb}
-use lib.ListN.{length, take}
-use Rattle.format.specs.Bytes.{same}
+use lib.ListN.{length, take, drop}
+use lib.Seq.{take-at}
+use Rattle.format.specs.Bytes.{ascii, same}
 use Rattle.format.specs.Canonical.{writePart, writeRows, writeTable, unlessEmpty, keepRows, bare, writeContent, writeSubsections, rewriteNames, canonical, canonicalNames, rewriteMetadata, canonicalOf, canonicalMetadata, canonicalHints}
 use Rattle.format.specs.Examples.{hex, digit}
+use Rattle.format.specs.Listing.{digits, decimal, piece, line, sectionLines, payloadLine, printed, greatestInput, listing}
 use Rattle.format.specs.Lists.{sum, listed, unsortedAt, badTextAt, subsection, functionNames}
 use Rattle.format.specs.Metadata.{hintOf, anyItem, hintItem, metadata, judgeMetadata}
 use Rattle.format.specs.Names.{known, knownKind, contents, subsections, payload, judgeNames}
@@ -18,9 +22,11 @@ use Rattle.format.specs.Parts.{sized, name, remaining}
 use Rattle.format.specs.Reading.{Judged, accepted, refused, mapJudged}
 use Rattle.format.specs.Tables.{lookup, size, mapTable, rows, table}
 use Rattle.format.specs.Text.{utf8, continues, following, wellFormed}
+use Rattle.format.specs.Walk.{preamble, begins, nameSection, hintSection, nothing, sections, framing, walk, payloadIn}
 use Rattle.format.specs.declared.Written.{Written}
 use Rattle.wakemiono.specs.Boundary.{WmWrites}
 use Rattle.wakemiono.specs.declared.WmAnswer.{WmAnswer}
+use Rattle.writing.specs.Wrote.{Wrote}
 use Rattle.promises.specs.Answers.{saysCount, count-said}
 use Rattle.promises.specs.Judging.{JudgesRightly, judges-rightly}
 use Rattle.promises.specs.RuledOut.{RuledOut, Refuses, Always, acceptedIn, finds, Finding, Refusing, refuses, Tells, not-both, by-two-inputs}
@@ -196,3 +202,11 @@ function-names = write-calls _ (record {
   changed = refl;
   apart = refl;
 })
+
+-- The program's listing, into any output: one listing for every module
+listing-told : (old : List ℕ) → Tells (λ m (r : ℕ × List ℕ). Wrote old (r .1) 0 (r .0) (listing m)) (λ r. take (r .0) (r .1)) listing
+listing-told old m r meets = ap (take (r .0)) (meets .written) ∙ take-at (listing m) (drop (r .0) old) (r .0) (omega (arith, meets .next-is))
+
+pub list : (old y : List ℕ) → RuledOut (λ m (r : ℕ × List ℕ). Wrote old (r .1) 0 (r .0) (listing m)) (λ _ r. take (r .0) (r .1) ≡ y)
+unfolding same ascii preamble begins nothing sections framing walk payloadIn nameSection hintSection digits decimal piece line sectionLines payloadLine printed greatestInput listing
+list old y = by-two-inputs (listing-told old) (λ x. some x) (same (ascii "refused 1 0\n")) [] preamble {k = ascii "refused 1 0\n"} {l = ascii "sections 0\nname none\nhints none\n"} refl refl refl refl y
