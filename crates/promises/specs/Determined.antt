@@ -1,4 +1,4 @@
--- Of every public function of every crate: its promise, as its `ensures` says it, determines what comes back, by the form in `format/specs/Determined.antt`. A function that lends an output comes back with its bytes. `saying` only prints.
+-- Of every public function of every crate: its promise, as its `ensures` says it, determines what comes back, by the form in `format/specs/Determined.antt`. Of a function that is lent an output, the bytes in it after the call come back as well. `saying` only prints.
 pub mod Format
 pub mod Reading
 pub mod Writing
