@@ -32,7 +32,7 @@ same-sub s Absent (At d) i j e = absurd (not-some e)
 same-sub s (At c) Absent i j e = absurd (not-some (sym e))
 same-sub s (At c) (At d) i j e = ap At (same-part c d i j (some-is e))
 
-stands-same : {s : List ℕ} {found : Option Part} (a b : Sub) → Stands s a found → Stands s b found → a ≡ b
+pub stands-same : {s : List ℕ} {found : Option Part} (a b : Sub) → Stands s a found → Stands s b found → a ≡ b
 stands-same {s} a b i j = same-sub s a b (i .inside) (j .inside) (i .is ∙ sym (j .is))
 
 same-places : {s : List ℕ} {t : Table Part} (p q : Places) → AllStand s p t → AllStand s q t → p ≡ q

@@ -1,10 +1,9 @@
 -- Each promise of the crate `names` determines what comes back, but for the two functions at the end, which leave open what nobody asks.
 use Prim.Native.Nat.{ℕ, _+_}
 use mathlib.Core.List.{List}
-use mathlib.Core.Path.{_≡_, refl, sym, ap, _∙_}
+use mathlib.Core.Path.{_≡_, sym, _∙_}
 use Rattle.format.specs.Determined.{Determines, Handed, equal-determined, meaning-determined, answer-determined, part-determined}
 use Rattle.format.specs.Laws.Answers.{same-answer}
-use Rattle.format.specs.Laws.Options.{not-some, some-is}
 use Rattle.format.specs.Names.{oneName, nameMap, indirectMap, kept, knownKind}
 use Rattle.format.specs.Parts.{Part}
 use Rattle.format.specs.Questions.{itsName, itsContents, nameOf, nameWithin, moduleName, functionName, typeName, tagName, localName, fieldName, keptContents, askAt, ask, asPlace, asBytes, startOf, answered}
@@ -17,19 +16,18 @@ use Rattle.format.specs.declared.LocalIndex.{LocalIndex}
 use Rattle.format.specs.declared.Refusal.{Refusal}
 use Rattle.format.specs.declared.TagIndex.{TagIndex}
 use Rattle.format.specs.declared.TypeIndex.{TypeIndex}
-use Rattle.names.proofs.Same.{judge-same, kind-same, frame-same, placed-same}
-use Rattle.names.specs.Contents.{kindMeant, Asks, Rules}
+use Rattle.names.proofs.Same.{judge-same, kind-same, frame-same, placed-same, stands-same}
+use Rattle.names.specs.Contents.{kindMeant, Asks, Rules, endOf}
 use Rattle.names.specs.Frames.{frame, subsection, FrameReads, judgeFrames}
-use Rattle.names.specs.Places.{Puts, AsksAt, Judges, refusalIn, Finds, subOf, subInside}
+use Rattle.names.specs.Places.{Puts, AsksAt, Judges, refusalIn, Finds}
 use Rattle.names.specs.declared.frames.FrameRead.{FrameRead}
 use Rattle.names.specs.declared.judging.Judged.{Judged}
 use Rattle.names.specs.declared.kinds.Kind.{Kind}
 use Rattle.names.specs.declared.places.Places.{Places}
 use Rattle.names.specs.declared.places.Sub.{Sub}
-use Rattle.names.specs.declared.places.Sub.the-variants.{Absent, At}
-use Rattle.reading.proofs.Same.{same-part}
 use Rattle.reading.specs.Cursors.{left}
 use Rattle.reading.specs.declared.Cursor.{Cursor}
+use Rattle.tables.specs.declared.Seek.{Seek}
 
 -- names
 pub module-name-determined : (p : List ℕ) → Determines (λ (r : Answer). answered r ≡ asPlace (ask moduleName p))
@@ -101,6 +99,9 @@ name-map-determined s part key a b h h′ = same-answer a b (h .says ∙ sym (h�
 pub indirect-map-determined : (s : List ℕ) (part : Cursor) (key inner : ℕ) → Determines (λ (r : Answer). Asks indirectMap (nameWithin key inner) s part r)
 indirect-map-determined s part key inner a b h h′ = same-answer a b (h .says ∙ sym (h′ .says))
 
+pub ended-determined : (found : Seek) → Determines (λ (r : Answer). r ≡ endOf found)
+ended-determined found = equal-determined _
+
 -- names::frames
 pub frame-determined : (s : List ℕ) (c : Cursor) (least : ℕ) → Determines (λ (r : FrameRead). FrameReads frame least s c r)
 frame-determined s c least = frame-same
@@ -150,11 +151,5 @@ pub content-verdict : (s : List ℕ) (part : Cursor) (kind : Kind) (a b : Answer
 content-verdict s part kind a b p q = p .says ∙ sym (q .says)
 
 -- names::judging::find leaves open what it says of a payload whose subsections are refused: of any other it is determined
-same-sub : (s : List ℕ) (a b : Sub) → subInside s a → subInside s b → subOf s a ≡ subOf s b → a ≡ b
-same-sub s Absent Absent i j e = refl
-same-sub s Absent (At d) i j e = absurd (not-some e)
-same-sub s (At c) Absent i j e = absurd (not-some (sym e))
-same-sub s (At c) (At d) i j e = ap At (same-part c d i j (some-is e))
-
 pub find-determined : (s : List ℕ) (c : Cursor) (id : ℕ) (frames : Table Part) → judgeFrames (c .at) (left s c) ≡ accepted frames → Determines (λ (r : Sub). Finds s (c .at) (left s c) id r)
-find-determined s c id frames e a b p q = let one = p .stands frames e in let other = q .stands frames e in same-sub s a b (one .inside) (other .inside) (one .is ∙ sym (other .is))
+find-determined s c id frames e a b p q = stands-same a b (p .stands frames e) (q .stands frames e)
