@@ -1,19 +1,19 @@
--- A payload that is copied whole: where its rewriting is as long as it is, this is its rewriting.
-use Prim.Native.Nat.{ℕ, suc, _+_, _-_, _≤_, _<_}
+-- All that a cursor has left, copied to the output's front: bytes, as they stand in what was lent.
+use Prim.Native.Nat.{ℕ, _+_, _-_, _≤_}
 use mathlib.Core.List.{List}
-use mathlib.Core.Path.{_≡_, sym}
 use native.Mathlib.Omega.{arith}
 use borrow.Author.Needs.{needs}
 use lib.ListN.{length, take, drop, take-append-drop}
 use Rattle.format.specs.Bytes.{Bytes}
 use Rattle.format.specs.Laws.Tight.{bytes-before, bytes-after}
-use Rattle.reading.specs.Cursors.{Inside, left}
+use Rattle.reading.specs.Cursors.{left}
 use Rattle.reading.specs.declared.Cursor.{Cursor}
 use Rattle.writing.specs.Wrote.{Wrote}
 use Rattle.writing.proofs.Laws.{wrote-length}
 use Rattle.copying.proofs.Laws.{cut-left, part-length}
 use Rattle.rewrite.specs.Whole.{FitsWhole, PutsWhole}
 
+-- a part of bytes is bytes
 bytes-left : (s : List ℕ) (c : Cursor) → Bytes s → Bytes (left s c)
 bytes-left s c h =
     let front = bytes-before (take (c .end) s) (drop (c .end) s) (rw (take-append-drop (c .end) s) h) in
@@ -29,7 +29,6 @@ module _ {s : List ℕ} {c : Cursor} {old : List ℕ} (f : FitsWhole s c old) wh
   pub whole-room : 0 + length (take (c .end - c .at) (drop (c .at) s)) ≤ length old
   whole-room = rw (cut-left (f .inside)) (omega (arith, f .room, part-length (f .inside)))
 
-  -- every element of a lent slice is a byte
   pub whole-copied : {new : List ℕ} {next : ℕ} → Bytes s → Wrote old new 0 next (take (c .end - c .at) (drop (c .at) s)) → PutsWhole s c old new next
   whole-copied h w = record { bytes = bytes-left s c h; wrote = rw (cut-left (f .inside)) at w }
 

@@ -21,7 +21,9 @@ same-length : tie.Need-same-length
 same-length c = search needs
 
 returns : tie.Need-returns
-returns c = let known : Bytes (now (c .before .before .before .before .before .before .before .args .s)) = λ i. c .before .before .before .before .before .shared-slice-known .given i .fits in search (whole-put, known)
+returns c =
+    let known : Bytes (now (c .before .before .before .before .before .before .before .args .s)) = λ i. c .before .before .before .before .before .shared-slice-known .given i .fits in
+    search (whole-put, known)
 
 pub put-whole-spec : {M : Type 1} → statement M
 put-whole-spec =
