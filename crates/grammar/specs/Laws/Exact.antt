@@ -1,23 +1,14 @@
 -- A reader that is exact for a grammar: what it reads is what the grammar has a meaning for, with that meaning, and it reads whatever the grammar has one for. So meanings are unique.
-use Prim.Native.Nat.{ℕ, zero, suc, _≤_}
-use mathlib.Core.List.{List, [], _∷_, _++_, append-nil}
+use Prim.Native.Nat.{ℕ, _≤_}
+use mathlib.Core.List.{List, [], _++_, append-nil}
 use mathlib.Core.Path.{_≡_, sym, ap, _∙_}
 use native.Mathlib.Omega.{arith}
 use lib.ListN.{length, length-append}
 use Rattle.format.specs.Bytes.{Bytes}
+use Rattle.format.specs.Laws.Tight.{bytes-before, bytes-after}
 use Rattle.format.specs.Reading.{got, Reader, filling}
 use Rattle.format.specs.Laws.Outcomes.{got-value, inTurn, ended}
 use Rattle.grammar.specs.Numbers.{Grammar}
-
--- a stretch of bytes is bytes, and so is what is left after it
-bytes-before : (front rest : List ℕ) → Bytes (front ++ rest) → Bytes front
-bytes-before [] rest h i = omega arith
-bytes-before (b ∷ front) rest h zero = h 0
-bytes-before (b ∷ front) rest h (suc i) = bytes-before front rest (λ j. h (suc j)) i
-
-pub bytes-after : (front rest : List ℕ) → Bytes (front ++ rest) → Bytes rest
-bytes-after [] rest h = h
-bytes-after (b ∷ front) rest h = bytes-after front rest (λ i. h (suc i))
 
 -- the bytes that were read, and what the grammar says they mean
 pub record Stretch {A : Type 0} (grammar : Grammar A) (v : A) (rest bs : List ℕ) : Type 0 where

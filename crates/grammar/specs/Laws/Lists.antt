@@ -16,7 +16,8 @@ use Rattle.format.specs.Laws.Turns.{inSized, tested, inTested, inRow, inTable}
 use Rattle.format.specs.declared.Reason.{Reason}
 use Rattle.grammar.specs.Numbers.{Grammar}
 use Rattle.grammar.specs.Lists.{Sized, sized as aPart, Entries, noEntry, entry, Increasing, noRow, oneRow, twoRows, Listed, listed}
-use Rattle.grammar.specs.Laws.Exact.{bytes-after, Stretch, left-bytes, Accepts, Exact}
+use Rattle.format.specs.Laws.Tight.{bytes-after}
+use Rattle.grammar.specs.Laws.Exact.{Stretch, left-bytes, Accepts, Exact}
 use Rattle.grammar.specs.Laws.Numbers.{number-sound, number-complete}
 
 sized-sound : (o : ℕ) (bs : List ℕ) {p : Part} {o′ : ℕ} {rest : List ℕ} → Bytes bs → sized o bs ≡ got p o′ rest → Stretch Sized (p .bytes) rest bs

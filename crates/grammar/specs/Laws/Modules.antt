@@ -17,7 +17,8 @@ use Rattle.format.specs.Laws.Turns.{inSections}
 use Rattle.grammar.specs.Lists.{Sized}
 use Rattle.grammar.specs.Modules.{magic, version, Section as BareSection, Framed, customSection, otherSection, Sections, noSection, aSection, Ordered, Module, aModule}
 use Rattle.grammar.specs.Forgetting.{bareCustom, bareSection, bareSections}
-use Rattle.grammar.specs.Laws.Exact.{bytes-after, read-bytes, left-bytes, no-longer}
+use Rattle.format.specs.Laws.Tight.{bytes-after}
+use Rattle.grammar.specs.Laws.Exact.{read-bytes, left-bytes, no-longer}
 use Rattle.grammar.specs.Laws.Lists.{sized-exact, contents-bytes}
 use Rattle.grammar.specs.Laws.Names.{name-exact}
 use Rattle.grammar.specs.Laws.Order.{Allows, after, Run, end, step, ordered-run, run-ordered}
