@@ -11,8 +11,7 @@ ghost use Rattle.copying.specs.Bytes.{rowsOf, groupOf, groupLength, oneI
 ghost use Rattle.reading.specs.Cursors.{left};
 ghost use Rattle.writing.specs.Wrote.{Wrote};
 use reading::Cursor;
-use reading::NumberRead;
-use reading::PartRead;
+use reading::wide;
 use writing::number_length;
 use writing::put_bytes;
 use writing::put_number;
@@ -48,15 +47,28 @@ pub struct Put {
     pub next: Cursor,
 }
 
-// The number that stands here: it was accepted, so the other arm is never taken.
+// A byte of a number holds seven bits; one from here on says that another follows.
+const FOLLOWED: u32 = 128;
+
+// The number that stands here. It was accepted, so it ends where its part does at the latest, and nothing is tested.
 pub fn number_here(c: Cursor, s: &[u8]) -> Number
     requires { ⌜ Known number (now s) c ⌝ }
     ensures { λ r. ⌜ Stands number (now (s .entry)) c (r .value) (r .next) ⌝ }
 {
-    match c.number(s) {
-        NumberRead::Value(value, next) => Number { value, next },
-        NumberRead::Refused(_) => Number { value: 0, next: c },
+    let end = c.end;
+    let mut value: u32 = 0;
+    let mut weight: u32 = 1;
+    let mut i = c.at;
+    let mut b = wide(s[i]);
+    while FOLLOWED <= b {
+        value = value + weight * (b % FOLLOWED);
+        weight = weight * FOLLOWED;
+        i = i + 1;
+        b = wide(s[i]);
     }
+    let value = value + weight * b;
+    let next = Cursor { at: i + 1, end };
+    Number { value, next }
 }
 
 // The sized part that stands here, likewise.
@@ -64,10 +76,17 @@ pub fn part_here(c: Cursor, s: &[u8]) -> Piece
     requires { ⌜ Known sized (now s) c ⌝ }
     ensures { λ r. ⌜ TakesPart (now (s .entry)) c r ⌝ }
 {
-    match c.sized(s) {
-        PartRead::Part(part, next) => Piece { part, next },
-        PartRead::Refused(_) => Piece { part: c, next: c },
-    }
+    let size = number_here(c, s);
+    let length = size.value;
+    let text = size.next;
+    let at = text.at;
+    let behind = at + length as usize;
+    let part = Cursor { at, end: behind };
+    let next = Cursor {
+        at: behind,
+        end: text.end,
+    };
+    Piece { part, next }
 }
 
 // How long a part is with its size before it.

@@ -17,7 +17,7 @@ use Rattle.reading.specs.declared.Cursor.{Cursor}
 use Rattle.reading.specs.declared.NumberRead.the-variants.{Value, Refused}
 
 -- a number of which `value` is read, and what follows counts `weight` times
-pub onto : (value weight : ℕ) → Outcome ℕ → Outcome ℕ
+unfoldable pub onto : (value weight : ℕ) → Outcome ℕ → Outcome ℕ
 onto value weight r = andThen r (λ v. return (value + weight * v))
 
 pub record Turn (s : List ℕ) (at end value weight i more : ℕ) : Type 0 where

@@ -1,23 +1,77 @@
-use Rattle.copying.proofs.HereSteps.{here-steps}
-use borrow.Author.Needs.{needs}
+use Prim.Native.Nat.{_-_}
+use Rattle.copying.proofs.HereSteps.{Going, number-steps}
 use Rattle.copying.proofs.number_here.Statement.{statement}
 use Rattle.copying.proofs.number_here.Tie as tie
 
-number-requires : tie.Need-number-requires
-number-requires c κs = search needs
+abbrev Inv-loop : tie.InvT-loop
+Inv-loop s end value₀ weight₀ i₀ b₀ value weight i b = Going s (record { at = i₀; end = end }) value weight i b
 
-enum-known-value : tie.Need-enum-known-value
-enum-known-value c = search needs
+abbrev μ-loop : tie.MeasureT-loop
+μ-loop s end value₀ weight₀ i₀ b₀ value weight i b = end - i
 
-enum-told : tie.Need-enum-told
-enum-told c = search needs
+shared-slice-read-wide : tie.Need-shared-slice-read-wide Inv-loop μ-loop
+shared-slice-read-wide c = search number-steps
 
-returns : tie.Need-returns
-returns c = search here-steps
+wide-requires : tie.Need-wide-requires Inv-loop μ-loop
+wide-requires c κs = search number-steps
 
-returns-2 : tie.Need-returns-2
-returns-2 c = search here-steps
+loop-holds : tie.Need-loop-holds Inv-loop μ-loop
+loop-holds c = search number-steps
+
+mul-value : tie.Need-mul-value Inv-loop μ-loop
+mul-value c = search number-steps
+
+add-value : tie.Need-add-value Inv-loop μ-loop
+add-value c = search number-steps
+
+mul-weight : tie.Need-mul-weight Inv-loop μ-loop
+mul-weight c = search number-steps
+
+add-i : tie.Need-add-i Inv-loop μ-loop
+add-i c = search number-steps
+
+shared-slice-read-wide-2 : tie.Need-shared-slice-read-wide-2 Inv-loop μ-loop
+shared-slice-read-wide-2 c = search number-steps
+
+wide-requires-2 : tie.Need-wide-requires-2 Inv-loop μ-loop
+wide-requires-2 c κs = search number-steps
+
+loop-less : tie.Need-loop-less Inv-loop μ-loop
+loop-less c = search number-steps
+
+loop-again : tie.Need-loop-again Inv-loop μ-loop
+loop-again c = search number-steps
+
+mul-value-2 : tie.Need-mul-value-2 Inv-loop μ-loop
+mul-value-2 c = search number-steps
+
+add-value-2 : tie.Need-add-value-2 Inv-loop μ-loop
+add-value-2 c = search number-steps
+
+add-t18 : tie.Need-add-t18 Inv-loop μ-loop
+add-t18 c = search number-steps
+
+returns : tie.Need-returns Inv-loop μ-loop
+returns c = search number-steps
 
 pub number-here-spec : {M : Type 1} → statement M
 number-here-spec =
-    tie.close (tie.spec number-requires enum-known-value enum-told returns returns-2)
+    tie.close
+    (tie.spec
+    Inv-loop
+    μ-loop
+    shared-slice-read-wide
+    wide-requires
+    loop-holds
+    mul-value
+    add-value
+    mul-weight
+    add-i
+    shared-slice-read-wide-2
+    wide-requires-2
+    loop-less
+    loop-again
+    mul-value-2
+    add-value-2
+    add-t18
+    returns)
