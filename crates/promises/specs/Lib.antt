@@ -8,3 +8,5 @@ pub mod Asking
 pub mod Handing
 pub mod Walking
 pub mod Writing
+pub mod Laws
+pub mod Demands

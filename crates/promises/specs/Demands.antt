@@ -1,0 +1,162 @@
+-- THE FRONT DOOR. What users of the library demand, as types about its C calls, each under the sentence that it comes from; at the end stands the proof of each, by its name. A call is known by its promise alone, which is word for word the `ensures` on it in crates/wakemiono/src/lib.rt. What is said here is said of every answer that meets the promise; that the call's own answer meets it is proved of its code.
+use Prim.Native.Nat.{ℕ, _+_, _≤_}
+use mathlib.Core.List.{List, [], _∷_}
+use mathlib.Core.Logic.{_↔_, Iff·trans}
+use mathlib.Core.Path.{_≡_}
+-- the length of a list, its first n elements, and the list without them
+use lib.ListN.{length, take, drop}
+-- WHAT IS LENT. Bytes are a list of numbers, and `Bytes p` says that each is below 256.
+use Rattle.format.specs.Bytes.{Bytes}
+-- WHAT COMES BACK. Each call answers with a record of four numbers: `kind` (0 none, 1 found, 2 refused, 3 unlikely, 4 likely), `code`, `offset` and `length`. `wmRefused n at` is the answer of kind 2 with the number n as its code, the offset `at` and the length 0.
+use Rattle.wakemiono.specs.declared.WmAnswer.{WmAnswer}
+use Rattle.wakemiono.specs.Boundary.{wmRefused}
+-- WHAT THE RULES ACCEPT. The sources' grammar, written down in the crate `grammar` line by line, apart from the library's readers: `NamePayload p m`, `CodeMetadata Unknown p m`, `CodeMetadata BranchHint p m` and `Module p m` say that the bytes p are a name payload, code metadata, branch hints or a module, and mean m. `Grammar A` are the grammars with meanings in A.
+use Rattle.grammar.specs.Numbers.{Grammar}
+use Rattle.grammar.specs.Names.{NamePayload}
+use Rattle.grammar.specs.Metadata.{CodeMetadata, Unknown, BranchHint}
+-- WHAT IT MEANS. Metadata means a table of functions, each with a table of data by offset. A name payload means a table of subsections by id, each with what it holds: `single x` one name, `names t` a table of names by index, `namesBy t` a table of tables, `whole x` contents that are kept. `Has k v t`: the table t has a row with the number k and the value v.
+use Rattle.format.specs.Tables.{Table}
+use Rattle.format.specs.Names.{Content, single, names, namesBy, whole}
+use Rattle.format.specs.Holding.{Has}
+-- WHAT CAN BE ASKED of a name payload: one question for each call. An index is a record of one number, `k .0`.
+use Rattle.format.specs.Questions.{Question, moduleName, functionName, typeName, tagName, localName, fieldName, keptContents}
+-- The words of the promises: the demands below say what they come to.
+use Rattle.format.specs.Metadata.{anyItem, hintItem, judgeMetadata, askMetadata, askHint}
+use Rattle.format.specs.Names.{knownKind, judgeNames}
+use Rattle.format.specs.Questions.{asPlace, ask}
+use Rattle.format.specs.Reading.{Judged, mapJudged, verdict}
+use Rattle.wakemiono.specs.Boundary.{wmPlace, wmJudged, wmHint}
+-- What the proofs rest on.
+use Rattle.format.specs.Demands.{ItemQuestion, document-names-answered, any-metadata-answered}
+use Rattle.format.specs.Canonical.{bare, bareItems}
+use Rattle.format.specs.Holding.{HasWithin, Holds}
+use Rattle.format.specs.Questions.{idOf, queryOf}
+use Rattle.format.specs.Tables.{mapTable}
+use Rattle.grammar.specs.Grammar.{Accepts, names-exact, metadata-exact, hints-exact}
+use Rattle.grammar.specs.Laws.Metadata.{any-exact, metadata-complete}
+use Rattle.grammar.specs.Laws.Names.{names-complete}
+use Rattle.promises.specs.Laws.Judging.{found-grammar, refused-grammar}
+use Rattle.promises.specs.Laws.Lookups.{tells-as, asked-tells, asked-refused, likely-held, unlikely-held, no-hint-held, hint-refused, name-held, contents-held, entry-held, inner-held, within-held}
+use Rattle.promises.specs.Laws.Saying.{Verdict, judged-said}
+
+-- THE CALLS AND THEIR PROMISES
+
+abbrev pub wm-names-judge : List ℕ → WmAnswer → Type 0
+wm-names-judge payload a = a ≡ wmJudged (length payload) (verdict (judgeNames knownKind 0 payload))
+
+-- wm_module_name, wm_function_name, wm_type_name, wm_tag_name, wm_local_name, wm_field_name and wm_kept, each with its question
+abbrev pub wm-name : Question → List ℕ → WmAnswer → Type 0
+wm-name q payload a = a ≡ wmPlace (asPlace (ask q payload))
+
+abbrev pub wm-metadata-judge : List ℕ → WmAnswer → Type 0
+wm-metadata-judge payload a = a ≡ wmJudged (length payload) (verdict (judgeMetadata anyItem 0 payload))
+
+abbrev pub wm-metadata : (function offset : ℕ) → List ℕ → WmAnswer → Type 0
+wm-metadata function offset payload a = a ≡ wmPlace (asPlace (askMetadata anyItem (record { 0 = function }) (record { 0 = offset }) 0 payload))
+
+abbrev pub wm-hints-judge : List ℕ → WmAnswer → Type 0
+wm-hints-judge payload a = a ≡ wmJudged (length payload) (verdict (judgeMetadata hintItem 0 payload))
+
+abbrev pub wm-hint : (function offset : ℕ) → List ℕ → WmAnswer → Type 0
+wm-hint function offset payload a = a ≡ wmHint (askHint (record { 0 = function }) (record { 0 = offset }) 0 payload)
+
+-- DEMAND 2. "Exactly what the rules accept is accepted. A lookup gives the mapped name as the very bytes of the section, or none exactly when the index has no name. Walk, hints and kept parts are what the rules make them. Names written from lists read back as those lists."
+
+-- Found: a place inside what was lent, and the bytes that lie there are x
+abbrev pub FoundIn : List ℕ → WmAnswer → List ℕ → Type 0
+FoundIn lent a x = (a .kind ≡ 1) × (a .offset + a .length ≤ length lent) × (take (a .length) (drop (a .offset) lent) ≡ x)
+
+-- Exactly what is held is found, and none is answered exactly where nothing is
+abbrev pub Tells : List ℕ → (List ℕ → Type 0) → WmAnswer → Type 0
+Tells lent Held a = ((x : List ℕ) → FoundIn lent a x ↔ Held x) × ((a .kind ≡ 0) ↔ ((x : List ℕ) → Held x → ⊥))
+
+-- What a name payload of a meaning holds for a question: the name in subsection 0; the name with an index in the maps 1, 4 and 11; the name with an index within another in the maps 2 and 10; the contents of a subsection that is kept
+abbrev pub HoldsName : Question → Table (Content (List ℕ)) → List ℕ → Type 0
+HoldsName moduleName m x = Has 0 (single x) m
+HoldsName (functionName k) m x = (t : Table (List ℕ)) × Has 1 (names t) m × Has (k .0) x t
+HoldsName (localName k j) m x = (g : Table (Table (List ℕ))) × Has 2 (namesBy g) m × ((t : Table (List ℕ)) × Has (k .0) t g × Has (j .0) x t)
+HoldsName (typeName k) m x = (t : Table (List ℕ)) × Has 4 (names t) m × Has (k .0) x t
+HoldsName (fieldName k j) m x = (g : Table (Table (List ℕ))) × Has 10 (namesBy g) m × ((t : Table (List ℕ)) × Has (k .0) t g × Has (j .0) x t)
+HoldsName (tagName k) m x = (t : Table (List ℕ)) × Has 11 (names t) m × Has (k .0) x t
+HoldsName (keptContents id) m x = Has id (whole x) m
+
+-- What metadata of a meaning holds for a function and an offset
+abbrev pub HoldsData : (function offset : ℕ) → Table (Table (List ℕ)) → List ℕ → Type 0
+HoldsData function offset m x = (t : Table (List ℕ)) × Has function t m × Has offset x t
+
+module _ {A : Type 0} (judging : List ℕ → WmAnswer → Type 0) (grammar : Grammar A) where
+  pub record JudgesExactly : Type 0 where
+    -- found is answered exactly for bytes that have a meaning
+    pub found-exactly : (p : List ℕ) (a : WmAnswer) → Bytes p → judging p a → (a .kind ≡ 1) ↔ ((m : A) × grammar p m)
+    -- and a refusal exactly for bytes that have none
+    pub refused-exactly : (p : List ℕ) (a : WmAnswer) → Bytes p → judging p a → (a .kind ≡ 2) ↔ ((m : A) → grammar p m → ⊥)
+    -- no bytes have two meanings
+    pub one-meaning : (p : List ℕ) (m n : A) → grammar p m → grammar p n → m ≡ n
+
+-- A refusal of a question is the judging call's own, with its number and offset, whatever was asked
+abbrev pub RefusesAs : (judging asking : List ℕ → WmAnswer → Type 0) → Type 0
+RefusesAs judging asking = (p : List ℕ) (a j : WmAnswer) → asking p a → judging p j → (n at : ℕ) → (a ≡ wmRefused n at) ↔ (j ≡ wmRefused n at)
+
+pub record AnswersNames : Type 0 where
+  -- of a payload with a meaning, exactly what the meaning holds is found
+  pub tells : (q : Question) (p : List ℕ) (m : Table (Content (List ℕ))) (a : WmAnswer) → NamePayload p m → wm-name q p a → Tells p (λ x. HoldsName q m x) a
+  pub refuses : (q : Question) → RefusesAs wm-names-judge (wm-name q)
+
+pub record AnswersMetadata : Type 0 where
+  pub tells : (function offset : ℕ) (p : List ℕ) (m : Table (Table (List ℕ))) (a : WmAnswer) → CodeMetadata Unknown p m → wm-metadata function offset p a → Tells p (λ x. HoldsData function offset m x) a
+  pub refuses : (function offset : ℕ) → RefusesAs wm-metadata-judge (wm-metadata function offset)
+
+-- For hints kind 4 is likely, which is the data 1, and kind 3 unlikely, the data 0
+pub record AnswersHints : Type 0 where
+  pub likely : (function offset : ℕ) (p : List ℕ) (m : Table (Table (List ℕ))) (a : WmAnswer) → CodeMetadata BranchHint p m → wm-hint function offset p a → (a .kind ≡ 4) ↔ HoldsData function offset m (1 ∷ [])
+  pub unlikely : (function offset : ℕ) (p : List ℕ) (m : Table (Table (List ℕ))) (a : WmAnswer) → CodeMetadata BranchHint p m → wm-hint function offset p a → (a .kind ≡ 3) ↔ HoldsData function offset m (0 ∷ [])
+  pub none : (function offset : ℕ) (p : List ℕ) (m : Table (Table (List ℕ))) (a : WmAnswer) → CodeMetadata BranchHint p m → wm-hint function offset p a → (a .kind ≡ 0) ↔ ((x : List ℕ) → HoldsData function offset m x → ⊥)
+  pub refuses : (function offset : ℕ) → RefusesAs wm-hints-judge (wm-hint function offset)
+
+-- THE PROOFS
+
+judges : {A B : Type 0} (judgement : List ℕ → Judged A) (plain : A → B) (judging : List ℕ → WmAnswer → Type 0) {grammar : Grammar B} → Accepts (λ p. mapJudged plain (judgement p)) grammar → ((p : List ℕ) (a : WmAnswer) → judging p a → Verdict a (judgement p)) → JudgesExactly judging grammar
+judges judgement plain judging exact says = record {
+  found-exactly = λ p a b e. found-grammar judgement plain exact b (says p a e);
+  refused-exactly = λ p a b e. refused-grammar judgement plain exact b (says p a e);
+  one-meaning = exact .one-meaning;
+}
+
+pub names-judged : JudgesExactly wm-names-judge NamePayload
+names-judged = judges (judgeNames knownKind 0) (mapTable bare) wm-names-judge (names-exact 0) (λ p a e. judged-said (length p) (judgeNames knownKind 0 p) e)
+
+pub metadata-judged : JudgesExactly wm-metadata-judge (CodeMetadata Unknown)
+metadata-judged = judges (judgeMetadata anyItem 0) (λ t. bareItems t) wm-metadata-judge (metadata-exact 0) (λ p a e. judged-said (length p) (judgeMetadata anyItem 0 p) e)
+
+pub hints-judged : JudgesExactly wm-hints-judge (CodeMetadata BranchHint)
+hints-judged = judges (judgeMetadata hintItem 0) (λ t. bareItems t) wm-hints-judge (hints-exact 0) (λ p a e. judged-said (length p) (judgeMetadata hintItem 0 p) e)
+
+held : (q : Question) (m : Table (Content (List ℕ))) (x : List ℕ) → Holds (idOf q) (queryOf q) m x ↔ HoldsName q m x
+unfolding idOf queryOf
+held moduleName m x = name-held 0
+held (functionName k) m x = entry-held 1 (k .0)
+held (localName k j) m x = inner-held 2 (k .0) (j .0)
+held (typeName k) m x = entry-held 4 (k .0)
+held (fieldName k j) m x = inner-held 10 (k .0) (j .0)
+held (tagName k) m x = entry-held 11 (k .0)
+held (keptContents id) m x = contents-held id
+
+pub names-answered : AnswersNames
+names-answered = record {
+  tells = λ q p m a g e. tells-as p a (λ x. Holds (idOf q) (queryOf q) m x) (λ x. HoldsName q m x) (held q m) (asked-tells (λ m q x. Holds (idOf q) (queryOf q) m x) document-names-answered q p a e m (names-complete 0 p m g));
+  refuses = λ q p a j e says. asked-refused (λ m q x. Holds (idOf q) (queryOf q) m x) document-names-answered q p a e (judged-said (length p) (judgeNames knownKind 0 p) says);
+}
+
+pub metadata-answered : AnswersMetadata
+metadata-answered = record {
+  tells = λ f o p m a g e. tells-as p a (λ x. HasWithin f o x m) (λ x. HoldsData f o m x) (λ x. within-held) (asked-tells {Q = ItemQuestion} (λ m q x. HasWithin (q .0 .0) (q .1 .0) x m) any-metadata-answered (record { 0 = f }, record { 0 = o }) p a e m (metadata-complete any-exact 0 p m g));
+  refuses = λ f o p a j e says. asked-refused {Q = ItemQuestion} (λ m q x. HasWithin (q .0 .0) (q .1 .0) x m) any-metadata-answered (record { 0 = f }, record { 0 = o }) p a e (judged-said (length p) (judgeMetadata anyItem 0 p) says);
+}
+
+pub hints-answered : AnswersHints
+hints-answered = record {
+  likely = λ f o p m a g e. Iff·trans (likely-held (record { 0 = f }) (record { 0 = o }) p a e m g) within-held;
+  unlikely = λ f o p m a g e. Iff·trans (unlikely-held (record { 0 = f }) (record { 0 = o }) p a e m g) within-held;
+  none = λ f o p m a g e. no-hint-held (record { 0 = f }) (record { 0 = o }) p a e m g;
+  refuses = λ f o p a j e says. hint-refused (record { 0 = f }) (record { 0 = o }) p a e (judged-said (length p) (judgeMetadata hintItem 0 p) says);
+}

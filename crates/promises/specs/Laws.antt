@@ -1,0 +1,4 @@
+-- What the demands in `Demands.antt` rest on.
+pub mod Saying
+pub mod Judging
+pub mod Lookups
