@@ -1,8 +1,8 @@
 -- THE FRONT DOOR. What users of the library demand, as types about its C calls, each under the sentence that it comes from; at the end stands the proof of each, by its name. A call is known by its promise alone, which is word for word the `ensures` on it in crates/wakemiono/src/lib.rt. What is said here is said of every answer that meets the promise; that the call's own answer meets it is proved of its code.
-use Prim.Native.Nat.{ℕ, _+_, _≤_}
+use Prim.Native.Nat.{ℕ, _+_, _≤_, _<_}
 use mathlib.Core.List.{List, [], _∷_}
 use mathlib.Core.Logic.{_↔_, Iff·trans}
-use mathlib.Core.Path.{_≡_}
+use mathlib.Core.Path.{_≡_, refl}
 -- the length of a list, its first n elements, and the list without them
 use lib.ListN.{length, take, drop}
 -- WHAT IS LENT. Bytes are a list of numbers, and `Bytes p` says that each is below 256.
@@ -18,16 +18,19 @@ use Rattle.grammar.specs.Metadata.{CodeMetadata, Unknown, BranchHint}
 use Rattle.format.specs.Tables.{Table}
 use Rattle.format.specs.Names.{Content, single, names, namesBy, whole}
 use Rattle.format.specs.Holding.{Has}
--- WHAT CAN BE ASKED of a name payload: one question for each call. An index is a record of one number, `k .0`.
-use Rattle.format.specs.Questions.{Question, moduleName, functionName, typeName, tagName, localName, fieldName, keptContents}
+-- WHAT CAN BE ASKED of a name payload: one question for each call. An index is a record of one number, `k .0`. `InRange q`: each index in q is below 4,294,967,296, and an id below 256.
+use Rattle.format.specs.Questions.{InRange, Question, moduleName, functionName, typeName, tagName, localName, fieldName, keptContents}
+-- Of metadata and hints: `ItemQuestion` is a function and an offset, each a record of one number; `ItemInRange q` says that both are below 4,294,967,296.
+use Rattle.format.specs.Demands.{ItemQuestion, ItemInRange}
 -- The words of the promises: the demands below say what they come to.
+use Rattle.format.specs.Canonical.{canonicalNames, canonicalMetadata, canonicalHints}
 use Rattle.format.specs.Metadata.{anyItem, hintItem, judgeMetadata, askMetadata, askHint}
 use Rattle.format.specs.Names.{knownKind, judgeNames}
 use Rattle.format.specs.Questions.{asPlace, ask}
-use Rattle.format.specs.Reading.{Judged, mapJudged, verdict}
-use Rattle.wakemiono.specs.Boundary.{wmPlace, wmJudged, wmHint}
+use Rattle.format.specs.Reading.{Judged, accepted, mapJudged, verdict, Accepted}
+use Rattle.wakemiono.specs.Boundary.{wmPlace, wmJudged, wmHint, WmWrites}
 -- What the proofs rest on.
-use Rattle.format.specs.Demands.{ItemQuestion, document-names-answered, any-metadata-answered}
+use Rattle.format.specs.Demands.{Rewrites as AnyRewrites, document-names-answered, any-metadata-answered, document-names-rewritten, any-metadata-rewritten, hints-rewritten}
 use Rattle.format.specs.Canonical.{bare, bareItems}
 use Rattle.format.specs.Holding.{HasWithin, Holds}
 use Rattle.format.specs.Questions.{idOf, queryOf}
@@ -37,6 +40,7 @@ use Rattle.grammar.specs.Laws.Metadata.{any-exact, metadata-complete}
 use Rattle.grammar.specs.Laws.Names.{names-complete}
 use Rattle.promises.specs.Laws.Judging.{found-grammar, refused-grammar}
 use Rattle.promises.specs.Laws.Lookups.{tells-as, asked-tells, asked-refused, likely-held, unlikely-held, no-hint-held, hint-refused, name-held, contents-held, entry-held, inner-held, within-held}
+use Rattle.promises.specs.Laws.Rewriting.{hints-same, names-first-judged, metadata-first-judged, hints-first-judged, names-compared, metadata-compared, rewritten-same, rewritten-accepted, rewritten-alike, rewritten-shorter, rewritten-rests, rewritten-fits}
 use Rattle.promises.specs.Laws.Saying.{Verdict, judged-said}
 
 -- THE CALLS AND THEIR PROMISES
@@ -59,6 +63,16 @@ wm-hints-judge payload a = a ≡ wmJudged (length payload) (verdict (judgeMetada
 
 abbrev pub wm-hint : (function offset : ℕ) → List ℕ → WmAnswer → Type 0
 wm-hint function offset payload a = a ≡ wmHint (askHint (record { 0 = function }) (record { 0 = offset }) 0 payload)
+
+-- The calls that write are promised of the output before and after, too: `old` and `new`
+abbrev pub wm-names-canonical : (payload old new : List ℕ) → WmAnswer → Type 0
+wm-names-canonical payload old new a = WmWrites (canonicalNames payload) old new a
+
+abbrev pub wm-metadata-canonical : (payload old new : List ℕ) → WmAnswer → Type 0
+wm-metadata-canonical payload old new a = WmWrites (canonicalMetadata payload) old new a
+
+abbrev pub wm-hints-canonical : (payload old new : List ℕ) → WmAnswer → Type 0
+wm-hints-canonical payload old new a = WmWrites (canonicalHints payload) old new a
 
 -- DEMAND 2. "Exactly what the rules accept is accepted. A lookup gives the mapped name as the very bytes of the section, or none exactly when the index has no name. Walk, hints and kept parts are what the rules make them. Names written from lists read back as those lists."
 
@@ -113,6 +127,35 @@ pub record AnswersHints : Type 0 where
   pub none : (function offset : ℕ) (p : List ℕ) (m : Table (Table (List ℕ))) (a : WmAnswer) → CodeMetadata BranchHint p m → wm-hint function offset p a → (a .kind ≡ 0) ↔ ((x : List ℕ) → HoldsData function offset m x → ⊥)
   pub refuses : (function offset : ℕ) → RefusesAs wm-hints-judge (wm-hint function offset)
 
+-- DEMAND 3. "Canonical rewritings of two accepted payloads are equal byte by byte exactly when every allowed question gets the same answer from both. A rewriting is accepted, answers as its original, is never longer, and rewriting it again changes nothing."
+
+-- Two answers, of the payloads x and y, are the same: of one kind, and with the same bytes
+abbrev pub SameAnswer : (x y : List ℕ) (a b : WmAnswer) → Type 0
+SameAnswer x y a b = (a .kind ≡ b .kind) × (take (a .length) (drop (a .offset) x) ≡ take (b .length) (drop (b .offset) y))
+
+-- A call that answered `found` wrote the first bytes of its output, as many as it says: `take (a .length) new`
+module _ {Q : Type 0} (judging : List ℕ → WmAnswer → Type 0) (asking : Q → List ℕ → WmAnswer → Type 0) (Allowed : Q → Type 0) (Same : (x y : List ℕ) (a b : WmAnswer) → Type 0) (rewriting : (payload old new : List ℕ) → WmAnswer → Type 0) where
+  pub record Rewrites : Type 0 where
+    -- "equal byte by byte exactly when every allowed question gets the same answer from both"
+    pub same-exactly : (x y old new old′ new′ : List ℕ) (a b : WmAnswer) → Bytes x → Bytes y → rewriting x old new a → rewriting y old′ new′ b → a .kind ≡ 1 → b .kind ≡ 1 → (take (a .length) new ≡ take (b .length) new′) ↔ ((q : Q) → Allowed q → (c d : WmAnswer) → asking q x c → asking q y d → Same x y c d)
+    -- "is accepted"
+    pub is-accepted : (p old new : List ℕ) (a : WmAnswer) → rewriting p old new a → a .kind ≡ 1 → (j : WmAnswer) → judging (take (a .length) new) j → j .kind ≡ 1
+    -- "answers as its original"
+    pub answers-alike : (p old new : List ℕ) (a : WmAnswer) → rewriting p old new a → a .kind ≡ 1 → (q : Q) (c d : WmAnswer) → asking q p c → asking q (take (a .length) new) d → Same p (take (a .length) new) c d
+    -- "is never longer"
+    pub never-longer : (p old new : List ℕ) (a : WmAnswer) → rewriting p old new a → a .kind ≡ 1 → a .length ≤ length p
+    -- "rewriting it again changes nothing"
+    pub comes-to-rest : (p old new : List ℕ) (a : WmAnswer) → rewriting p old new a → a .kind ≡ 1 → (old′ new′ : List ℕ) (b : WmAnswer) → a .length ≤ length old′ → rewriting (take (a .length) new) old′ new′ b → (b ≡ a) × (take (b .length) new′ ≡ take (a .length) new)
+    -- every accepted payload has one: an output as long as the payload is enough
+    pub room-enough : (p old new : List ℕ) (a j : WmAnswer) → judging p j → j .kind ≡ 1 → length p ≤ length old → rewriting p old new a → a .kind ≡ 1
+
+-- Allowed is every question that its C call can be given
+pub record Demand3 : Type 0 where
+  pub names : Rewrites wm-names-judge wm-name InRange SameAnswer wm-names-canonical
+  pub metadata : Rewrites wm-metadata-judge (λ q. wm-metadata (q .0 .0) (q .1 .0)) ItemInRange SameAnswer wm-metadata-canonical
+  -- hints are the same where the whole answers are, none, likely or unlikely
+  pub hints : Rewrites wm-hints-judge (λ q. wm-hint (q .0 .0) (q .1 .0)) ItemInRange (λ _ _ a b. a ≡ b) wm-hints-canonical
+
 -- THE PROOFS
 
 judges : {A B : Type 0} (judgement : List ℕ → Judged A) (plain : A → B) (judging : List ℕ → WmAnswer → Type 0) {grammar : Grammar B} → Accepts (λ p. mapJudged plain (judgement p)) grammar → ((p : List ℕ) (a : WmAnswer) → judging p a → Verdict a (judgement p)) → JudgesExactly judging grammar
@@ -159,4 +202,27 @@ hints-answered = record {
   unlikely = λ f o p m a g e. Iff·trans (unlikely-held (record { 0 = f }) (record { 0 = o }) p a e m g) within-held;
   none = λ f o p m a g e. no-hint-held (record { 0 = f }) (record { 0 = o }) p a e m g;
   refuses = λ f o p a j e says. hint-refused (record { 0 = f }) (record { 0 = o }) p a e (judged-said (length p) (judgeMetadata hintItem 0 p) says);
+}
+
+-- Demand 3
+module _ {A Q R : Type 0} {judgement : List ℕ → Judged A} {rewriting : List ℕ → Judged (List ℕ)} {answer : Q → List ℕ → R} {Allowed : Q → Type 0} (rewrites : AnyRewrites judgement rewriting answer Allowed)
+    (first-judged : (p bytes : List ℕ) → rewriting p ≡ accepted bytes → Accepted judgement p)
+    (asking : Q → List ℕ → WmAnswer → Type 0) (met : (q : Q) (x : List ℕ) → (a : WmAnswer) × asking q x a)
+    (Same : (x y : List ℕ) (a b : WmAnswer) → Type 0)
+    (compared : (q : Q) (x y : List ℕ) (a b : WmAnswer) → Accepted judgement x → Accepted judgement y → asking q x a → asking q y b → Same x y a b ↔ (answer q x ≡ answer q y)) where
+  rewritten : Rewrites (λ p j. j ≡ wmJudged (length p) (verdict (judgement p))) asking Allowed Same (λ p old new a. WmWrites (rewriting p) old new a)
+  rewritten = record {
+    same-exactly = rewritten-same rewrites first-judged asking met Same compared;
+    is-accepted = λ p old new a w k j e. rewritten-accepted rewrites first-judged asking met Same compared p old new a w k j (judged-said _ (judgement (take (a .length) new)) e);
+    answers-alike = rewritten-alike rewrites first-judged asking met Same compared;
+    never-longer = rewritten-shorter rewrites first-judged asking met Same compared;
+    comes-to-rest = rewritten-rests rewrites first-judged asking met Same compared;
+    room-enough = λ p old new a j e. rewritten-fits rewrites first-judged asking met Same compared p old new a j (judged-said (length p) (judgement p) e);
+  }
+
+pub demand-3 : Demand3
+demand-3 = record {
+  names = rewritten document-names-rewritten names-first-judged wm-name (λ q x. (_, refl)) SameAnswer names-compared;
+  metadata = rewritten any-metadata-rewritten metadata-first-judged (λ q. wm-metadata (q .0 .0) (q .1 .0)) (λ q x. (_, refl)) SameAnswer metadata-compared;
+  hints = rewritten hints-rewritten hints-first-judged (λ q. wm-hint (q .0 .0) (q .1 .0)) (λ q x. (_, refl)) (λ _ _ a b. a ≡ b) (λ q x y a b _ _. hints-same (askHint (q .0) (q .1) 0 x) (askHint (q .0) (q .1) 0 y));
 }

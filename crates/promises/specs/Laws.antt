@@ -2,3 +2,5 @@
 pub mod Saying
 pub mod Judging
 pub mod Lookups
+pub mod Outputs
+pub mod Rewriting

@@ -1,0 +1,61 @@
+-- What a C call that writes has left in its output: the bytes wanted and then the old ones after a write, the old ones alone after a refusal.
+use Prim.Native.Nat.{ℕ, _≤_}
+use mathlib.Core.Bool.{Bool, true, false}
+use mathlib.Core.List.{List, _++_}
+use mathlib.Core.Path.{_≡_, refl, sym, ap, _∙_}
+use native.Mathlib.Omega.{arith}
+use borrow.Author.Tests.{leb-true, le-leb}
+use lib.Dec.{leb}
+use lib.ListN.{length, take, drop, length-append, length-drop}
+use lib.Seq.{take-at, drop-at}
+use Rattle.format.specs.Laws.Outcomes.{byTest}
+use Rattle.format.specs.Outputs.{fitting, writeAnswer, outputAfter}
+use Rattle.format.specs.Reading.{Judged, accepted, refused}
+use Rattle.wakemiono.specs.Boundary.{wmFound, wmRefused, WmWrites}
+use Rattle.wakemiono.specs.declared.WmAnswer.{WmAnswer}
+
+pub record Wrote (wanted : Judged (List ℕ)) (old new : List ℕ) (a : WmAnswer) : Type 0 where
+  pub bytes : List ℕ
+  pub wants : wanted ≡ accepted bytes
+  pub is : a ≡ wmFound 0 0 (length bytes)
+  pub room : length bytes ≤ length old
+  pub leaves : new ≡ bytes ++ drop (length bytes) old
+
+kindOf : {a b : WmAnswer} → a ≡ b → a .kind ≡ b .kind
+kindOf e = ap (λ (a : WmAnswer). a .kind) e
+
+module _ {old new : List ℕ} {a : WmAnswer} where
+  pub wrote : (wanted : Judged (List ℕ)) → WmWrites wanted old new a → a .kind ≡ 1 → Wrote wanted old new a
+  unfolding fitting writeAnswer outputAfter
+  wrote (accepted bytes) w k =
+      byTest (leb (length bytes) (length old))
+      (λ t. record { bytes = bytes; wants = refl; is = w .says ∙ rw t; room = leb-true (length bytes) (length old) t; leaves = w .leaves ∙ rw t })
+      (λ t. let is : a ≡ wmRefused 13 (length bytes) = w .says ∙ rw t in absurd (omega (arith, k, kindOf is)))
+  wrote (refused n at) w k = absurd (omega (arith, k, kindOf (w .says)))
+
+  pub wrote-nothing : (wanted : Judged (List ℕ)) → WmWrites wanted old new a → a .kind ≡ 2 → new ≡ old
+  unfolding fitting writeAnswer outputAfter
+  wrote-nothing (accepted bytes) w k =
+      byTest (leb (length bytes) (length old))
+      (λ t. let is : a ≡ wmFound 0 0 (length bytes) = w .says ∙ rw t in absurd (omega (arith, k, kindOf is)))
+      (λ t. w .leaves ∙ rw t)
+  wrote-nothing (refused n at) w k = w .leaves
+
+  pub wrote-there : (bytes : List ℕ) → length bytes ≤ length old → WmWrites (accepted bytes) old new a → Wrote (accepted bytes) old new a
+  unfolding fitting writeAnswer outputAfter
+  wrote-there bytes room w = let t = le-leb (length bytes) (length old) room in record { bytes = bytes; wants = refl; is = w .says ∙ rw t; room = room; leaves = w .leaves ∙ rw t }
+
+  module _ {wanted : Judged (List ℕ)} (w : Wrote wanted old new a) where
+    pub wrote-long : a .length ≡ length (w .bytes)
+    wrote-long = ap (λ (a : WmAnswer). a .length) (w .is)
+
+    -- what was written stands first
+    pub wrote-first : take (a .length) new ≡ w .bytes
+    wrote-first = rw (w .leaves) (take-at (w .bytes) (drop (length (w .bytes)) old) (a .length) (sym wrote-long))
+
+    -- and the other bytes are as they were
+    pub wrote-others : drop (a .length) new ≡ drop (a .length) old
+    wrote-others = rw (w .leaves) (drop-at (w .bytes) (drop (length (w .bytes)) old) (a .length) (sym wrote-long) ∙ rw wrote-long)
+
+    pub wrote-inside : length new ≡ length old
+    wrote-inside = rw (w .leaves) (omega (arith, length-append (w .bytes) (drop (length (w .bytes)) old), length-drop (length (w .bytes)) old, w .room))

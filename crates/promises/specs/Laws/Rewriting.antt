@@ -1,0 +1,133 @@
+-- Rewritings, by what their C calls leave and what the C questions answer.
+use Prim.Native.Nat.{ℕ, _≤_}
+use mathlib.Core.List.{List}
+use mathlib.Core.Logic.{_↔_, Iff·trans}
+use mathlib.Core.Option.{Option, none, some}
+use mathlib.Core.Path.{_≡_, refl, sym, ap, _∙_}
+use native.Mathlib.Omega.{arith}
+use lib.ListN.{length, take, drop}
+use Rattle.format.specs.Bytes.{Bytes}
+use Rattle.format.specs.Canonical.{rewriteNames, canonical, canonicalNames, rewriteMetadata, canonicalOf, canonicalMetadata, canonicalHints}
+use Rattle.format.specs.Demands.{VeryBytes, Rewrites, ItemQuestion, itemTold, document-names-answered, any-metadata-answered}
+use Rattle.format.specs.Laws.Options.{not-some, some-is}
+use Rattle.format.specs.Laws.Outcomes.{accepted-is, mapped, refused-exactly}
+use Rattle.format.specs.Metadata.{anyItem, hintItem, judgeMetadata, itemAt, askMetadata}
+use Rattle.format.specs.Names.{knownKind, judgeNames}
+use Rattle.format.specs.Parts.{Part}
+use Rattle.format.specs.Questions.{Question, idOf, queryOf, answer, asked, askAt, ask, asPlace, asTold}
+use Rattle.format.specs.Reading.{Reader, Judged, accepted, refused, mapJudged, Accepted}
+use Rattle.format.specs.declared.Hint.{Hint}
+use Rattle.wakemiono.specs.Boundary.{wmFound, wmRefused, wmPlace, wmHint, WmWrites}
+use Rattle.wakemiono.specs.declared.WmAnswer.{WmAnswer}
+use Rattle.promises.specs.Answers.{saysHint, hint-said}
+use Rattle.promises.specs.Laws.Outputs.{Wrote, wrote, wrote-there, wrote-long, wrote-first}
+use Rattle.promises.specs.Laws.Saying.{Verdict}
+
+-- Two answers are the same: of one kind, and with the same bytes of what was lent
+abbrev SameAnswer : (x y : List ℕ) (a b : WmAnswer) → Type 0
+SameAnswer x y a b = (a .kind ≡ b .kind) × (take (a .length) (drop (a .offset) x) ≡ take (b .length) (drop (b .offset) y))
+
+parts-same : (x y : List ℕ) (u w : Option Part) → ((p : Part) → u ≡ some p → VeryBytes x p) → ((p : Part) → w ≡ some p → VeryBytes y p) → SameAnswer x y (wmPlace (asPlace (accepted u))) (wmPlace (asPlace (accepted w))) ↔ (asTold (accepted u) ≡ asTold (accepted w))
+unfolding asPlace asTold
+parts-same x y none none v v′ = (λ _. refl, λ _. (refl, refl))
+parts-same x y none (some p) v v′ = (λ s. absurd (omega (arith, s .0)), λ e. absurd (not-some (accepted-is e)))
+parts-same x y (some p) none v v′ = (λ s. absurd (omega (arith, s .0)), λ e. absurd (not-some (sym (accepted-is e))))
+parts-same x y (some p) (some q) v v′ = (
+  λ s. ap (λ bs. accepted (some bs)) (sym (v p refl .bytes) ∙ s .1 ∙ v′ q refl .bytes),
+  λ e. (refl, v p refl .bytes ∙ some-is (accepted-is e) ∙ sym (v′ q refl .bytes)),
+)
+
+-- of two judgements that accept, the answers at the boundary are the same exactly where what is told is
+pub places-same : {A : Type 0} {x y : List ℕ} {a b : WmAnswer} (f : A → Option Part) (j k : Judged A) {v w : A} → j ≡ accepted v → k ≡ accepted w → ((p : Part) → mapJudged f j ≡ accepted (some p) → VeryBytes x p) → ((p : Part) → mapJudged f k ≡ accepted (some p) → VeryBytes y p)
+    → a ≡ wmPlace (asPlace (mapJudged f j)) → b ≡ wmPlace (asPlace (mapJudged f k)) → SameAnswer x y a b ↔ (asTold (mapJudged f j) ≡ asTold (mapJudged f k))
+places-same {x = x} {y = y} f j k {v} {w} is is′ very very′ e e′ =
+    rw (e, e′, is, is′) (parts-same x y (f v) (f w) (λ p h. very p (ap (mapJudged f) is ∙ ap accepted h)) (λ p h. very′ p (ap (mapJudged f) is′ ∙ ap accepted h)))
+
+pub hints-same : {a b : WmAnswer} (j k : Judged (Option Hint)) → a ≡ wmHint j → b ≡ wmHint k → (a ≡ b) ↔ (j ≡ k)
+hints-same j k e e′ = (λ same. sym (hint-said j) ∙ ap saysHint (sym e ∙ same ∙ e′) ∙ hint-said k, λ same. e ∙ ap (λ j. wmHint j) same ∙ sym e′)
+
+module _ {A Q R : Type 0} {judgement : List ℕ → Judged A} {rewriting : List ℕ → Judged (List ℕ)} {told : Q → List ℕ → R} {Allows : Q → Type 0} (rewrites : Rewrites judgement rewriting told Allows)
+    (first-judged : (p bytes : List ℕ) → rewriting p ≡ accepted bytes → Accepted judgement p)
+    (asking : Q → List ℕ → WmAnswer → Type 0) (met : (q : Q) (x : List ℕ) → (a : WmAnswer) × asking q x a)
+    (Same : (x y : List ℕ) (a b : WmAnswer) → Type 0)
+    (compared : (q : Q) (x y : List ℕ) (a b : WmAnswer) → Accepted judgement x → Accepted judgement y → asking q x a → asking q y b → Same x y a b ↔ (told q x ≡ told q y)) where
+  was-accepted : (p : List ℕ) {old new : List ℕ} {a : WmAnswer} → Wrote (rewriting p) old new a → Accepted judgement p
+  was-accepted p w = first-judged p (w .bytes) (w .wants)
+
+  equally-written : {x y old new old′ new′ : List ℕ} {a b : WmAnswer} → Wrote (rewriting x) old new a → Wrote (rewriting y) old′ new′ b → (take (a .length) new ≡ take (b .length) new′) ↔ (rewriting x ≡ rewriting y)
+  equally-written v w = (
+    λ e. v .wants ∙ ap accepted (sym (wrote-first v) ∙ e ∙ wrote-first w) ∙ sym (w .wants),
+    λ e. wrote-first v ∙ accepted-is (sym (v .wants) ∙ e ∙ w .wants) ∙ sym (wrote-first w),
+  )
+
+  pub rewritten-same : (x y old new old′ new′ : List ℕ) (a b : WmAnswer) → Bytes x → Bytes y → WmWrites (rewriting x) old new a → WmWrites (rewriting y) old′ new′ b → a .kind ≡ 1 → b .kind ≡ 1
+      → (take (a .length) new ≡ take (b .length) new′) ↔ ((q : Q) → Allows q → (c d : WmAnswer) → asking q x c → asking q y d → Same x y c d)
+  rewritten-same x y old new old′ new′ a b bx by v w k l =
+      let v = wrote (rewriting x) v k in
+      let w = wrote (rewriting y) w l in
+      let ax = was-accepted x v in
+      let ay = was-accepted y w in
+      Iff·trans (equally-written v w) (Iff·trans (rewrites .same-exactly bx by ax ay) (
+        λ same q allowed c d e e′. compared q x y c d ax ay e e′ .1 (same q allowed),
+        λ same q allowed. let (c, e) = met q x in let (d, e′) = met q y in compared q x y c d ax ay e e′ .0 (same q allowed c d e e′),
+      ))
+
+  module _ (p old new : List ℕ) (a : WmAnswer) (writes : WmWrites (rewriting p) old new a) (k : a .kind ≡ 1) where
+    rewriting-wrote : Wrote (rewriting p) old new a
+    rewriting-wrote = wrote (rewriting p) writes k
+
+    again-accepted : Accepted judgement (take (a .length) new)
+    again-accepted = rw (wrote-first rewriting-wrote) (rewrites .rewritten (was-accepted p rewriting-wrote) (rewriting-wrote .bytes) (rewriting-wrote .wants) .is-accepted)
+
+    pub rewritten-accepted : (j : WmAnswer) → Verdict j (judgement (take (a .length) new)) → j .kind ≡ 1
+    rewritten-accepted j says = says .found .1 (again-accepted .value, again-accepted .judged)
+
+    pub rewritten-alike : (q : Q) (c d : WmAnswer) → asking q p c → asking q (take (a .length) new) d → Same p (take (a .length) new) c d
+    rewritten-alike q c d e e′ =
+        let w = rewriting-wrote in
+        let alike : told q (take (a .length) new) ≡ told q p = rw (wrote-first w) (rewrites .rewritten (was-accepted p w) (w .bytes) (w .wants) .answers-alike q) in
+        compared q p (take (a .length) new) c d (was-accepted p w) again-accepted e e′ .1 (sym alike)
+
+    pub rewritten-shorter : a .length ≤ length p
+    rewritten-shorter = let w = rewriting-wrote in rw (wrote-long w) (rewrites .rewritten (was-accepted p w) (w .bytes) (w .wants) .never-longer)
+
+    pub rewritten-rests : (old′ new′ : List ℕ) (b : WmAnswer) → a .length ≤ length old′ → WmWrites (rewriting (take (a .length) new)) old′ new′ b → (b ≡ a) × (take (b .length) new′ ≡ take (a .length) new)
+    rewritten-rests old′ new′ b room again =
+        let w = rewriting-wrote in
+        let rests = rewrites .rewritten (was-accepted p w) (w .bytes) (w .wants) .comes-to-rest in
+        let same : rewriting (take (a .length) new) ≡ accepted (w .bytes) = rw (wrote-first w) rests in
+        let v = wrote-there (w .bytes) (rw (← wrote-long w) room) (rw same at again) in
+        let one = sym (accepted-is (v .wants)) in
+        (v .is ∙ ap (λ bs. wmFound 0 0 (length bs)) one ∙ sym (w .is), wrote-first v ∙ one ∙ sym (wrote-first w))
+
+  pub rewritten-fits : (p old new : List ℕ) (a j : WmAnswer) → Verdict j (judgement p) → j .kind ≡ 1 → length p ≤ length old → WmWrites (rewriting p) old new a → a .kind ≡ 1
+  rewritten-fits p old new a j says k room writes =
+      let (v, e) = says .found .0 k in
+      let (bytes, wants) = rewrites .accepts (record { value = v; judged = e }) in
+      let short = rewrites .rewritten (record { value = v; judged = e }) bytes wants .never-longer in
+      ap (λ (a : WmAnswer). a .kind) (wrote-there bytes (omega (arith, short, room)) (rw wants at writes) .is)
+
+-- What was rewritten was accepted, and the answers of two accepted payloads are compared: names, metadata and hints
+pub names-first-judged : (p bytes : List ℕ) → canonicalNames p ≡ accepted bytes → Accepted (judgeNames knownKind 0) p
+unfolding canonicalNames canonical
+names-first-judged p bytes e = mapped rewriteNames (judgeNames knownKind 0 p) e λ v is _. record { value = v; judged = is }
+
+items-first-judged : (item : Reader Part) (p bytes : List ℕ) → canonicalOf item p ≡ accepted bytes → Accepted (judgeMetadata item 0) p
+unfolding canonicalOf
+items-first-judged item p bytes e = mapped rewriteMetadata (judgeMetadata item 0 p) e λ v is _. record { value = v; judged = is }
+
+pub metadata-first-judged : (p bytes : List ℕ) → canonicalMetadata p ≡ accepted bytes → Accepted (judgeMetadata anyItem 0) p
+unfolding canonicalMetadata
+metadata-first-judged = items-first-judged anyItem
+
+pub hints-first-judged : (p bytes : List ℕ) → canonicalHints p ≡ accepted bytes → Accepted (judgeMetadata hintItem 0) p
+unfolding canonicalHints
+hints-first-judged = items-first-judged hintItem
+
+pub names-compared : (q : Question) (x y : List ℕ) (a b : WmAnswer) → Accepted (judgeNames knownKind 0) x → Accepted (judgeNames knownKind 0) y → a ≡ wmPlace (asPlace (ask q x)) → b ≡ wmPlace (asPlace (ask q y)) → SameAnswer x y a b ↔ (asTold (ask q x) ≡ asTold (ask q y))
+unfolding ask askAt asked
+names-compared q x y a b ax ay e e′ = places-same (answer (idOf q) (queryOf q)) (judgeNames knownKind 0 x) (judgeNames knownKind 0 y) (ax .judged) (ay .judged) (λ p h. document-names-answered .very-bytes q x h) (λ p h. document-names-answered .very-bytes q y h) e e′
+
+pub metadata-compared : (q : ItemQuestion) (x y : List ℕ) (a b : WmAnswer) → Accepted (judgeMetadata anyItem 0) x → Accepted (judgeMetadata anyItem 0) y → a ≡ wmPlace (asPlace (askMetadata anyItem (q .0) (q .1) 0 x)) → b ≡ wmPlace (asPlace (askMetadata anyItem (q .0) (q .1) 0 y)) → SameAnswer x y a b ↔ (itemTold anyItem q x ≡ itemTold anyItem q y)
+unfolding askMetadata
+metadata-compared q x y a b ax ay e e′ = places-same (itemAt (q .0) (q .1)) (judgeMetadata anyItem 0 x) (judgeMetadata anyItem 0 y) (ax .judged) (ay .judged) (λ p h. any-metadata-answered .very-bytes q x h) (λ p h. any-metadata-answered .very-bytes q y h) e e′
