@@ -2,14 +2,15 @@
 use Prim.Native.Nat.{ℕ, _+_, _≤_, _<_}
 use mathlib.Core.List.{List, [], _∷_}
 use mathlib.Core.Logic.{_↔_, Iff·trans}
+use mathlib.Core.Option.{Option, none, some}
 use mathlib.Core.Path.{_≡_, refl}
 -- the length of a list, its first n elements, and the list without them
 use lib.ListN.{length, take, drop}
 -- WHAT IS LENT. Bytes are a list of numbers, and `Bytes p` says that each is below 256.
 use Rattle.format.specs.Bytes.{Bytes}
--- WHAT COMES BACK. Each call answers with a record of four numbers: `kind` (0 none, 1 found, 2 refused, 3 unlikely, 4 likely), `code`, `offset` and `length`. `wmRefused n at` is the answer of kind 2 with the number n as its code, the offset `at` and the length 0.
+-- WHAT COMES BACK. Each call answers with a record of four numbers: `kind` (0 none, 1 found, 2 refused, 3 unlikely, 4 likely), `code`, `offset` and `length`. `wmNone` is four times 0; `wmFound code offset length` is the answer of kind 1 with these; `wmRefused n at` is the answer of kind 2 with the refusal's number n as its code, its offset `at` and the length 0.
 use Rattle.wakemiono.specs.declared.WmAnswer.{WmAnswer}
-use Rattle.wakemiono.specs.Boundary.{wmRefused}
+use Rattle.wakemiono.specs.Boundary.{wmNone, wmFound, wmRefused}
 -- WHAT THE RULES ACCEPT. The sources' grammar, written down in the crate `grammar` line by line, apart from the library's readers: `NamePayload p m`, `CodeMetadata Unknown p m`, `CodeMetadata BranchHint p m` and `Module p m` say that the bytes p are a name payload, code metadata, branch hints or a module, and mean m. `Grammar A` are the grammars with meanings in A.
 use Rattle.grammar.specs.Numbers.{Grammar}
 use Rattle.grammar.specs.Names.{NamePayload}
@@ -27,12 +28,23 @@ use Rattle.format.specs.Canonical.{canonicalNames, canonicalMetadata, canonical
 use Rattle.format.specs.Metadata.{anyItem, hintItem, judgeMetadata, askMetadata, askHint}
 use Rattle.format.specs.Names.{knownKind, judgeNames}
 use Rattle.format.specs.Questions.{asPlace, ask}
-use Rattle.format.specs.Reading.{Judged, accepted, mapJudged, verdict, Accepted}
-use Rattle.wakemiono.specs.Boundary.{wmPlace, wmJudged, wmHint, WmWrites}
+use Rattle.format.specs.Lists.{functionNames}
+use Rattle.format.specs.Options.{mapSome}
+use Rattle.format.specs.Reading.{mapJudged, verdict}
+use Rattle.format.specs.Through.{askThrough, askMetadataThrough, askHintThrough}
+use Rattle.format.specs.Walk.{sectionCount, sectionAt, customPayload}
+use Rattle.wakemiono.specs.Boundary.{wmCount, wmSection, wmPlace, wmJudged, wmHint, WmWrites}
+use Rattle.walk.specs.Surveys.{sectionPlace}
 -- What the proofs rest on.
 use Rattle.format.specs.Demands.{Rewrites as AnyRewrites, document-names-answered, any-metadata-answered, document-names-rewritten, any-metadata-rewritten, hints-rewritten}
 use Rattle.format.specs.Canonical.{bare, bareItems}
 use Rattle.format.specs.Holding.{HasWithin, Holds}
+use Rattle.format.specs.Outputs.{writeAnswer}
+use Rattle.format.specs.Parts.{Part}
+use Rattle.format.specs.Reading.{Judged, accepted, refused, Accepted}
+use Rattle.format.specs.Walk.{Section}
+use Rattle.format.specs.declared.Hint.{Hint}
+use Rattle.format.specs.declared.Hint.the-variants.{Unlikely, Likely}
 use Rattle.format.specs.Questions.{idOf, queryOf}
 use Rattle.format.specs.Tables.{mapTable}
 use Rattle.grammar.specs.Grammar.{Accepts, names-exact, metadata-exact, hints-exact}
@@ -40,10 +52,21 @@ use Rattle.grammar.specs.Laws.Metadata.{any-exact, metadata-complete}
 use Rattle.grammar.specs.Laws.Names.{names-complete}
 use Rattle.promises.specs.Laws.Judging.{found-grammar, refused-grammar}
 use Rattle.promises.specs.Laws.Lookups.{tells-as, asked-tells, asked-refused, likely-held, unlikely-held, no-hint-held, hint-refused, name-held, contents-held, entry-held, inner-held, within-held}
+use Rattle.promises.specs.Laws.Outputs.{wrote, wrote-nothing, wrote-others, wrote-room, wrote-as-long}
+use Rattle.promises.specs.Laws.Refusing.{Numbered, FairlyJudged, names-verdict-fair, name-asked-fair, metadata-verdict-fair, metadata-asked-fair, hints-verdict-fair, hint-asked-fair, count-fair, section-at-fair, custom-payload-fair, name-through-fair, metadata-through-fair, hint-through-fair, written-fair, canonical-names-fair, canonical-metadata-fair, canonical-hints-fair, lists-fair}
 use Rattle.promises.specs.Laws.Rewriting.{hints-same, names-first-judged, metadata-first-judged, hints-first-judged, names-compared, metadata-compared, rewritten-same, rewritten-accepted, rewritten-alike, rewritten-shorter, rewritten-rests, rewritten-fits}
-use Rattle.promises.specs.Laws.Saying.{Verdict, judged-said}
+use Rattle.promises.specs.Laws.Saying.{Verdict as Says, judged-said}
 
 -- THE CALLS AND THEIR PROMISES
+
+abbrev pub wm-walk : List ℕ → WmAnswer → Type 0
+wm-walk bytes a = a ≡ wmCount (sectionCount bytes)
+
+abbrev pub wm-section : (position : ℕ) → List ℕ → WmAnswer → Type 0
+wm-section position bytes a = a ≡ wmSection (mapJudged (mapSome sectionPlace) (sectionAt position bytes))
+
+abbrev pub wm-custom : (name : List ℕ) → List ℕ → WmAnswer → Type 0
+wm-custom name bytes a = a ≡ wmPlace (asPlace (customPayload name bytes))
 
 abbrev pub wm-names-judge : List ℕ → WmAnswer → Type 0
 wm-names-judge payload a = a ≡ wmJudged (length payload) (verdict (judgeNames knownKind 0 payload))
@@ -64,6 +87,16 @@ wm-hints-judge payload a = a ≡ wmJudged (length payload) (verdict (judgeMetada
 abbrev pub wm-hint : (function offset : ℕ) → List ℕ → WmAnswer → Type 0
 wm-hint function offset payload a = a ≡ wmHint (askHint (record { 0 = function }) (record { 0 = offset }) 0 payload)
 
+-- The same questions through a module: wm_module_name_in and the others with `_in`
+abbrev pub wm-name-in : Question → List ℕ → WmAnswer → Type 0
+wm-name-in q bytes a = a ≡ wmPlace (asPlace (askThrough q bytes))
+
+abbrev pub wm-metadata-in : (format : List ℕ) (function offset : ℕ) → List ℕ → WmAnswer → Type 0
+wm-metadata-in format function offset bytes a = a ≡ wmPlace (asPlace (askMetadataThrough format (record { 0 = function }) (record { 0 = offset }) bytes))
+
+abbrev pub wm-hint-in : (function offset : ℕ) → List ℕ → WmAnswer → Type 0
+wm-hint-in function offset bytes a = a ≡ wmHint (askHintThrough (record { 0 = function }) (record { 0 = offset }) bytes)
+
 -- The calls that write are promised of the output before and after, too: `old` and `new`
 abbrev pub wm-names-canonical : (payload old new : List ℕ) → WmAnswer → Type 0
 wm-names-canonical payload old new a = WmWrites (canonicalNames payload) old new a
@@ -73,6 +106,64 @@ wm-metadata-canonical payload old new a = WmWrites (canonicalMetadata payload) o
 
 abbrev pub wm-hints-canonical : (payload old new : List ℕ) → WmAnswer → Type 0
 wm-hints-canonical payload old new a = WmWrites (canonicalHints payload) old new a
+
+abbrev pub wm-function-names-write : (indices lengths text old new : List ℕ) → WmAnswer → Type 0
+wm-function-names-write indices lengths text old new a = WmWrites (functionNames indices lengths text) old new a
+
+-- DEMAND 1. "Any bytes may be lent as a module, a payload or lists. Each public call ends, does nothing undefined and asks no prior check. Bad input gets a refusal number and its offset, and every lent buffer is unchanged."
+
+-- That a call ends and does nothing undefined is what the checker proves of its code before it says `proved`, and a call without a `requires` asks nothing: none of the C calls has one. What is lent to be read is lent as `&[u8]` or `&[u32]`, which cannot be written to. What is left to say is what the answers are, and what an output holds after the call.
+
+-- A refusal: its number, which is one of the fifteen of the header, and its offset
+pub data Refusal : WmAnswer → Type 0 where
+  refusal : (number offset : ℕ) → 1 ≤ number → number ≤ 15 → Refusal (wmRefused number offset)
+
+-- What a judging call, the walk or a call that writes answers: a length or a count, or a refusal
+pub data Verdict : WmAnswer → Type 0 where
+  yes : (length : ℕ) → Verdict (wmFound 0 0 length)
+  no : {a : WmAnswer} → Refusal a → Verdict a
+
+-- What a question is answered: none, a place (with the id of a section), or a refusal
+pub data Reply : WmAnswer → Type 0 where
+  replyNone : Reply wmNone
+  replyFound : (id offset length : ℕ) → Reply (wmFound id offset length)
+  replyRefused : {a : WmAnswer} → Refusal a → Reply a
+
+-- What a question for a hint is answered: none, unlikely, likely, or a refusal
+pub data HintReply : WmAnswer → Type 0 where
+  hintNone : HintReply wmNone
+  hintUnlikely : HintReply (record { kind = 3; code = 0; offset = 0; length = 0 })
+  hintLikely : HintReply (record { kind = 4; code = 0; offset = 0; length = 0 })
+  hintRefused : {a : WmAnswer} → Refusal a → HintReply a
+
+-- What an output holds after a call that writes
+pub record Leaves (old new : List ℕ) (a : WmAnswer) : Type 0 where
+  pub answers : Verdict a
+  -- after a refusal it is unchanged as a whole
+  pub refused-unchanged : a .kind ≡ 2 → new ≡ old
+  -- after a write every byte behind what was written is
+  pub others-unchanged : a .kind ≡ 1 → drop (a .length) new ≡ drop (a .length) old
+  -- what was written lies inside, and the output is as long as before
+  pub inside : a .length ≤ length old
+  pub as-long : length new ≡ length old
+
+pub record Demand1 : Type 0 where
+  pub walk : (bytes : List ℕ) (a : WmAnswer) → wm-walk bytes a → Verdict a
+  pub section : (position : ℕ) (bytes : List ℕ) (a : WmAnswer) → wm-section position bytes a → Reply a
+  pub custom : (name bytes : List ℕ) (a : WmAnswer) → wm-custom name bytes a → Reply a
+  pub names-judge : (payload : List ℕ) (a : WmAnswer) → wm-names-judge payload a → Verdict a
+  pub name : (q : Question) (payload : List ℕ) (a : WmAnswer) → wm-name q payload a → Reply a
+  pub metadata-judge : (payload : List ℕ) (a : WmAnswer) → wm-metadata-judge payload a → Verdict a
+  pub metadata : (function offset : ℕ) (payload : List ℕ) (a : WmAnswer) → wm-metadata function offset payload a → Reply a
+  pub hints-judge : (payload : List ℕ) (a : WmAnswer) → wm-hints-judge payload a → Verdict a
+  pub hint : (function offset : ℕ) (payload : List ℕ) (a : WmAnswer) → wm-hint function offset payload a → HintReply a
+  pub name-in : (q : Question) (bytes : List ℕ) (a : WmAnswer) → wm-name-in q bytes a → Reply a
+  pub metadata-in : (format : List ℕ) (function offset : ℕ) (bytes : List ℕ) (a : WmAnswer) → wm-metadata-in format function offset bytes a → Reply a
+  pub hint-in : (function offset : ℕ) (bytes : List ℕ) (a : WmAnswer) → wm-hint-in function offset bytes a → HintReply a
+  pub names-canonical : (payload old new : List ℕ) (a : WmAnswer) → wm-names-canonical payload old new a → Leaves old new a
+  pub metadata-canonical : (payload old new : List ℕ) (a : WmAnswer) → wm-metadata-canonical payload old new a → Leaves old new a
+  pub hints-canonical : (payload old new : List ℕ) (a : WmAnswer) → wm-hints-canonical payload old new a → Leaves old new a
+  pub function-names-write : (indices lengths text old new : List ℕ) (a : WmAnswer) → wm-function-names-write indices lengths text old new a → Leaves old new a
 
 -- DEMAND 2. "Exactly what the rules accept is accepted. A lookup gives the mapped name as the very bytes of the section, or none exactly when the index has no name. Walk, hints and kept parts are what the rules make them. Names written from lists read back as those lists."
 
@@ -158,7 +249,66 @@ pub record Demand3 : Type 0 where
 
 -- THE PROOFS
 
-judges : {A B : Type 0} (judgement : List ℕ → Judged A) (plain : A → B) (judging : List ℕ → WmAnswer → Type 0) {grammar : Grammar B} → Accepts (λ p. mapJudged plain (judgement p)) grammar → ((p : List ℕ) (a : WmAnswer) → judging p a → Verdict a (judgement p)) → JudgesExactly judging grammar
+-- Demand 1
+refuses : (n at : ℕ) → Numbered n → Refusal (wmRefused n at)
+refuses n at l = refusal n at (l .0) (l .1)
+
+judged-verdict : (n : ℕ) (j : Judged (Unit {0})) → FairlyJudged j → Verdict (wmJudged n j)
+judged-verdict n (accepted v) fair = yes n
+judged-verdict n (refused m at) fair = no (refuses m at (fair .numbered m at refl))
+
+count-verdict : (j : Judged ℕ) → FairlyJudged j → Verdict (wmCount j)
+count-verdict (accepted n) fair = yes n
+count-verdict (refused m at) fair = no (refuses m at (fair .numbered m at refl))
+
+place-reply : (j : Judged (Option Part)) → FairlyJudged j → Reply (wmPlace (asPlace j))
+unfolding asPlace
+place-reply (accepted none) fair = replyNone
+place-reply (accepted (some p)) fair = replyFound 0 (p .at) (length (p .bytes))
+place-reply (refused m at) fair = replyRefused (refuses m at (fair .numbered m at refl))
+
+section-reply : (j : Judged (Option Section)) → FairlyJudged j → Reply (wmSection (mapJudged (mapSome sectionPlace) j))
+section-reply (accepted none) fair = replyNone
+section-reply (accepted (some s)) fair = replyFound (s .id) (s .at) (length (s .contents .bytes))
+section-reply (refused m at) fair = replyRefused (refuses m at (fair .numbered m at refl))
+
+hint-reply : (j : Judged (Option Hint)) → FairlyJudged j → HintReply (wmHint j)
+hint-reply (accepted none) fair = hintNone
+hint-reply (accepted (some Unlikely)) fair = hintUnlikely
+hint-reply (accepted (some Likely)) fair = hintLikely
+hint-reply (refused m at) fair = hintRefused (refuses m at (fair .numbered m at refl))
+
+leaves : (wanted : Judged (List ℕ)) (old new : List ℕ) (a : WmAnswer) → FairlyJudged wanted → WmWrites wanted old new a → Leaves old new a
+leaves wanted old new a fair w = record {
+  answers = rw (w .says) (count-verdict (writeAnswer (length old) wanted) (written-fair (length old) wanted fair));
+  refused-unchanged = wrote-nothing wanted w;
+  others-unchanged = λ k. wrote-others (wrote wanted w k);
+  inside = wrote-room wanted w;
+  as-long = wrote-as-long wanted w;
+}
+
+pub demand-1 : Demand1
+demand-1 = record {
+  walk = λ m a e. rw e (count-verdict (sectionCount m) (count-fair m));
+  section = λ i m a e. rw e (section-reply (sectionAt i m) (section-at-fair i m));
+  custom = λ x m a e. rw e (place-reply (customPayload x m) (custom-payload-fair x m));
+  names-judge = λ p a e. rw e (judged-verdict (length p) _ (names-verdict-fair p));
+  name = λ q p a e. rw e (place-reply (ask q p) (name-asked-fair q p));
+  metadata-judge = λ p a e. rw e (judged-verdict (length p) _ (metadata-verdict-fair p));
+  metadata = λ f o p a e. rw e (place-reply (askMetadata anyItem (record { 0 = f }) (record { 0 = o }) 0 p) (metadata-asked-fair (record { 0 = f }) (record { 0 = o }) p));
+  hints-judge = λ p a e. rw e (judged-verdict (length p) _ (hints-verdict-fair p));
+  hint = λ f o p a e. rw e (hint-reply (askHint (record { 0 = f }) (record { 0 = o }) 0 p) (hint-asked-fair (record { 0 = f }) (record { 0 = o }) p));
+  name-in = λ q m a e. rw e (place-reply (askThrough q m) (name-through-fair q m));
+  metadata-in = λ x f o m a e. rw e (place-reply (askMetadataThrough x (record { 0 = f }) (record { 0 = o }) m) (metadata-through-fair x (record { 0 = f }) (record { 0 = o }) m));
+  hint-in = λ f o m a e. rw e (hint-reply (askHintThrough (record { 0 = f }) (record { 0 = o }) m) (hint-through-fair (record { 0 = f }) (record { 0 = o }) m));
+  names-canonical = λ p old new a w. leaves (canonicalNames p) old new a (canonical-names-fair p) w;
+  metadata-canonical = λ p old new a w. leaves (canonicalMetadata p) old new a (canonical-metadata-fair p) w;
+  hints-canonical = λ p old new a w. leaves (canonicalHints p) old new a (canonical-hints-fair p) w;
+  function-names-write = λ is ns text old new a w. leaves (functionNames is ns text) old new a (lists-fair is ns text) w;
+}
+
+-- Demand 2
+judges : {A B : Type 0} (judgement : List ℕ → Judged A) (plain : A → B) (judging : List ℕ → WmAnswer → Type 0) {grammar : Grammar B} → Accepts (λ p. mapJudged plain (judgement p)) grammar → ((p : List ℕ) (a : WmAnswer) → judging p a → Says a (judgement p)) → JudgesExactly judging grammar
 judges judgement plain judging exact says = record {
   found-exactly = λ p a b e. found-grammar judgement plain exact b (says p a e);
   refused-exactly = λ p a b e. refused-grammar judgement plain exact b (says p a e);

@@ -4,3 +4,4 @@ pub mod Judging
 pub mod Lookups
 pub mod Outputs
 pub mod Rewriting
+pub mod Refusing

@@ -57,5 +57,22 @@ module _ {old new : List ℕ} {a : WmAnswer} where
     pub wrote-others : drop (a .length) new ≡ drop (a .length) old
     wrote-others = rw (w .leaves) (drop-at (w .bytes) (drop (length (w .bytes)) old) (a .length) (sym wrote-long) ∙ rw wrote-long)
 
-    pub wrote-inside : length new ≡ length old
-    wrote-inside = rw (w .leaves) (omega (arith, length-append (w .bytes) (drop (length (w .bytes)) old), length-drop (length (w .bytes)) old, w .room))
+-- whatever was answered, what was written lies inside, and the output is as long as before
+module _ {old new : List ℕ} {a : WmAnswer} where
+  pub wrote-room : (wanted : Judged (List ℕ)) → WmWrites wanted old new a → a .length ≤ length old
+  unfolding fitting writeAnswer outputAfter
+  wrote-room (accepted bytes) w =
+      byTest (leb (length bytes) (length old))
+      (λ t. let is : a ≡ wmFound 0 0 (length bytes) = w .says ∙ rw t in rw is (leb-true (length bytes) (length old) t))
+      (λ t. let is : a ≡ wmRefused 13 (length bytes) = w .says ∙ rw t in rw is (omega arith))
+  wrote-room (refused n at) w = rw (w .says) (omega arith)
+
+  pub wrote-as-long : (wanted : Judged (List ℕ)) → WmWrites wanted old new a → length new ≡ length old
+  unfolding fitting writeAnswer outputAfter
+  wrote-as-long (accepted bytes) w =
+      byTest (leb (length bytes) (length old))
+      (λ t.
+      let is : new ≡ bytes ++ drop (length bytes) old = w .leaves ∙ rw t in
+      rw is (omega (arith, length-append bytes (drop (length bytes) old), length-drop (length bytes) old, leb-true (length bytes) (length old) t)))
+      (λ t. let is : new ≡ old = w .leaves ∙ rw t in ap length is)
+  wrote-as-long (refused n at) w = ap length (w .leaves)
