@@ -1,24 +1,30 @@
 -- THE FRONT DOOR. What users of the library demand, as types about its C calls, each under the sentence that it comes from; at the end stands the proof of each, by its name. A call is known by its promise alone, which is word for word the `ensures` on it in crates/wakemiono/src/lib.rt. What is said here is said of every answer that meets the promise; that the call's own answer meets it is proved of its code.
 use Prim.Native.Nat.{ℕ, _+_, _≤_, _<_}
-use mathlib.Core.List.{List, [], _∷_}
+use mathlib.Core.List.{List, [], _∷_, _++_}
 use mathlib.Core.Logic.{_↔_, Iff·trans}
 use mathlib.Core.Option.{Option, none, some}
 use mathlib.Core.Path.{_≡_, refl}
--- the length of a list, its first n elements, and the list without them
-use lib.ListN.{length, take, drop}
+-- the length of a list, its first n elements, the list without them, and the element at a position, counted from 0 (`some`, or `none` past the last)
+use lib.ListN.{length, take, drop, getElem?}
 -- WHAT IS LENT. Bytes are a list of numbers, and `Bytes p` says that each is below 256.
 use Rattle.format.specs.Bytes.{Bytes}
 -- WHAT COMES BACK. Each call answers with a record of four numbers: `kind` (0 none, 1 found, 2 refused, 3 unlikely, 4 likely), `code`, `offset` and `length`. `wmNone` is four times 0; `wmFound code offset length` is the answer of kind 1 with these; `wmRefused n at` is the answer of kind 2 with the refusal's number n as its code, its offset `at` and the length 0.
 use Rattle.wakemiono.specs.declared.WmAnswer.{WmAnswer}
 use Rattle.wakemiono.specs.Boundary.{wmNone, wmFound, wmRefused}
--- WHAT THE RULES ACCEPT. The sources' grammar, written down in the crate `grammar` line by line, apart from the library's readers: `NamePayload p m`, `CodeMetadata Unknown p m`, `CodeMetadata BranchHint p m` and `Module p m` say that the bytes p are a name payload, code metadata, branch hints or a module, and mean m. `Grammar A` are the grammars with meanings in A.
-use Rattle.grammar.specs.Numbers.{Grammar}
+-- WHAT THE RULES ACCEPT. The sources' grammar, written down in the crate `grammar` line by line, apart from the library's readers: `NamePayload p m`, `CodeMetadata Unknown p m`, `CodeMetadata BranchHint p m` and `Module p m` say that the bytes p are a name payload, code metadata, branch hints or a module, and mean m. `U32 bs n`: the bytes bs are the number n in LEB128. `Grammar A` are the grammars with meanings in A.
+use Rattle.grammar.specs.Numbers.{Grammar, U32}
 use Rattle.grammar.specs.Names.{NamePayload}
 use Rattle.grammar.specs.Metadata.{CodeMetadata, Unknown, BranchHint}
+use Rattle.grammar.specs.Modules.{Module}
 -- WHAT IT MEANS. Metadata means a table of functions, each with a table of data by offset. A name payload means a table of subsections by id, each with what it holds: `single x` one name, `names t` a table of names by index, `namesBy t` a table of tables, `whole x` contents that are kept. `Has k v t`: the table t has a row with the number k and the value v.
 use Rattle.format.specs.Tables.{Table}
 use Rattle.format.specs.Names.{Content, single, names, namesBy, whole}
 use Rattle.format.specs.Holding.{Has}
+-- A module means a list of records: `id`, `contents`, and `custom`, which is `some` of a record of `name` and `payload` or `none`. `Among t ss`: t is one of ss. `Called x s`: s is custom and its name is x.
+use Rattle.grammar.specs.Modules.{Section, Among, Called}
+-- LISTS. `Indices is`: each number in the list is below 4,294,967,296. `Lists k x indices lengths text`: at some position the indices have k, and x is the stretch of the text that belongs to it: as long as the lengths say there, after the stretches before it.
+use Rattle.format.specs.Lists.{Indices}
+use Rattle.format.specs.Holding.{Lists}
 -- WHAT CAN BE ASKED of a name payload: one question for each call. An index is a record of one number, `k .0`. `InRange q`: each index in q is below 4,294,967,296, and an id below 256.
 use Rattle.format.specs.Questions.{InRange, Question, moduleName, functionName, typeName, tagName, localName, fieldName, keptContents}
 -- Of metadata and hints: `ItemQuestion` is a function and an offset, each a record of one number; `ItemInRange q` says that both are below 4,294,967,296.
@@ -42,20 +48,23 @@ use Rattle.format.specs.Holding.{HasWithin, Holds}
 use Rattle.format.specs.Outputs.{writeAnswer}
 use Rattle.format.specs.Parts.{Part}
 use Rattle.format.specs.Reading.{Judged, accepted, refused, Accepted}
-use Rattle.format.specs.Walk.{Section}
+use Rattle.format.specs.Walk.{Section as AnySection, walk}
 use Rattle.format.specs.declared.Hint.{Hint}
 use Rattle.format.specs.declared.Hint.the-variants.{Unlikely, Likely}
 use Rattle.format.specs.Questions.{idOf, queryOf}
 use Rattle.format.specs.Tables.{mapTable}
-use Rattle.grammar.specs.Grammar.{Accepts, names-exact, metadata-exact, hints-exact}
+use Rattle.grammar.specs.Forgetting.{bareSections}
+use Rattle.grammar.specs.Grammar.{Accepts, names-exact, metadata-exact, hints-exact, modules-exact}
 use Rattle.grammar.specs.Laws.Metadata.{any-exact, metadata-complete}
 use Rattle.grammar.specs.Laws.Names.{names-complete}
 use Rattle.promises.specs.Laws.Judging.{found-grammar, refused-grammar}
+use Rattle.promises.specs.Laws.Listing.{lists-accepted, lists-read-back, lists-rest}
 use Rattle.promises.specs.Laws.Lookups.{tells-as, asked-tells, asked-refused, likely-held, unlikely-held, no-hint-held, hint-refused, name-held, contents-held, entry-held, inner-held, within-held}
 use Rattle.promises.specs.Laws.Outputs.{wrote, wrote-nothing, wrote-others, wrote-room, wrote-as-long}
 use Rattle.promises.specs.Laws.Refusing.{Numbered, FairlyJudged, names-verdict-fair, name-asked-fair, metadata-verdict-fair, metadata-asked-fair, hints-verdict-fair, hint-asked-fair, count-fair, section-at-fair, custom-payload-fair, name-through-fair, metadata-through-fair, hint-through-fair, written-fair, canonical-names-fair, canonical-metadata-fair, canonical-hints-fair, lists-fair}
 use Rattle.promises.specs.Laws.Rewriting.{hints-same, names-first-judged, metadata-first-judged, hints-first-judged, names-compared, metadata-compared, rewritten-same, rewritten-accepted, rewritten-alike, rewritten-shorter, rewritten-rests, rewritten-fits}
 use Rattle.promises.specs.Laws.Saying.{Verdict as Says, judged-said}
+use Rattle.promises.specs.Laws.Walking.{walked, walk-counts, section-found, section-none, section-refused, custom-tells, custom-refused}
 
 -- THE CALLS AND THEIR PROMISES
 
@@ -218,6 +227,55 @@ pub record AnswersHints : Type 0 where
   pub none : (function offset : ℕ) (p : List ℕ) (m : Table (Table (List ℕ))) (a : WmAnswer) → CodeMetadata BranchHint p m → wm-hint function offset p a → (a .kind ≡ 0) ↔ ((x : List ℕ) → HoldsData function offset m x → ⊥)
   pub refuses : (function offset : ℕ) → RefusesAs wm-hints-judge (wm-hint function offset)
 
+-- The walk. A module means its sections in file order, each with its id, its contents and, of a custom section, its name and payload. A section s stands in m at an offset: there is its id byte, then the size number, which is the length of the contents, then the contents
+abbrev pub Stands : List ℕ → ℕ → Section → Type 0
+Stands m at s = (front size rest : List ℕ) × (m ≡ front ++ (s .id ∷ (size ++ (s .contents ++ rest)))) × (length front ≡ at) × U32 size (length (s .contents))
+
+-- The first custom section of a name has the payload x: there is such a section, and none of those before it has the name
+abbrev pub FirstCalled : (name : List ℕ) → List Section → List ℕ → Type 0
+FirstCalled name ss x = (before : List Section) × (s : Section) × (after : List Section) × (ss ≡ before ++ (s ∷ after)) × (s .custom ≡ some (record { name = name; payload = x })) × ((t : Section) → Among t before → Called name t → ⊥)
+
+pub record Walks : Type 0 where
+  -- the count of sections
+  pub counts : (m : List ℕ) (ss : List Section) (a : WmAnswer) → Module m ss → wm-walk m a → a .length ≡ length ss
+  -- the section at a position, counted from 0: its id, the offset of its id byte and the length of its contents
+  pub section : (position : ℕ) (m : List ℕ) (ss : List Section) (a : WmAnswer) → Module m ss → wm-section position m a → Bytes m → (s : Section) → getElem? ss position ≡ some s → (a .kind ≡ 1) × (a .code ≡ s .id) × (a .length ≡ length (s .contents)) × Stands m (a .offset) s
+  -- none past the last
+  pub past-the-last : (position : ℕ) (m : List ℕ) (ss : List Section) (a : WmAnswer) → Module m ss → wm-section position m a → (a .kind ≡ 0) ↔ (length ss ≤ position)
+  -- the payload of the first custom section of a name, or none
+  pub custom : (name m : List ℕ) (ss : List Section) (a : WmAnswer) → Module m ss → wm-custom name m a → Tells m (λ x. FirstCalled name ss x) a
+  pub section-refuses : (position : ℕ) → RefusesAs wm-walk (wm-section position)
+  pub custom-refuses : (name : List ℕ) → RefusesAs wm-walk (wm-custom name)
+
+-- Names from lists. What the lists give for a question: for a function whose index is listed, its own stretch of the text; for any other question nothing
+abbrev pub Listed : (indices lengths text : List ℕ) → Question → List ℕ → Type 0
+Listed indices lengths text moduleName x = ⊥
+Listed indices lengths text (functionName k) x = Lists (k .0) x indices lengths text
+Listed indices lengths text (typeName k) x = ⊥
+Listed indices lengths text (tagName k) x = ⊥
+Listed indices lengths text (localName k j) x = ⊥
+Listed indices lengths text (fieldName k j) x = ⊥
+Listed indices lengths text (keptContents id) x = ⊥
+
+pub record WritesLists (indices lengths text written : List ℕ) (a : WmAnswer) : Type 0 where
+  -- what was written is accepted
+  pub is-accepted : (j : WmAnswer) → wm-names-judge written j → j .kind ≡ 1
+  -- every question finds in it exactly what the lists give
+  pub reads-back : (q : Question) (b : WmAnswer) → wm-name q written b → Tells written (λ x. Listed indices lengths text q x) b
+  -- and it is canonical: its rewriting is itself
+  pub is-canonical : (old new : List ℕ) (b : WmAnswer) → a .length ≤ length old → wm-names-canonical written old new b → (b ≡ a) × (take (b .length) new ≡ written)
+
+pub record Demand2 : Type 0 where
+  pub names-judged : JudgesExactly wm-names-judge NamePayload
+  pub metadata-judged : JudgesExactly wm-metadata-judge (CodeMetadata Unknown)
+  pub hints-judged : JudgesExactly wm-hints-judge (CodeMetadata BranchHint)
+  pub modules-judged : JudgesExactly wm-walk Module
+  pub names : AnswersNames
+  pub metadata : AnswersMetadata
+  pub hints : AnswersHints
+  pub walks : Walks
+  pub lists : (indices lengths text old new : List ℕ) (a : WmAnswer) → Indices indices → wm-function-names-write indices lengths text old new a → a .kind ≡ 1 → WritesLists indices lengths text (take (a .length) new) a
+
 -- DEMAND 3. "Canonical rewritings of two accepted payloads are equal byte by byte exactly when every allowed question gets the same answer from both. A rewriting is accepted, answers as its original, is never longer, and rewriting it again changes nothing."
 
 -- Two answers, of the payloads x and y, are the same: of one kind, and with the same bytes
@@ -267,7 +325,7 @@ place-reply (accepted none) fair = replyNone
 place-reply (accepted (some p)) fair = replyFound 0 (p .at) (length (p .bytes))
 place-reply (refused m at) fair = replyRefused (refuses m at (fair .numbered m at refl))
 
-section-reply : (j : Judged (Option Section)) → FairlyJudged j → Reply (wmSection (mapJudged (mapSome sectionPlace) j))
+section-reply : (j : Judged (Option AnySection)) → FairlyJudged j → Reply (wmSection (mapJudged (mapSome sectionPlace) j))
 section-reply (accepted none) fair = replyNone
 section-reply (accepted (some s)) fair = replyFound (s .id) (s .at) (length (s .contents .bytes))
 section-reply (refused m at) fair = replyRefused (refuses m at (fair .numbered m at refl))
@@ -315,13 +373,13 @@ judges judgement plain judging exact says = record {
   one-meaning = exact .one-meaning;
 }
 
-pub names-judged : JudgesExactly wm-names-judge NamePayload
+names-judged : JudgesExactly wm-names-judge NamePayload
 names-judged = judges (judgeNames knownKind 0) (mapTable bare) wm-names-judge (names-exact 0) (λ p a e. judged-said (length p) (judgeNames knownKind 0 p) e)
 
-pub metadata-judged : JudgesExactly wm-metadata-judge (CodeMetadata Unknown)
+metadata-judged : JudgesExactly wm-metadata-judge (CodeMetadata Unknown)
 metadata-judged = judges (judgeMetadata anyItem 0) (λ t. bareItems t) wm-metadata-judge (metadata-exact 0) (λ p a e. judged-said (length p) (judgeMetadata anyItem 0 p) e)
 
-pub hints-judged : JudgesExactly wm-hints-judge (CodeMetadata BranchHint)
+hints-judged : JudgesExactly wm-hints-judge (CodeMetadata BranchHint)
 hints-judged = judges (judgeMetadata hintItem 0) (λ t. bareItems t) wm-hints-judge (hints-exact 0) (λ p a e. judged-said (length p) (judgeMetadata hintItem 0 p) e)
 
 held : (q : Question) (m : Table (Content (List ℕ))) (x : List ℕ) → Holds (idOf q) (queryOf q) m x ↔ HoldsName q m x
@@ -334,24 +392,47 @@ held (fieldName k j) m x = inner-held 10 (k .0) (j .0)
 held (tagName k) m x = entry-held 11 (k .0)
 held (keptContents id) m x = contents-held id
 
-pub names-answered : AnswersNames
+names-answered : AnswersNames
 names-answered = record {
   tells = λ q p m a g e. tells-as p a (λ x. Holds (idOf q) (queryOf q) m x) (λ x. HoldsName q m x) (held q m) (asked-tells (λ m q x. Holds (idOf q) (queryOf q) m x) document-names-answered q p a e m (names-complete 0 p m g));
   refuses = λ q p a j e says. asked-refused (λ m q x. Holds (idOf q) (queryOf q) m x) document-names-answered q p a e (judged-said (length p) (judgeNames knownKind 0 p) says);
 }
 
-pub metadata-answered : AnswersMetadata
+metadata-answered : AnswersMetadata
 metadata-answered = record {
   tells = λ f o p m a g e. tells-as p a (λ x. HasWithin f o x m) (λ x. HoldsData f o m x) (λ x. within-held) (asked-tells {Q = ItemQuestion} (λ m q x. HasWithin (q .0 .0) (q .1 .0) x m) any-metadata-answered (record { 0 = f }, record { 0 = o }) p a e m (metadata-complete any-exact 0 p m g));
   refuses = λ f o p a j e says. asked-refused {Q = ItemQuestion} (λ m q x. HasWithin (q .0 .0) (q .1 .0) x m) any-metadata-answered (record { 0 = f }, record { 0 = o }) p a e (judged-said (length p) (judgeMetadata anyItem 0 p) says);
 }
 
-pub hints-answered : AnswersHints
+hints-answered : AnswersHints
 hints-answered = record {
   likely = λ f o p m a g e. Iff·trans (likely-held (record { 0 = f }) (record { 0 = o }) p a e m g) within-held;
   unlikely = λ f o p m a g e. Iff·trans (unlikely-held (record { 0 = f }) (record { 0 = o }) p a e m g) within-held;
   none = λ f o p m a g e. no-hint-held (record { 0 = f }) (record { 0 = o }) p a e m g;
   refuses = λ f o p a j e says. hint-refused (record { 0 = f }) (record { 0 = o }) p a e (judged-said (length p) (judgeMetadata hintItem 0 p) says);
+}
+
+walks : Walks
+walks = record {
+  counts = walk-counts;
+  section = section-found;
+  past-the-last = section-none;
+  custom = custom-tells;
+  section-refuses = section-refused;
+  custom-refuses = custom-refused;
+}
+
+pub demand-2 : Demand2
+demand-2 = record {
+  names-judged = names-judged;
+  metadata-judged = metadata-judged;
+  hints-judged = hints-judged;
+  modules-judged = judges walk (λ ss. bareSections ss) wm-walk modules-exact (λ p a e. walked p e);
+  names = names-answered;
+  metadata = metadata-answered;
+  hints = hints-answered;
+  walks = walks;
+  lists = λ is ns text old new a l w k. record { is-accepted = lists-accepted is ns text old new a l w k; reads-back = lists-read-back is ns text old new a l w k; is-canonical = lists-rest is ns text old new a l w k };
 }
 
 -- Demand 3

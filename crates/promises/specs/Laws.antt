@@ -5,3 +5,5 @@ pub mod Lookups
 pub mod Outputs
 pub mod Rewriting
 pub mod Refusing
+pub mod Listing
+pub mod Walking
