@@ -1,13 +1,13 @@
 -- THE FRONT DOOR. What users of the library demand, as types about its C calls, each under the sentence that it comes from; at the end stands the proof of each, by its name. A call is known by its promise alone, which is word for word the `ensures` on it in crates/wakemiono/src/lib.rt. What is said here is said of every answer that meets the promise; that the call's own answer meets it is proved of its code.
 use Prim.Native.Nat.{ℕ, _+_, _≤_, _<_}
 use mathlib.Core.List.{List, [], _∷_, _++_}
-use mathlib.Core.Logic.{_↔_, Iff·trans}
+use mathlib.Core.Logic.{_↔_, _≢_, Iff·trans}
 use mathlib.Core.Option.{Option, none, some}
 use mathlib.Core.Path.{_≡_, refl}
 -- the length of a list, its first n elements, the list without them, and the element at a position, counted from 0 (`some`, or `none` past the last)
 use lib.ListN.{length, take, drop, getElem?}
--- WHAT IS LENT. Bytes are a list of numbers, and `Bytes p` says that each is below 256.
-use Rattle.format.specs.Bytes.{Bytes}
+-- WHAT IS LENT. Bytes are a list of numbers, and `Bytes p` says that each is below 256. `ascii s` are the bytes of a text.
+use Rattle.format.specs.Bytes.{Bytes, ascii}
 -- WHAT COMES BACK. Each call answers with a record of four numbers: `kind` (0 none, 1 found, 2 refused, 3 unlikely, 4 likely), `code`, `offset` and `length`. `wmNone` is four times 0; `wmFound code offset length` is the answer of kind 1 with these; `wmRefused n at` is the answer of kind 2 with the refusal's number n as its code, its offset `at` and the length 0.
 use Rattle.wakemiono.specs.declared.WmAnswer.{WmAnswer}
 use Rattle.wakemiono.specs.Boundary.{wmNone, wmFound, wmRefused}
@@ -64,6 +64,7 @@ use Rattle.promises.specs.Laws.Outputs.{wrote, wrote-nothing, wrote-othe
 use Rattle.promises.specs.Laws.Refusing.{Numbered, FairlyJudged, names-verdict-fair, name-asked-fair, metadata-verdict-fair, metadata-asked-fair, hints-verdict-fair, hint-asked-fair, count-fair, section-at-fair, custom-payload-fair, name-through-fair, metadata-through-fair, hint-through-fair, written-fair, canonical-names-fair, canonical-metadata-fair, canonical-hints-fair, lists-fair}
 use Rattle.promises.specs.Laws.Rewriting.{hints-same, names-first-judged, metadata-first-judged, hints-first-judged, names-compared, metadata-compared, rewritten-same, rewritten-accepted, rewritten-alike, rewritten-shorter, rewritten-rests, rewritten-fits}
 use Rattle.promises.specs.Laws.Saying.{Verdict as Says, judged-said}
+use Rattle.promises.specs.Laws.Through.{name-through, hint-through, metadata-through, hint-data-through}
 use Rattle.promises.specs.Laws.Walking.{walked, walk-counts, section-found, section-none, section-refused, custom-tells, custom-refused}
 
 -- THE CALLS AND THEIR PROMISES
@@ -247,6 +248,26 @@ pub record Walks : Type 0 where
   pub section-refuses : (position : ℕ) → RefusesAs wm-walk (wm-section position)
   pub custom-refuses : (name : List ℕ) → RefusesAs wm-walk (wm-custom name)
 
+-- Through a module. "Asked through an accepted module without the section, each gets none." "A payload asked through its module is judged after the walk and counts from the module's start."
+
+-- The same answer, for a payload that begins k bytes into the module: what is found or refused lies k further on
+abbrev pub Moved : ℕ → WmAnswer → WmAnswer → Type 0
+Moved k b a = (a .kind ≡ b .kind) × (a .code ≡ b .code) × (a .length ≡ b .length) × (a .kind ≡ 1 → a .offset ≡ k + b .offset) × (a .kind ≡ 2 → a .offset ≡ k + b .offset)
+
+-- The question is put to the section that wm_custom finds: without one the answer is none, a refusal of the walk comes first, and else the answer is that of the payload's own call
+abbrev pub PutThrough : (section : List ℕ) (asking asking-in : List ℕ → WmAnswer → Type 0) → Type 0
+PutThrough section asking asking-in = (m : List ℕ) (a c : WmAnswer) → asking-in m a → wm-custom section m c
+    → (c .kind ≡ 0 → a ≡ wmNone)
+    × ((n at : ℕ) → c ≡ wmRefused n at → a ≡ wmRefused n at)
+    × ((b : WmAnswer) → c .kind ≡ 1 → asking (take (c .length) (drop (c .offset) m)) b → Moved (c .offset) b a)
+
+pub record AsksThrough : Type 0 where
+  pub names : (q : Question) → PutThrough (ascii "name") (wm-name q) (wm-name-in q)
+  pub hints : (function offset : ℕ) → PutThrough (ascii "metadata.code.branch_hint") (wm-hint function offset) (wm-hint-in function offset)
+  pub metadata : (format : List ℕ) → format ≢ ascii "branch_hint" → (function offset : ℕ) → PutThrough (ascii "metadata.code." ++ format) (wm-metadata function offset) (wm-metadata-in format function offset)
+  -- of hints, as metadata: the refusal of wm_hints_judge, and else the answer of wm_metadata
+  pub hint-data : (function offset : ℕ) → PutThrough (ascii "metadata.code.branch_hint") (λ p b. (j : WmAnswer) × wm-hints-judge p j × (j .kind ≡ 2 → b ≡ j) × (j .kind ≡ 1 → wm-metadata function offset p b)) (wm-metadata-in (ascii "branch_hint") function offset)
+
 -- Names from lists. What the lists give for a question: for a function whose index is listed, its own stretch of the text; for any other question nothing
 abbrev pub Listed : (indices lengths text : List ℕ) → Question → List ℕ → Type 0
 Listed indices lengths text moduleName x = ⊥
@@ -274,6 +295,7 @@ pub record Demand2 : Type 0 where
   pub metadata : AnswersMetadata
   pub hints : AnswersHints
   pub walks : Walks
+  pub through-modules : AsksThrough
   pub lists : (indices lengths text old new : List ℕ) (a : WmAnswer) → Indices indices → wm-function-names-write indices lengths text old new a → a .kind ≡ 1 → WritesLists indices lengths text (take (a .length) new) a
 
 -- DEMAND 3. "Canonical rewritings of two accepted payloads are equal byte by byte exactly when every allowed question gets the same answer from both. A rewriting is accepted, answers as its original, is never longer, and rewriting it again changes nothing."
@@ -432,6 +454,7 @@ demand-2 = record {
   metadata = metadata-answered;
   hints = hints-answered;
   walks = walks;
+  through-modules = record { names = name-through; hints = λ f o. hint-through (record { 0 = f }) (record { 0 = o }); metadata = λ x n f o. metadata-through x n (record { 0 = f }) (record { 0 = o }); hint-data = λ f o. hint-data-through (record { 0 = f }) (record { 0 = o }) };
   lists = λ is ns text old new a l w k. record { is-accepted = lists-accepted is ns text old new a l w k; reads-back = lists-read-back is ns text old new a l w k; is-canonical = lists-rest is ns text old new a l w k };
 }
 

@@ -7,3 +7,5 @@ pub mod Rewriting
 pub mod Refusing
 pub mod Listing
 pub mod Walking
+pub mod Moving
+pub mod Through

@@ -1,0 +1,156 @@
+-- Questions through a module, by what the walk's C call says of the section and what the payload's C call answers.
+use Prim.Native.Nat.{ℕ, _+_}
+use mathlib.Core.Bool.{true, false}
+use mathlib.Core.List.{List, _++_}
+use mathlib.Core.Logic.{_≢_}
+use mathlib.Core.Option.{Option, none, some}
+use mathlib.Core.Path.{_≡_, refl, sym, ap, _∙_}
+use native.Mathlib.Omega.{arith}
+use lib.ListN.{length, take, drop}
+use Rattle.format.specs.Bytes.{ascii, same}
+use Rattle.format.specs.Demands.{VeryBytes}
+use Rattle.format.specs.Laws.Found.{payload-lies}
+use Rattle.format.specs.Laws.Laxer.{hint-laxer, table-laxer, filled-laxer}
+use Rattle.format.specs.Laws.Options.{not-some, some-is}
+use Rattle.format.specs.Laws.Outcomes.{not-accepted, accepted-is, byTest, judged}
+use Rattle.format.specs.Laws.Places.{lies-there, lies-inside}
+use Rattle.format.specs.Metadata.{anyItem, hintItem, metadata, judgeMetadata, itemAt, askMetadata, askHint}
+use Rattle.format.specs.Options.{mapSome}
+use Rattle.format.specs.Parts.{Part}
+use Rattle.format.specs.Questions.{Question, askAt, ask, asPlace}
+use Rattle.format.specs.Reading.{Reader, Judged, accepted, refused, judgedThen, mapJudged, verdict}
+use Rattle.format.specs.Tables.{Table}
+use Rattle.format.specs.Through.{orNone, through, askThrough, metadataSection, itemOf, askMetadataThrough, askHintThrough}
+use Rattle.format.specs.Walk.{nameSection, hintSection, customPayload}
+use Rattle.format.specs.declared.CodeOffset.{CodeOffset}
+use Rattle.format.specs.declared.FunctionIndex.{FunctionIndex}
+use Rattle.format.specs.declared.Hint.{Hint}
+use Rattle.format.specs.declared.Hint.the-variants.{Unlikely, Likely}
+use Rattle.grammar.specs.Laws.Order.{same-true, same-self}
+use Rattle.wakemiono.specs.Boundary.{wmNone, wmFound, wmRefused, wmPlace, wmJudged, wmHint}
+use Rattle.wakemiono.specs.declared.WmAnswer.{WmAnswer}
+use Rattle.promises.specs.Laws.Moving.{movePart, movedJudged, name-asked-moves, any-asked-moves, hint-data-moves, hint-asked-moves}
+use Rattle.promises.specs.Laws.Saying.{judged-said}
+
+-- the same answer further on: what is found, and what is refused, lies so much further
+abbrev pub Moved : ℕ → WmAnswer → WmAnswer → Type 0
+Moved k b a = (a .kind ≡ b .kind) × (a .code ≡ b .code) × (a .length ≡ b .length) × (a .kind ≡ 1 → a .offset ≡ k + b .offset) × (a .kind ≡ 2 → a .offset ≡ k + b .offset)
+
+place-moved : (k : ℕ) (j : Judged (Option Part)) → Moved k (wmPlace (asPlace j)) (wmPlace (asPlace (movedJudged (mapSome (movePart k)) k j)))
+unfolding asPlace
+place-moved k (accepted none) = (refl, refl, refl, λ e. absurd (omega (arith, e)), λ e. absurd (omega (arith, e)))
+place-moved k (accepted (some p)) = (refl, refl, refl, λ e. refl, λ e. refl)
+place-moved k (refused n at) = (refl, refl, refl, λ e. refl, λ e. refl)
+
+hint-moved : (k : ℕ) (j : Judged (Option Hint)) → Moved k (wmHint j) (wmHint (movedJudged (λ h. h) k j))
+hint-moved k (accepted none) = (refl, refl, refl, λ e. absurd (omega (arith, e)), λ e. absurd (omega (arith, e)))
+hint-moved k (accepted (some Unlikely)) = (refl, refl, refl, λ e. absurd (omega (arith, e)), λ e. absurd (omega (arith, e)))
+hint-moved k (accepted (some Likely)) = (refl, refl, refl, λ e. absurd (omega (arith, e)), λ e. absurd (omega (arith, e)))
+hint-moved k (refused n at) = (refl, refl, refl, λ e. refl, λ e. refl)
+
+-- by what was found of the section: c is the walk's answer, p the payload there
+module _ {A : Type 0} (wm : Judged (Option A) → WmAnswer) (question : ℕ → List ℕ → Judged (Option A)) where
+  abbrev put : Judged (Option Part) → Judged (Option A)
+  put j = judgedThen j (λ found. orNone found question)
+
+  abbrev payloadAt : List ℕ → WmAnswer → List ℕ
+  payloadAt m c = take (c .length) (drop (c .offset) m)
+
+  put-none : (j : Judged (Option Part)) → wm (accepted none) ≡ wmNone → wmPlace (asPlace j) .kind ≡ 0 → wm (put j) ≡ wmNone
+  unfolding asPlace
+  put-none (accepted none) h k = h
+  put-none (accepted (some p)) h k = absurd (omega (arith, k))
+  put-none (refused n at) h k = absurd (omega (arith, k))
+
+  put-refused : (j : Judged (Option Part)) (n at : ℕ) → ((n at : ℕ) → wm (refused n at) ≡ wmRefused n at) → wmPlace (asPlace j) ≡ wmRefused n at → wm (put j) ≡ wmRefused n at
+  unfolding asPlace
+  put-refused (accepted none) n at h e = absurd (omega (arith, ap (λ (a : WmAnswer). a .kind) e))
+  put-refused (accepted (some p)) n at h e = absurd (omega (arith, ap (λ (a : WmAnswer). a .kind) e))
+  put-refused (refused m o) n at h e = h m o ∙ e
+
+  put-found : (m : List ℕ) (j : Judged (Option Part)) → ((p : Part) → j ≡ accepted (some p) → VeryBytes m p) → wmPlace (asPlace j) .kind ≡ 1 → wm (put j) ≡ wm (question (wmPlace (asPlace j) .offset) (payloadAt m (wmPlace (asPlace j))))
+  unfolding asPlace
+  put-found m (accepted none) very k = absurd (omega (arith, k))
+  put-found m (accepted (some p)) very k = ap (λ bs. wm (question (p .at) bs)) (sym (very p refl .bytes))
+  put-found m (refused n at) very k = absurd (omega (arith, k))
+
+payload-very : (x m : List ℕ) (p : Part) → customPayload x m ≡ accepted (some p) → VeryBytes m p
+payload-very x m p e = let l = payload-lies x m e in record { inside = lies-inside l; bytes = lies-there l }
+
+-- The three calls' answers, of a question put to the section x
+module _ {A : Type 0} (wm : Judged (Option A) → WmAnswer) (question : ℕ → List ℕ → Judged (Option A)) (x m : List ℕ) (a c : WmAnswer) (e : a ≡ wm (through x question m)) (d : c ≡ wmPlace (asPlace (customPayload x m))) where
+  through-none : wm (accepted none) ≡ wmNone → c .kind ≡ 0 → a ≡ wmNone
+  unfolding through
+  through-none h k = e ∙ put-none wm question (customPayload x m) h (rw d at k)
+
+  through-refused : ((n at : ℕ) → wm (refused n at) ≡ wmRefused n at) → (n at : ℕ) → c ≡ wmRefused n at → a ≡ wmRefused n at
+  unfolding through
+  through-refused h n at is = e ∙ put-refused wm question (customPayload x m) n at h (sym d ∙ is)
+
+  through-found : c .kind ≡ 1 → a ≡ wm (question (c .offset) (take (c .length) (drop (c .offset) m)))
+  unfolding through
+  through-found k = rw (e, d) (put-found wm question m (customPayload x m) (payload-very x m) (rw d at k))
+
+  through-moved : ((k : ℕ) (p : List ℕ) → Moved k (wm (question 0 p)) (wm (question k p))) → (b : WmAnswer) → c .kind ≡ 1 → b ≡ wm (question 0 (take (c .length) (drop (c .offset) m))) → Moved (c .offset) b a
+  through-moved moves b k f = rw (through-found k, f) (moves (c .offset) (take (c .length) (drop (c .offset) m)))
+
+-- none without the section, the walk's refusal first, else the payload's own answer, further on by where the payload begins
+abbrev PutThrough : (section : List ℕ) (asking asking-in : List ℕ → WmAnswer → Type 0) → Type 0
+PutThrough section asking asking-in = (m : List ℕ) (a c : WmAnswer) → asking-in m a → c ≡ wmPlace (asPlace (customPayload section m)) → (c .kind ≡ 0 → a ≡ wmNone) × ((n at : ℕ) → c ≡ wmRefused n at → a ≡ wmRefused n at) × ((b : WmAnswer) → c .kind ≡ 1 → asking (take (c .length) (drop (c .offset) m)) b → Moved (c .offset) b a)
+
+places-through : (x : List ℕ) (question : ℕ → List ℕ → Judged (Option Part)) → ((k : ℕ) (p : List ℕ) → question k p ≡ movedJudged (mapSome (movePart k)) k (question 0 p)) → PutThrough x (λ p b. b ≡ wmPlace (asPlace (question 0 p))) (λ m a. a ≡ wmPlace (asPlace (through x question m)))
+unfolding asPlace
+places-through x question moves m a c e d = (
+  through-none (λ j. wmPlace (asPlace j)) question x m a c e d refl,
+  through-refused (λ j. wmPlace (asPlace j)) question x m a c e d (λ n at. refl),
+  through-moved (λ j. wmPlace (asPlace j)) question x m a c e d (λ k p. rw (moves k p) (place-moved k (question 0 p))),
+)
+
+pub name-through : (q : Question) → PutThrough (ascii "name") (λ p b. b ≡ wmPlace (asPlace (ask q p))) (λ m a. a ≡ wmPlace (asPlace (askThrough q m)))
+unfolding askThrough nameSection ask
+name-through q = places-through (ascii "name") (askAt q) (name-asked-moves q)
+
+pub hint-through : (f : FunctionIndex) (o : CodeOffset) → PutThrough (ascii "metadata.code.branch_hint") (λ p b. b ≡ wmHint (askHint f o 0 p)) (λ m a. a ≡ wmHint (askHintThrough f o m))
+unfolding askHintThrough hintSection
+hint-through f o m a c e d = (
+  through-none (λ j. wmHint j) (askHint f o) (ascii "metadata.code.branch_hint") m a c e d refl,
+  through-refused (λ j. wmHint j) (askHint f o) (ascii "metadata.code.branch_hint") m a c e d (λ n at. refl),
+  through-moved (λ j. wmHint j) (askHint f o) (ascii "metadata.code.branch_hint") m a c e d (λ k p. rw (hint-asked-moves f o k p) (hint-moved k (askHint f o 0 p))),
+)
+
+other-item : (format : List ℕ) → format ≢ ascii "branch_hint" → itemOf format ≡ anyItem
+unfolding itemOf
+other-item format other = byTest (same format (ascii "branch_hint")) (λ t. absurd (other (same-true format (ascii "branch_hint") t))) (λ t. rw t)
+
+pub metadata-through : (format : List ℕ) → format ≢ ascii "branch_hint" → (f : FunctionIndex) (o : CodeOffset) → PutThrough (ascii "metadata.code." ++ format) (λ p b. b ≡ wmPlace (asPlace (askMetadata anyItem f o 0 p))) (λ m a. a ≡ wmPlace (asPlace (askMetadataThrough format f o m)))
+unfolding askMetadataThrough metadataSection
+metadata-through format other f o = rw (other-item format other) (places-through (ascii "metadata.code." ++ format) (askMetadata anyItem f o) (any-asked-moves f o))
+
+-- Of hints their data, where the rules of hints accept them
+hints-any : (p : List ℕ) {t : Table (Table Part)} → judgeMetadata hintItem 0 p ≡ accepted t → judgeMetadata anyItem 0 p ≡ accepted t
+unfolding judgeMetadata metadata anyItem
+hints-any p e = judged (metadata hintItem 0 p) e λ o rest e₁. let (o₁, l) = filled-laxer (table-laxer (table-laxer hint-laxer)) 0 p e₁ in rw l
+
+module _ (f : FunctionIndex) (o : CodeOffset) (p : List ℕ) (b j : WmAnswer) (judges : j ≡ wmJudged (length p) (verdict (judgeMetadata hintItem 0 p))) (refuses : j .kind ≡ 2 → b ≡ j) (asks : j .kind ≡ 1 → b ≡ wmPlace (asPlace (askMetadata anyItem f o 0 p))) where
+  hint-data-by : (v : Judged (Table (Table Part))) → judgeMetadata hintItem 0 p ≡ v → b ≡ wmPlace (asPlace (askMetadata hintItem f o 0 p))
+  unfolding askMetadata asPlace
+  hint-data-by (accepted t) is =
+      let says = judged-said (length p) (judgeMetadata hintItem 0 p) judges in
+      asks (says .found .1 (t, is)) ∙ rw (is, hints-any p is)
+  hint-data-by (refused n at) is =
+      let says = judged-said (length p) (judgeMetadata hintItem 0 p) judges in
+      refuses (says .refuses .1 (n, at, is)) ∙ says .refusal n at .1 is ∙ rw is
+
+  hint-data-asked : b ≡ wmPlace (asPlace (askMetadata hintItem f o 0 p))
+  hint-data-asked = hint-data-by (judgeMetadata hintItem 0 p) refl
+
+hint-item : itemOf (ascii "branch_hint") ≡ hintItem
+unfolding itemOf
+hint-item = rw (same-self (ascii "branch_hint"))
+
+pub hint-data-through : (f : FunctionIndex) (o : CodeOffset) → PutThrough (ascii "metadata.code.branch_hint") (λ p b. (j : WmAnswer) × (j ≡ wmJudged (length p) (verdict (judgeMetadata hintItem 0 p))) × (j .kind ≡ 2 → b ≡ j) × (j .kind ≡ 1 → b ≡ wmPlace (asPlace (askMetadata anyItem f o 0 p)))) (λ m a. a ≡ wmPlace (asPlace (askMetadataThrough (ascii "branch_hint") f o m)))
+unfolding askMetadataThrough metadataSection ascii
+hint-data-through f o m a c e d =
+    let put : PutThrough (ascii "metadata.code.branch_hint") (λ p b. b ≡ wmPlace (asPlace (askMetadata hintItem f o 0 p))) (λ m a. a ≡ wmPlace (asPlace (through (ascii "metadata.code.branch_hint") (askMetadata hintItem f o) m))) = places-through (ascii "metadata.code.branch_hint") (askMetadata hintItem f o) (hint-data-moves f o) in
+    let one = put m a c (rw (← hint-item) e) d in
+    (one .0, one .1, λ b k h. one .2 b k (hint-data-asked f o (take (c .length) (drop (c .offset) m)) b (h .0) (h .1) (h .2) (h .3)))
