@@ -60,9 +60,9 @@ use Rattle.grammar.specs.Laws.Names.{names-complete}
 use Rattle.promises.specs.Laws.Judging.{found-grammar, refused-grammar}
 use Rattle.promises.specs.Laws.Listing.{lists-accepted, lists-read-back, lists-rest}
 use Rattle.promises.specs.Laws.Lookups.{tells-as, asked-tells, asked-refused, likely-held, unlikely-held, no-hint-held, hint-refused, name-held, contents-held, entry-held, inner-held, within-held}
-use Rattle.promises.specs.Laws.Outputs.{wrote, wrote-nothing, wrote-others, wrote-room, wrote-as-long}
+use Rattle.promises.specs.Laws.Outputs.{wrote, wrote-nothing, wrote-others, wrote-room, wrote-as-long, wrote-short, wrote-again}
 use Rattle.promises.specs.Laws.Refusing.{Numbered, FairlyJudged, names-verdict-fair, name-asked-fair, metadata-verdict-fair, metadata-asked-fair, hints-verdict-fair, hint-asked-fair, count-fair, section-at-fair, custom-payload-fair, name-through-fair, metadata-through-fair, hint-through-fair, written-fair, canonical-names-fair, canonical-metadata-fair, canonical-hints-fair, lists-fair}
-use Rattle.promises.specs.Laws.Rewriting.{hints-same, names-first-judged, metadata-first-judged, hints-first-judged, names-compared, metadata-compared, rewritten-same, rewritten-accepted, rewritten-alike, rewritten-shorter, rewritten-rests, rewritten-fits}
+use Rattle.promises.specs.Laws.Rewriting.{hints-same, names-first-judged, metadata-first-judged, hints-first-judged, names-compared, metadata-compared, rewritten-same, rewritten-accepted, rewritten-alike, rewritten-shorter, rewritten-rests, rewritten-fits, rewriting-refused, names-refuse, metadata-refuse, hints-refuse}
 use Rattle.promises.specs.Laws.Saying.{Verdict as Says, judged-said}
 use Rattle.promises.specs.Laws.Through.{name-through, hint-through, metadata-through, hint-data-through}
 use Rattle.promises.specs.Laws.Walking.{walked, walk-counts, section-found, section-none, section-refused, custom-tells, custom-refused}
@@ -157,6 +157,10 @@ pub record Leaves (old new : List ℕ) (a : WmAnswer) : Type 0 where
   pub inside : a .length ≤ length old
   pub as-long : length new ≡ length old
 
+-- What is written is the same in every output with room for it, and a shorter one is refused by 13, with the length that is needed
+abbrev pub NeedsRoom : (writing : (old new : List ℕ) → WmAnswer → Type 0) → Type 0
+NeedsRoom writing = (old new old′ new′ : List ℕ) (a b : WmAnswer) → writing old new a → writing old′ new′ b → a .kind ≡ 1 → (length old′ < a .length → b ≡ wmRefused 13 (a .length)) × (a .length ≤ length old′ → (b ≡ a) × (take (a .length) new′ ≡ take (a .length) new))
+
 pub record Demand1 : Type 0 where
   pub walk : (bytes : List ℕ) (a : WmAnswer) → wm-walk bytes a → Verdict a
   pub section : (position : ℕ) (bytes : List ℕ) (a : WmAnswer) → wm-section position bytes a → Reply a
@@ -174,6 +178,10 @@ pub record Demand1 : Type 0 where
   pub metadata-canonical : (payload old new : List ℕ) (a : WmAnswer) → wm-metadata-canonical payload old new a → Leaves old new a
   pub hints-canonical : (payload old new : List ℕ) (a : WmAnswer) → wm-hints-canonical payload old new a → Leaves old new a
   pub function-names-write : (indices lengths text old new : List ℕ) (a : WmAnswer) → wm-function-names-write indices lengths text old new a → Leaves old new a
+  pub names-canonical-room : (payload : List ℕ) → NeedsRoom (wm-names-canonical payload)
+  pub metadata-canonical-room : (payload : List ℕ) → NeedsRoom (wm-metadata-canonical payload)
+  pub hints-canonical-room : (payload : List ℕ) → NeedsRoom (wm-hints-canonical payload)
+  pub function-names-write-room : (indices lengths text : List ℕ) → NeedsRoom (wm-function-names-write indices lengths text)
 
 -- DEMAND 2. "Exactly what the rules accept is accepted. A lookup gives the mapped name as the very bytes of the section, or none exactly when the index has no name. Walk, hints and kept parts are what the rules make them. Names written from lists read back as those lists."
 
@@ -317,6 +325,8 @@ module _ {Q : Type 0} (judging : List ℕ → WmAnswer → Type 0) (asking : Q �
     pub never-longer : (p old new : List ℕ) (a : WmAnswer) → rewriting p old new a → a .kind ≡ 1 → a .length ≤ length p
     -- "rewriting it again changes nothing"
     pub comes-to-rest : (p old new : List ℕ) (a : WmAnswer) → rewriting p old new a → a .kind ≡ 1 → (old′ new′ : List ℕ) (b : WmAnswer) → a .length ≤ length old′ → rewriting (take (a .length) new) old′ new′ b → (b ≡ a) × (take (b .length) new′ ≡ take (a .length) new)
+    -- a payload that the judging call refuses is refused alike
+    pub refuses : (p old new : List ℕ) (a j : WmAnswer) → judging p j → rewriting p old new a → (n at : ℕ) → j ≡ wmRefused n at → a ≡ wmRefused n at
     -- every accepted payload has one: an output as long as the payload is enough
     pub room-enough : (p old new : List ℕ) (a j : WmAnswer) → judging p j → j .kind ≡ 1 → length p ≤ length old → rewriting p old new a → a .kind ≡ 1
 
@@ -367,6 +377,9 @@ leaves wanted old new a fair w = record {
   as-long = wrote-as-long wanted w;
 }
 
+needs-room : (wanted : Judged (List ℕ)) → NeedsRoom (λ old new a. WmWrites wanted old new a)
+needs-room wanted old new old′ new′ a b v w k = (wrote-short v w k, wrote-again v w k)
+
 pub demand-1 : Demand1
 demand-1 = record {
   walk = λ m a e. rw e (count-verdict (sectionCount m) (count-fair m));
@@ -385,6 +398,10 @@ demand-1 = record {
   metadata-canonical = λ p old new a w. leaves (canonicalMetadata p) old new a (canonical-metadata-fair p) w;
   hints-canonical = λ p old new a w. leaves (canonicalHints p) old new a (canonical-hints-fair p) w;
   function-names-write = λ is ns text old new a w. leaves (functionNames is ns text) old new a (lists-fair is ns text) w;
+  names-canonical-room = λ p. needs-room (canonicalNames p);
+  metadata-canonical-room = λ p. needs-room (canonicalMetadata p);
+  hints-canonical-room = λ p. needs-room (canonicalHints p);
+  function-names-write-room = λ is ns text. needs-room (functionNames is ns text);
 }
 
 -- Demand 2
@@ -461,6 +478,7 @@ demand-2 = record {
 -- Demand 3
 module _ {A Q R : Type 0} {judgement : List ℕ → Judged A} {rewriting : List ℕ → Judged (List ℕ)} {answer : Q → List ℕ → R} {Allowed : Q → Type 0} (rewrites : AnyRewrites judgement rewriting answer Allowed)
     (first-judged : (p bytes : List ℕ) → rewriting p ≡ accepted bytes → Accepted judgement p)
+    (refuse : (p : List ℕ) (n at : ℕ) → judgement p ≡ refused n at → rewriting p ≡ refused n at)
     (asking : Q → List ℕ → WmAnswer → Type 0) (met : (q : Q) (x : List ℕ) → (a : WmAnswer) × asking q x a)
     (Same : (x y : List ℕ) (a b : WmAnswer) → Type 0)
     (compared : (q : Q) (x y : List ℕ) (a b : WmAnswer) → Accepted judgement x → Accepted judgement y → asking q x a → asking q y b → Same x y a b ↔ (answer q x ≡ answer q y)) where
@@ -471,12 +489,13 @@ module _ {A Q R : Type 0} {judgement : List ℕ → Judged A} {rewriting : List 
     answers-alike = rewritten-alike rewrites first-judged asking met Same compared;
     never-longer = rewritten-shorter rewrites first-judged asking met Same compared;
     comes-to-rest = rewritten-rests rewrites first-judged asking met Same compared;
+    refuses = λ p old new a j e. rewriting-refused rewriting refuse p old new a j (judged-said (length p) (judgement p) e);
     room-enough = λ p old new a j e. rewritten-fits rewrites first-judged asking met Same compared p old new a j (judged-said (length p) (judgement p) e);
   }
 
 pub demand-3 : Demand3
 demand-3 = record {
-  names = rewritten document-names-rewritten names-first-judged wm-name (λ q x. (_, refl)) SameAnswer names-compared;
-  metadata = rewritten any-metadata-rewritten metadata-first-judged (λ q. wm-metadata (q .0 .0) (q .1 .0)) (λ q x. (_, refl)) SameAnswer metadata-compared;
-  hints = rewritten hints-rewritten hints-first-judged (λ q. wm-hint (q .0 .0) (q .1 .0)) (λ q x. (_, refl)) (λ _ _ a b. a ≡ b) (λ q x y a b _ _. hints-same (askHint (q .0) (q .1) 0 x) (askHint (q .0) (q .1) 0 y));
+  names = rewritten document-names-rewritten names-first-judged names-refuse wm-name (λ q x. (_, refl)) SameAnswer names-compared;
+  metadata = rewritten any-metadata-rewritten metadata-first-judged metadata-refuse (λ q. wm-metadata (q .0 .0) (q .1 .0)) (λ q x. (_, refl)) SameAnswer metadata-compared;
+  hints = rewritten hints-rewritten hints-first-judged hints-refuse (λ q. wm-hint (q .0 .0) (q .1 .0)) (λ q x. (_, refl)) (λ _ _ a b. a ≡ b) (λ q x y a b _ _. hints-same (askHint (q .0) (q .1) 0 x) (askHint (q .0) (q .1) 0 y));
 }

@@ -1,14 +1,14 @@
 -- What a C call that writes has left in its output: the bytes wanted and then the old ones after a write, the old ones alone after a refusal.
-use Prim.Native.Nat.{ℕ, _≤_}
+use Prim.Native.Nat.{ℕ, _≤_, _<_}
 use mathlib.Core.Bool.{Bool, true, false}
 use mathlib.Core.List.{List, _++_}
 use mathlib.Core.Path.{_≡_, refl, sym, ap, _∙_}
 use native.Mathlib.Omega.{arith}
-use borrow.Author.Tests.{leb-true, le-leb}
+use borrow.Author.Tests.{leb-true, le-leb, lt-leb}
 use lib.Dec.{leb}
 use lib.ListN.{length, take, drop, length-append, length-drop}
 use lib.Seq.{take-at, drop-at}
-use Rattle.format.specs.Laws.Outcomes.{byTest}
+use Rattle.format.specs.Laws.Outcomes.{accepted-is, byTest}
 use Rattle.format.specs.Outputs.{fitting, writeAnswer, outputAfter}
 use Rattle.format.specs.Reading.{Judged, accepted, refused}
 use Rattle.wakemiono.specs.Boundary.{wmFound, wmRefused, WmWrites}
@@ -76,3 +76,27 @@ module _ {old new : List ℕ} {a : WmAnswer} where
       rw is (omega (arith, length-append bytes (drop (length bytes) old), length-drop (length bytes) old, leb-true (length bytes) (length old) t)))
       (λ t. let is : new ≡ old = w .leaves ∙ rw t in ap length is)
   wrote-as-long (refused n at) w = ap length (w .leaves)
+
+-- a refusal of what is wanted is answered as it is
+pub wrote-refused : {wanted : Judged (List ℕ)} {old new : List ℕ} {a : WmAnswer} {n at : ℕ} → WmWrites wanted old new a → wanted ≡ refused n at → a ≡ wmRefused n at
+unfolding fitting writeAnswer
+wrote-refused w e = w .says ∙ rw e
+
+short-there : {old new : List ℕ} {a : WmAnswer} (bytes : List ℕ) → length old < length bytes → WmWrites (accepted bytes) old new a → a ≡ wmRefused 13 (length bytes)
+unfolding fitting writeAnswer
+short-there {old} bytes short w = w .says ∙ rw (lt-leb (length bytes) (length old) short)
+
+-- Of what one output took, another that is shorter is refused by 13, with the length that is needed; and any other takes the same
+module _ {wanted : Judged (List ℕ)} {old new old′ new′ : List ℕ} {a b : WmAnswer} (v : WmWrites wanted old new a) (w : WmWrites wanted old′ new′ b) (k : a .kind ≡ 1) where
+  pub wrote-short : length old′ < a .length → b ≡ wmRefused 13 (a .length)
+  wrote-short short =
+      let one = wrote wanted v k in
+      short-there (one .bytes) (rw (← wrote-long one) short) (rw (one .wants) at w) ∙ ap (wmRefused 13) (sym (wrote-long one))
+
+  pub wrote-again : a .length ≤ length old′ → (b ≡ a) × (take (a .length) new′ ≡ take (a .length) new)
+  wrote-again room =
+      let one = wrote wanted v k in
+      let two = wrote-there (one .bytes) (rw (← wrote-long one) room) (rw (one .wants) at w) in
+      let same = sym (accepted-is (two .wants)) in
+      let is = two .is ∙ ap (λ bs. wmFound 0 0 (length bs)) same ∙ sym (one .is) in
+      (is, ap (λ (c : WmAnswer). take (c .length) new′) (sym is) ∙ wrote-first two ∙ same ∙ sym (wrote-first one))

@@ -20,7 +20,7 @@ use Rattle.format.specs.declared.Hint.{Hint}
 use Rattle.wakemiono.specs.Boundary.{wmFound, wmRefused, wmPlace, wmHint, WmWrites}
 use Rattle.wakemiono.specs.declared.WmAnswer.{WmAnswer}
 use Rattle.promises.specs.Answers.{saysHint, hint-said}
-use Rattle.promises.specs.Laws.Outputs.{Wrote, wrote, wrote-there, wrote-long, wrote-first}
+use Rattle.promises.specs.Laws.Outputs.{Wrote, wrote, wrote-there, wrote-long, wrote-first, wrote-refused}
 use Rattle.promises.specs.Laws.Saying.{Verdict}
 
 -- Two answers are the same: of one kind, and with the same bytes of what was lent
@@ -107,6 +107,9 @@ module _ {A Q R : Type 0} {judgement : List ℕ → Judged A} {rewriting : List 
       let short = rewrites .rewritten (record { value = v; judged = e }) bytes wants .never-longer in
       ap (λ (a : WmAnswer). a .kind) (wrote-there bytes (omega (arith, short, room)) (rw wants at writes) .is)
 
+pub rewriting-refused : {A : Type 0} {judgement : List ℕ → Judged A} (rewriting : List ℕ → Judged (List ℕ)) → ((p : List ℕ) (n at : ℕ) → judgement p ≡ refused n at → rewriting p ≡ refused n at) → (p old new : List ℕ) (a j : WmAnswer) → Verdict j (judgement p) → WmWrites (rewriting p) old new a → (n at : ℕ) → j ≡ wmRefused n at → a ≡ wmRefused n at
+rewriting-refused rewriting refuses p old new a j says w n at e = wrote-refused w (refuses p n at (says .refusal n at .0 e))
+
 -- What was rewritten was accepted, and the answers of two accepted payloads are compared: names, metadata and hints
 pub names-first-judged : (p bytes : List ℕ) → canonicalNames p ≡ accepted bytes → Accepted (judgeNames knownKind 0) p
 unfolding canonicalNames canonical
@@ -123,6 +126,18 @@ metadata-first-judged = items-first-judged anyItem
 pub hints-first-judged : (p bytes : List ℕ) → canonicalHints p ≡ accepted bytes → Accepted (judgeMetadata hintItem 0) p
 unfolding canonicalHints
 hints-first-judged = items-first-judged hintItem
+
+pub names-refuse : (p : List ℕ) (n at : ℕ) → judgeNames knownKind 0 p ≡ refused n at → canonicalNames p ≡ refused n at
+unfolding canonicalNames canonical
+names-refuse p n at e = rw e
+
+pub metadata-refuse : (p : List ℕ) (n at : ℕ) → judgeMetadata anyItem 0 p ≡ refused n at → canonicalMetadata p ≡ refused n at
+unfolding canonicalMetadata canonicalOf
+metadata-refuse p n at e = rw e
+
+pub hints-refuse : (p : List ℕ) (n at : ℕ) → judgeMetadata hintItem 0 p ≡ refused n at → canonicalHints p ≡ refused n at
+unfolding canonicalHints canonicalOf
+hints-refuse p n at e = rw e
 
 pub names-compared : (q : Question) (x y : List ℕ) (a b : WmAnswer) → Accepted (judgeNames knownKind 0) x → Accepted (judgeNames knownKind 0) y → a ≡ wmPlace (asPlace (ask q x)) → b ≡ wmPlace (asPlace (ask q y)) → SameAnswer x y a b ↔ (asTold (ask q x) ≡ asTold (ask q y))
 unfolding ask askAt asked
