@@ -16,14 +16,15 @@ use Rattle.grammar.specs.Numbers.{Grammar, U32}
 use Rattle.grammar.specs.Names.{NamePayload}
 use Rattle.grammar.specs.Metadata.{CodeMetadata, Unknown, BranchHint}
 use Rattle.grammar.specs.Modules.{Module}
--- WHAT IT MEANS. Metadata means a table of functions, each with a table of data by offset. A name payload means a table of subsections by id, each with what it holds: `single x` one name, `names t` a table of names by index, `namesBy t` a table of tables, `whole x` contents that are kept. `Has k v t`: the table t has a row with the number k and the value v.
+-- WHAT IT MEANS. Metadata means a table of functions, each with a table of data by offset. A name payload means a table of subsections by id, each with what it holds: `single x` one name, `names t` a table of names by index, `namesBy t` a table of tables, `whole x` contents that are kept. `Has k v t`: the table t has a row with the number k and the value v, as its first, `Has k v (row k v t)`, or further on, `Has k v (row i w t)` from `Has k v t`.
 use Rattle.format.specs.Tables.{Table}
 use Rattle.format.specs.Names.{Content, single, names, namesBy, whole}
 use Rattle.format.specs.Holding.{Has}
 -- A module means a list of records: `id`, `contents`, and `custom`, which is `some` of a record of `name` and `payload` or `none`. `Among t ss`: t is one of ss. `Called x s`: s is custom and its name is x.
 use Rattle.grammar.specs.Modules.{Section, Among, Called}
--- LISTS. `Indices is`: each number in the list is below 4,294,967,296. `Lists k x indices lengths text`: at some position the indices have k, and x is the stretch of the text that belongs to it: as long as the lengths say there, after the stretches before it.
-use Rattle.format.specs.Lists.{Indices}
+-- LISTS. `Indices is`: each number in the list is below 4,294,967,296. `sum ns`: the numbers added up. `Text x characters`: the bytes x are the UTF-8 encoding of the characters. `Lists k x indices lengths text`: k is listed, and x is its own stretch of the text. `Lists k x (k ∷ is) (n ∷ ns) text` from `take n text ≡ x`, and `Lists k x (i ∷ is) (n ∷ ns) text` from `Lists k x is ns (drop n text)`.
+use Rattle.format.specs.Lists.{Indices, sum}
+use Rattle.grammar.specs.Texts.{Text}
 use Rattle.format.specs.Holding.{Lists}
 -- WHAT CAN BE ASKED of a name payload: one question for each call. An index is a record of one number, `k .0`. `InRange q`: each index in q is below 4,294,967,296, and an id below 256.
 use Rattle.format.specs.Questions.{InRange, Question, moduleName, functionName, typeName, tagName, localName, fieldName, keptContents}
@@ -59,11 +60,12 @@ use Rattle.grammar.specs.Laws.Metadata.{any-exact, metadata-complete}
 use Rattle.grammar.specs.Laws.Names.{names-complete}
 use Rattle.promises.specs.Laws.Judging.{found-grammar, refused-grammar}
 use Rattle.promises.specs.Laws.Listing.{lists-accepted, lists-read-back, lists-rest}
+use Rattle.promises.specs.Laws.Lists.{lists-fine, fine-lists}
 use Rattle.promises.specs.Laws.Lookups.{tells-as, asked-tells, asked-refused, likely-held, unlikely-held, no-hint-held, hint-refused, name-held, contents-held, entry-held, inner-held, within-held}
 use Rattle.promises.specs.Laws.Outputs.{wrote, wrote-nothing, wrote-others, wrote-room, wrote-as-long, wrote-short, wrote-again}
 use Rattle.promises.specs.Laws.Refusing.{Numbered, FairlyJudged, names-verdict-fair, name-asked-fair, metadata-verdict-fair, metadata-asked-fair, hints-verdict-fair, hint-asked-fair, count-fair, section-at-fair, custom-payload-fair, name-through-fair, metadata-through-fair, hint-through-fair, written-fair, canonical-names-fair, canonical-metadata-fair, canonical-hints-fair, lists-fair}
 use Rattle.promises.specs.Laws.Rewriting.{hints-same, names-first-judged, metadata-first-judged, hints-first-judged, names-compared, metadata-compared, rewritten-same, rewritten-accepted, rewritten-alike, rewritten-shorter, rewritten-rests, rewritten-fits, rewriting-refused, names-refuse, metadata-refuse, hints-refuse}
-use Rattle.promises.specs.Laws.Saying.{Verdict as Says, judged-said}
+use Rattle.promises.specs.Laws.Saying.{Verdict as Says, judged-said, judged-whole}
 use Rattle.promises.specs.Laws.Through.{name-through, hint-through, metadata-through, hint-data-through}
 use Rattle.promises.specs.Laws.Walking.{walked, walk-counts, section-found, section-none, section-refused, custom-tells, custom-refused}
 
@@ -81,7 +83,7 @@ wm-custom name bytes a = a ≡ wmPlace (asPlace (customPayload name bytes))
 abbrev pub wm-names-judge : List ℕ → WmAnswer → Type 0
 wm-names-judge payload a = a ≡ wmJudged (length payload) (verdict (judgeNames knownKind 0 payload))
 
--- wm_module_name, wm_function_name, wm_type_name, wm_tag_name, wm_local_name, wm_field_name and wm_kept, each with its question
+-- The questions to a name payload, one for each call: wm_module_name asks moduleName, wm_function_name functionName (record { 0 = function }), wm_type_name typeName (record { 0 = index }), wm_tag_name tagName (record { 0 = tag }), wm_local_name localName (record { 0 = function }) (record { 0 = local }), wm_field_name fieldName (record { 0 = index }) (record { 0 = field }), wm_kept keptContents id
 abbrev pub wm-name : Question → List ℕ → WmAnswer → Type 0
 wm-name q payload a = a ≡ wmPlace (asPlace (ask q payload))
 
@@ -120,7 +122,7 @@ wm-hints-canonical payload old new a = WmWrites (canonicalHints payload) old new
 abbrev pub wm-function-names-write : (indices lengths text old new : List ℕ) → WmAnswer → Type 0
 wm-function-names-write indices lengths text old new a = WmWrites (functionNames indices lengths text) old new a
 
--- DEMAND 1. "Any bytes may be lent as a module, a payload or lists. Each public call ends, does nothing undefined and asks no prior check. Bad input gets a refusal number and its offset, and every lent buffer is unchanged."
+-- DEMAND 1. "Any bytes may be lent as a module, a payload or lists. Each public call ends, does nothing undefined and asks no prior check. Bad input gets a refusal number and its offset, and every lent buffer is unchanged." Proved below as `demand-1`.
 
 -- That a call ends and does nothing undefined is what the checker proves of its code before it says `proved`, and a call without a `requires` asks nothing: none of the C calls has one. What is lent to be read is lent as `&[u8]` or `&[u32]`, which cannot be written to. What is left to say is what the answers are, and what an output holds after the call.
 
@@ -183,7 +185,7 @@ pub record Demand1 : Type 0 where
   pub hints-canonical-room : (payload : List ℕ) → NeedsRoom (wm-hints-canonical payload)
   pub function-names-write-room : (indices lengths text : List ℕ) → NeedsRoom (wm-function-names-write indices lengths text)
 
--- DEMAND 2. "Exactly what the rules accept is accepted. A lookup gives the mapped name as the very bytes of the section, or none exactly when the index has no name. Walk, hints and kept parts are what the rules make them. Names written from lists read back as those lists."
+-- DEMAND 2. "Exactly what the rules accept is accepted. A lookup gives the mapped name as the very bytes of the section, or none exactly when the index has no name. Walk, hints and kept parts are what the rules make them. Names written from lists read back as those lists." Proved below as `demand-2`.
 
 -- Found: a place inside what was lent, and the bytes that lie there are x
 abbrev pub FoundIn : List ℕ → WmAnswer → List ℕ → Type 0
@@ -286,6 +288,13 @@ Listed indices lengths text (localName k j) x = ⊥
 Listed indices lengths text (fieldName k j) x = ⊥
 Listed indices lengths text (keptContents id) x = ⊥
 
+-- Which lists are written: as many lengths as indices, and lengths that add up to the text; indices each above the one before; and names that are text
+pub record FineLists (indices lengths text : List ℕ) : Type 0 where
+  pub counts : length indices ≡ length lengths
+  pub adds-up : sum lengths ≡ length text
+  pub rises : (i j a b : ℕ) → i < j → getElem? indices i ≡ some a → getElem? indices j ≡ some b → a < b
+  pub texts : (k : ℕ) (x : List ℕ) → Lists k x indices lengths text → (characters : List ℕ) × Text x characters
+
 pub record WritesLists (indices lengths text written : List ℕ) (a : WmAnswer) : Type 0 where
   -- what was written is accepted
   pub is-accepted : (j : WmAnswer) → wm-names-judge written j → j .kind ≡ 1
@@ -299,14 +308,21 @@ pub record Demand2 : Type 0 where
   pub metadata-judged : JudgesExactly wm-metadata-judge (CodeMetadata Unknown)
   pub hints-judged : JudgesExactly wm-hints-judge (CodeMetadata BranchHint)
   pub modules-judged : JudgesExactly wm-walk Module
+  -- of a payload that is accepted the judging call finds the whole
+  pub names-whole : (p : List ℕ) (a : WmAnswer) → wm-names-judge p a → a .kind ≡ 1 → a ≡ wmFound 0 0 (length p)
+  pub metadata-whole : (p : List ℕ) (a : WmAnswer) → wm-metadata-judge p a → a .kind ≡ 1 → a ≡ wmFound 0 0 (length p)
+  pub hints-whole : (p : List ℕ) (a : WmAnswer) → wm-hints-judge p a → a .kind ≡ 1 → a ≡ wmFound 0 0 (length p)
   pub names : AnswersNames
   pub metadata : AnswersMetadata
   pub hints : AnswersHints
   pub walks : Walks
   pub through-modules : AsksThrough
+  -- lists that are written are fine, and fine lists are refused by 13 alone, for want of room, or by 15, for a subsection above 4,294,967,295 bytes
+  pub written-fine : (indices lengths text old new : List ℕ) (a : WmAnswer) → wm-function-names-write indices lengths text old new a → a .kind ≡ 1 → FineLists indices lengths text
+  pub fine-written : (indices lengths text old new : List ℕ) (a : WmAnswer) → wm-function-names-write indices lengths text old new a → FineLists indices lengths text → a .kind ≡ 2 → a .code ≢ 13 → a ≡ wmRefused 15 0
   pub lists : (indices lengths text old new : List ℕ) (a : WmAnswer) → Indices indices → wm-function-names-write indices lengths text old new a → a .kind ≡ 1 → WritesLists indices lengths text (take (a .length) new) a
 
--- DEMAND 3. "Canonical rewritings of two accepted payloads are equal byte by byte exactly when every allowed question gets the same answer from both. A rewriting is accepted, answers as its original, is never longer, and rewriting it again changes nothing."
+-- DEMAND 3. "Canonical rewritings of two accepted payloads are equal byte by byte exactly when every allowed question gets the same answer from both. A rewriting is accepted, answers as its original, is never longer, and rewriting it again changes nothing." Proved below as `demand-3`.
 
 -- Two answers, of the payloads x and y, are the same: of one kind, and with the same bytes
 abbrev pub SameAnswer : (x y : List ℕ) (a b : WmAnswer) → Type 0
@@ -467,11 +483,16 @@ demand-2 = record {
   metadata-judged = metadata-judged;
   hints-judged = hints-judged;
   modules-judged = judges walk (λ ss. bareSections ss) wm-walk modules-exact (λ p a e. walked p e);
+  names-whole = λ p a. judged-whole (length p) (verdict (judgeNames knownKind 0 p));
+  metadata-whole = λ p a. judged-whole (length p) (verdict (judgeMetadata anyItem 0 p));
+  hints-whole = λ p a. judged-whole (length p) (verdict (judgeMetadata hintItem 0 p));
   names = names-answered;
   metadata = metadata-answered;
   hints = hints-answered;
   walks = walks;
   through-modules = record { names = name-through; hints = λ f o. hint-through (record { 0 = f }) (record { 0 = o }); metadata = λ x n f o. metadata-through x n (record { 0 = f }) (record { 0 = o }); hint-data = λ f o. hint-data-through (record { 0 = f }) (record { 0 = o }) };
+  written-fine = λ is ns text old new a w k. let fine = lists-fine is ns text old new a w k in record { counts = fine .0; adds-up = fine .1; rises = fine .2; texts = fine .3 };
+  fine-written = λ is ns text old new a w fine. fine-lists is ns text old new a w (fine .counts, fine .adds-up, fine .rises, fine .texts);
   lists = λ is ns text old new a l w k. record { is-accepted = lists-accepted is ns text old new a l w k; reads-back = lists-read-back is ns text old new a l w k; is-canonical = lists-rest is ns text old new a l w k };
 }
 

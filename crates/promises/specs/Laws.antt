@@ -6,6 +6,7 @@ pub mod Outputs
 pub mod Rewriting
 pub mod Refusing
 pub mod Listing
+pub mod Lists
 pub mod Walking
 pub mod Moving
 pub mod Through

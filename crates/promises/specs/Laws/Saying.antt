@@ -14,7 +14,7 @@ use Rattle.format.specs.Questions.{asPlace, asTold}
 use Rattle.format.specs.Reading.{Judged, accepted, refused, mapJudged, verdict}
 use Rattle.format.specs.declared.Hint.{Hint}
 use Rattle.format.specs.declared.Hint.the-variants.{Unlikely, Likely}
-use Rattle.wakemiono.specs.Boundary.{wmRefused, wmPlace, wmCount, wmJudged, wmHint}
+use Rattle.wakemiono.specs.Boundary.{wmFound, wmRefused, wmPlace, wmCount, wmJudged, wmHint}
 use Rattle.wakemiono.specs.declared.WmAnswer.{WmAnswer}
 
 refused-alike : {A : Type 0} {n m at at′ : ℕ} → wmRefused n at ≡ wmRefused m at′ → _≡_ {A = Judged A} (refused n at) (refused m at′)
@@ -55,6 +55,11 @@ judged-said n j e = rw e (judgement-said n j)
 
 pub count-said : {A : Type 0} {a : WmAnswer} (f : A → ℕ) (j : Judged A) → a ≡ wmCount (mapJudged f j) → Verdict a j
 count-said f j e = rw e (sum-said f j)
+
+-- what a judging call finds is the whole
+pub judged-whole : {a : WmAnswer} (n : ℕ) (j : Judged (Unit {0})) → a ≡ wmJudged n j → a .kind ≡ 1 → a ≡ wmFound 0 0 n
+judged-whole n (accepted v) e k = e
+judged-whole n (refused m at) e k = absurd (omega (arith, k, ap (λ (a : WmAnswer). a .kind) e))
 
 -- A part that was asked for: a place in what was lent, where these bytes lie
 abbrev pub FoundIn : List ℕ → WmAnswer → List ℕ → Type 0

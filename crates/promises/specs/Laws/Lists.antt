@@ -1,0 +1,98 @@
+-- Which lists are written: those that agree, with rising indices and names that are text.
+use Prim.Native.Nat.{ℕ, zero, suc, _+_, _≤_, _<_}
+use mathlib.Core.Bool.{true, false, _&&_}
+use mathlib.Core.List.{List, [], _∷_}
+use mathlib.Core.Option.{Option, none, some}
+use mathlib.Core.Path.{_≡_, refl, sym, ap, _∙_}
+use native.Mathlib.Omega.{arith}
+use borrow.Author.Tests.{leb-true, eqb-true, le-leb, eq-eqb}
+use lib.Dec.{ltb, leb, eqb}
+use lib.ListN.{length, take, drop, getElem?}
+use Rattle.format.specs.Canonical.{writeContent, writeSubsections}
+use Rattle.format.specs.Holding.{Lists, firstListed, laterListed}
+use Rattle.format.specs.Laws.Lists.{on-provided, on-unless}
+use Rattle.format.specs.Laws.Options.{not-some, some-is}
+use Rattle.format.specs.Laws.Outcomes.{byTest}
+use Rattle.format.specs.Lists.{sum, listed, unsortedAt, badTextAt, subsection, functionNames}
+use Rattle.format.specs.Names.{names}
+use Rattle.format.specs.Numbers.{limit32}
+use Rattle.format.specs.Outputs.{fitting, writeAnswer}
+use Rattle.format.specs.Reading.{accepted}
+use Rattle.format.specs.Text.{utf8}
+use Rattle.grammar.specs.Grammar.{texts-exact}
+use Rattle.grammar.specs.Laws.Tests.{both}
+use Rattle.grammar.specs.Texts.{Text}
+use Rattle.wakemiono.specs.Boundary.{wmFound, wmRefused, WmWrites}
+use Rattle.wakemiono.specs.declared.WmAnswer.{WmAnswer}
+use Rattle.promises.specs.Laws.Outputs.{wrote, wrote-refused, refused-short}
+
+-- Rising indices
+abbrev Rising : List ℕ → Type 0
+Rising is = (i j a b : ℕ) → i < j → getElem? is i ≡ some a → getElem? is j ≡ some b → a < b
+
+least-of : (position least : ℕ) (is : List ℕ) (i : ℕ) {a : ℕ} → unsortedAt position least is ≡ none → getElem? is i ≡ some a → least ≤ a
+unfolding unsortedAt
+least-of position least [] i u e = absurd (not-some e)
+least-of position least (x ∷ is) zero u e =
+    byTest (leb least x) (λ t. rw (← some-is e) (leb-true least x t)) (λ t. absurd (not-some (sym (rw t at u))))
+least-of position least (x ∷ is) (suc i) u e =
+    byTest (leb least x)
+    (λ t. let above = least-of (suc position) (suc x) is i (rw t at u) e in omega (arith, leb-true least x t, above))
+    (λ t. absurd (not-some (sym (rw t at u))))
+
+rising-of : (position least : ℕ) (is : List ℕ) → unsortedAt position least is ≡ none → Rising is
+unfolding unsortedAt
+rising-of position least [] u i j a b l e e′ = absurd (not-some e)
+rising-of position least (x ∷ is) u zero zero a b l e e′ = absurd (omega arith)
+rising-of position least (x ∷ is) u (suc i) zero a b l e e′ = absurd (omega arith)
+rising-of position least (x ∷ is) u zero (suc j) a b l e e′ =
+    byTest (leb least x)
+    (λ t. let above = least-of (suc position) (suc x) is j (rw t at u) e′ in let is-x = some-is e in omega (arith, above, is-x))
+    (λ t. absurd (not-some (sym (rw t at u))))
+rising-of position least (x ∷ is) u (suc i) (suc j) a b l e e′ =
+    byTest (leb least x)
+    (λ t. rising-of (suc position) (suc x) is (rw t at u) i j a b (omega arith) e e′)
+    (λ t. absurd (not-some (sym (rw t at u))))
+
+to-rising : (position least : ℕ) (is : List ℕ) → ((i a : ℕ) → getElem? is i ≡ some a → least ≤ a) → Rising is → unsortedAt position least is ≡ none
+unfolding unsortedAt
+to-rising position least [] h k = refl
+to-rising position least (x ∷ is) h k =
+    rw (le-leb least x (h 0 x refl)) (to-rising (suc position) (suc x) is (λ i a e. let above = k 0 (suc i) x a (omega arith) refl e in omega arith) (λ i j a b l e e′. k (suc i) (suc j) a b (omega arith) e e′))
+
+-- Names that are text
+texts-of : (start : ℕ) {is ns text : List ℕ} {k : ℕ} {x : List ℕ} → badTextAt start ns text ≡ none → Lists k x is ns text → utf8 x ≡ true
+unfolding badTextAt
+texts-of start u (firstListed {text = text} {n = n} e) = byTest (utf8 (take n text)) (λ t. rw (← e) t) (λ t. absurd (not-some (sym (rw t at u))))
+texts-of start u (laterListed {text = text} {n = n} l) = byTest (utf8 (take n text)) (λ t. texts-of (start + n) (rw t at u) l) (λ t. absurd (not-some (sym (rw t at u))))
+
+to-texts : (start : ℕ) (is ns text : List ℕ) → length is ≡ length ns → ((k : ℕ) (x : List ℕ) → Lists k x is ns text → utf8 x ≡ true) → badTextAt start ns text ≡ none
+unfolding badTextAt
+to-texts start is [] text l h = refl
+to-texts start [] (n ∷ ns) text l h = absurd (omega (arith, l))
+to-texts start (i ∷ is) (n ∷ ns) text l h = rw (h i (take n text) (firstListed refl)) (to-texts (start + n) is ns (drop n text) (omega (arith, l)) (λ k x m. h k x (laterListed m)))
+
+-- as many lengths as indices, which add up to the text; indices that rise; names that are text
+abbrev FineLists : (is ns text : List ℕ) → Type 0
+FineLists is ns text = (length is ≡ length ns) × (sum ns ≡ length text) × Rising is × ((k : ℕ) (x : List ℕ) → Lists k x is ns text → (characters : List ℕ) × Text x characters)
+
+module _ (is ns text old new : List ℕ) (a : WmAnswer) (w : WmWrites (functionNames is ns text) old new a) where
+  pub lists-fine : a .kind ≡ 1 → FineLists is ns text
+  unfolding functionNames
+  lists-fine k =
+      on-provided (eqb (length is) (length ns) && eqb (sum ns) (length text)) _ _ (wrote (functionNames is ns text) w k .wants) λ c e₁.
+      on-unless (unsortedAt 0 0 is) _ _ e₁ λ u e₂. on-unless (badTextAt 0 ns text) _ _ e₂ λ b e₃.
+      both (eqb (length is) (length ns)) (eqb (sum ns) (length text)) c λ l s.
+      (eqb-true (length is) (length ns) l, eqb-true (sum ns) (length text) s, rising-of 0 0 is u, λ k x m. texts-exact .valid-exactly x .0 (texts-of 0 b m))
+
+  -- fine lists are refused for their size alone, or for want of room
+  pub fine-lists : FineLists is ns text → a .kind ≡ 2 → (a .code ≡ 13 → ⊥) → a ≡ wmRefused 15 0
+  unfolding functionNames
+  fine-lists fine k other =
+      let l = eq-eqb (length is) (length ns) (fine .0) in
+      let s = eq-eqb (sum ns) (length text) (fine .1) in
+      let u = to-rising 0 0 is (λ i a e. omega arith) (fine .2) in
+      let b = to-texts 0 is ns text (fine .0) (λ k x m. texts-exact .valid-exactly x .1 (fine .3 k x m)) in
+      byTest (ltb (length (writeContent (names (listed is ns text)))) limit32)
+      (λ t. let wants : functionNames is ns text ≡ accepted (writeSubsections (subsection (listed is ns text))) = rw (l, s, u, b, t) in absurd (other (refused-short wants w k)))
+      (λ t. wrote-refused w (rw (l, s, u, b, t)))
