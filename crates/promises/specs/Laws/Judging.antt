@@ -5,7 +5,7 @@ use mathlib.Core.Logic.{_↔_, Iff·trans}
 use mathlib.Core.Path.{_≡_, ap}
 use Rattle.format.specs.Bytes.{Bytes}
 use Rattle.format.specs.Laws.Outcomes.{mapped, refused-exactly}
-use Rattle.format.specs.Reading.{Judged, accepted, mapJudged}
+use Rattle.format.specs.Reading.{Judged, mapJudged}
 use Rattle.grammar.specs.Grammar.{Accepts}
 use Rattle.grammar.specs.Numbers.{Grammar}
 use Rattle.wakemiono.specs.declared.WmAnswer.{WmAnswer}

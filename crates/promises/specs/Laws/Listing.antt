@@ -16,14 +16,14 @@ use Rattle.format.specs.Laws.Options.{not-some}
 use Rattle.format.specs.Laws.Outcomes.{accepted-is, byTest, accepted-exactly}
 use Rattle.format.specs.Lists.{Indices, listed, functionNames}
 use Rattle.format.specs.Names.{nameMap, known, knownKind, names, judgeNames}
-use Rattle.format.specs.Questions.{Question, moduleName, functionName, typeName, tagName, localName, fieldName, keptContents, idOf, queryOf, answer, asked, askAt, ask, asPlace, asTold}
-use Rattle.format.specs.Reading.{Judged, accepted, verdict}
-use Rattle.format.specs.Tables.{Table, nil, row, lookup}
+use Rattle.format.specs.Questions.{Question, moduleName, functionName, typeName, tagName, localName, fieldName, keptContents, idOf, queryOf, answer, askAt, ask, asPlace, asTold}
+use Rattle.format.specs.Reading.{accepted, verdict}
+use Rattle.format.specs.Tables.{nil, row, lookup}
 use Rattle.wakemiono.specs.Boundary.{wmFound, wmPlace, wmJudged, WmWrites}
 use Rattle.wakemiono.specs.declared.WmAnswer.{WmAnswer}
 use Rattle.promises.specs.Laws.Outputs.{Wrote, wrote, wrote-there, wrote-long, wrote-first}
 use Rattle.promises.specs.Laws.Rewriting.{names-first-judged}
-use Rattle.promises.specs.Laws.Saying.{Verdict, FoundIn, found-said, none-said, judged-said}
+use Rattle.promises.specs.Laws.Saying.{FoundIn, found-said, none-said, judged-said}
 
 -- what the lists give for a question: a text of their own for an index of a function
 abbrev Listed : (is ns text : List ℕ) → Question → List ℕ → Type 0

@@ -1,9 +1,9 @@
 -- Which lists are written: those that agree, with rising indices and names that are text.
 use Prim.Native.Nat.{ℕ, zero, suc, _+_, _≤_, _<_}
-use mathlib.Core.Bool.{true, false, _&&_}
+use mathlib.Core.Bool.{true, _&&_}
 use mathlib.Core.List.{List, [], _∷_}
-use mathlib.Core.Option.{Option, none, some}
-use mathlib.Core.Path.{_≡_, refl, sym, ap, _∙_}
+use mathlib.Core.Option.{none, some}
+use mathlib.Core.Path.{_≡_, refl, sym}
 use native.Mathlib.Omega.{arith}
 use borrow.Author.Tests.{leb-true, eqb-true, le-leb, eq-eqb}
 use lib.Dec.{ltb, leb, eqb}
@@ -16,13 +16,12 @@ use Rattle.format.specs.Laws.Outcomes.{byTest}
 use Rattle.format.specs.Lists.{sum, listed, unsortedAt, badTextAt, subsection, functionNames}
 use Rattle.format.specs.Names.{names}
 use Rattle.format.specs.Numbers.{limit32}
-use Rattle.format.specs.Outputs.{fitting, writeAnswer}
 use Rattle.format.specs.Reading.{accepted}
 use Rattle.format.specs.Text.{utf8}
 use Rattle.grammar.specs.Grammar.{texts-exact}
 use Rattle.grammar.specs.Laws.Tests.{both}
 use Rattle.grammar.specs.Texts.{Text}
-use Rattle.wakemiono.specs.Boundary.{wmFound, wmRefused, WmWrites}
+use Rattle.wakemiono.specs.Boundary.{wmRefused, WmWrites}
 use Rattle.wakemiono.specs.declared.WmAnswer.{WmAnswer}
 use Rattle.promises.specs.Laws.Outputs.{wrote, wrote-refused, refused-short}
 

@@ -2,24 +2,21 @@
 use Prim.Native.Nat.{ℕ}
 use mathlib.Core.List.{List, [], _∷_}
 use mathlib.Core.Logic.{_↔_, Iff·trans}
-use mathlib.Core.Option.{Option, some}
+use mathlib.Core.Option.{Option}
 use mathlib.Core.Path.{_≡_}
-use lib.ListN.{length}
-use Rattle.format.specs.Canonical.{bareItems}
 use Rattle.format.specs.Demands.{Answers, hints-answered}
 use Rattle.format.specs.Holding.{Has, HasWithin, Holds, theName, theEntry, theInner, theContents}
 use Rattle.format.specs.Metadata.{dataOf, hintItem, judgeMetadata, askHint}
 use Rattle.format.specs.Names.{Content, single, names, namesBy, whole}
 use Rattle.format.specs.Parts.{Part}
 use Rattle.format.specs.Questions.{asPlace, itsName, itsContents, nameOf, nameWithin}
-use Rattle.format.specs.Reading.{Judged, accepted, refused, verdict}
+use Rattle.format.specs.Reading.{Judged, accepted}
 use Rattle.format.specs.Tables.{Table}
 use Rattle.format.specs.declared.CodeOffset.{CodeOffset}
 use Rattle.format.specs.declared.FunctionIndex.{FunctionIndex}
 use Rattle.format.specs.declared.Hint.the-variants.{Unlikely, Likely}
 use Rattle.grammar.specs.Laws.Metadata.{hint-exact, metadata-complete}
 use Rattle.grammar.specs.Metadata.{CodeMetadata, BranchHint}
-use Rattle.grammar.specs.Numbers.{Grammar}
 use Rattle.wakemiono.specs.Boundary.{wmRefused, wmPlace, wmHint}
 use Rattle.wakemiono.specs.declared.WmAnswer.{WmAnswer}
 use Rattle.promises.specs.Laws.Saying.{Verdict, FoundIn, found-said, none-said, refused-said, unlikely-said, likely-said, no-hint-said, hint-refused-said}

@@ -1,5 +1,5 @@
 -- A payload that begins further on is read alike: every part and every refusal lies that much further on.
-use Prim.Native.Nat.{ℕ, zero, suc, _+_, _*_, _%_}
+use Prim.Native.Nat.{ℕ, zero, suc, _+_}
 use mathlib.Core.Bool.{Bool, true, false}
 use mathlib.Core.List.{List, [], _∷_}
 use mathlib.Core.Option.{Option, none, some}
@@ -7,7 +7,7 @@ use mathlib.Core.Path.{_≡_, refl, sym, ap, _∙_}
 use native.Mathlib.Nat.{add-zero, add-suc}
 use native.Mathlib.Omega.{arith}
 use lib.Dec.{ltb, leb}
-use lib.ListN.{length, take, drop}
+use lib.ListN.{length}
 use Rattle.format.specs.Laws.Options.{byOption}
 use Rattle.format.specs.Laws.Outcomes.{byTest}
 use Rattle.format.specs.Laws.Tables.{lookup-map}
@@ -18,11 +18,10 @@ use Rattle.format.specs.Options.{thenSome, mapSome, isSome}
 use Rattle.format.specs.Parts.{Part, sized, name, remaining, goOn, cut}
 use Rattle.format.specs.Questions.{Query, itsName, itsContents, nameOf, nameWithin, answerIn, answer, asked, Question, idOf, queryOf, askAt}
 use Rattle.format.specs.Reading.{Outcome, got, stop, Reader, andThen, _>>_, checked, atEnd, filling, Judged, accepted, refused, judge, mapJudged}
-use Rattle.format.specs.Tables.{Table, nil, row, lookup, mapTable, rows, table}
+use Rattle.format.specs.Tables.{Table, lookup, mapTable, rows, table}
 use Rattle.format.specs.Text.{utf8}
 use Rattle.format.specs.declared.CodeOffset.{CodeOffset}
 use Rattle.format.specs.declared.FunctionIndex.{FunctionIndex}
-use Rattle.format.specs.declared.Hint.{Hint}
 use Rattle.format.specs.declared.Reason.{Reason}
 
 abbrev pub movePart : ℕ → Part → Part

@@ -1,6 +1,5 @@
 -- What a C call that writes has left in its output: the bytes wanted and then the old ones after a write, the old ones alone after a refusal.
 use Prim.Native.Nat.{ℕ, _≤_, _<_}
-use mathlib.Core.Bool.{Bool, true, false}
 use mathlib.Core.List.{List, _++_}
 use mathlib.Core.Path.{_≡_, refl, sym, ap, _∙_}
 use native.Mathlib.Omega.{arith}

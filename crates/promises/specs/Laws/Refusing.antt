@@ -3,7 +3,7 @@ use Prim.Native.Nat.{ℕ, zero, suc, _+_, _*_, _%_, _≤_}
 use mathlib.Core.Bool.{Bool, true, false, cond, not, _&&_, _||_}
 use mathlib.Core.List.{List, [], _∷_}
 use mathlib.Core.Option.{Option, none, some}
-use mathlib.Core.Path.{_≡_, sym, ap}
+use mathlib.Core.Path.{_≡_, sym}
 use native.Mathlib.Omega.{arith}
 use lib.Dec.{ltb, leb, eqb}
 use lib.ListN.{length, getElem?}
@@ -12,7 +12,7 @@ use Rattle.format.specs.Canonical.{rewriteNames, canonical, canonicalNames, rew
 use Rattle.format.specs.Laws.Outcomes.{not-accepted, byTest, refused-exactly}
 use Rattle.format.specs.Lists.{sum, listed, unsortedAt, badTextAt, unless, provided, functionNames}
 use Rattle.format.specs.Metadata.{hintOf, anyItem, hintItem, metadata, judgeMetadata, itemAt, askMetadata, hintIn, askHint}
-use Rattle.format.specs.Names.{Kind, oneName, nameMap, indirectMap, kept, Content, names, knownKind, contents, subsections, payload, judgeNames}
+use Rattle.format.specs.Names.{Kind, oneName, nameMap, indirectMap, kept, names, knownKind, contents, subsections, payload, judgeNames}
 use Rattle.format.specs.Numbers.{groups, number, limit32}
 use Rattle.format.specs.Options.{isSome}
 use Rattle.format.specs.Outputs.{fitting, writeAnswer}

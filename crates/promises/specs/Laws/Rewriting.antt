@@ -10,7 +10,7 @@ use Rattle.format.specs.Bytes.{Bytes}
 use Rattle.format.specs.Canonical.{rewriteNames, canonical, canonicalNames, rewriteMetadata, canonicalOf, canonicalMetadata, canonicalHints}
 use Rattle.format.specs.Demands.{VeryBytes, Rewrites, ItemQuestion, itemTold, document-names-answered, any-metadata-answered}
 use Rattle.format.specs.Laws.Options.{not-some, some-is}
-use Rattle.format.specs.Laws.Outcomes.{accepted-is, mapped, refused-exactly}
+use Rattle.format.specs.Laws.Outcomes.{accepted-is, mapped}
 use Rattle.format.specs.Metadata.{anyItem, hintItem, judgeMetadata, itemAt, askMetadata}
 use Rattle.format.specs.Names.{knownKind, judgeNames}
 use Rattle.format.specs.Parts.{Part}

@@ -1,6 +1,5 @@
 -- Questions through a module, by what the walk's C call says of the section and what the payload's C call answers.
 use Prim.Native.Nat.{ℕ, _+_}
-use mathlib.Core.Bool.{true, false}
 use mathlib.Core.List.{List, _++_}
 use mathlib.Core.Logic.{_≢_}
 use mathlib.Core.Option.{Option, none, some}
@@ -11,14 +10,13 @@ use Rattle.format.specs.Bytes.{ascii, same}
 use Rattle.format.specs.Demands.{VeryBytes}
 use Rattle.format.specs.Laws.Found.{payload-lies}
 use Rattle.format.specs.Laws.Laxer.{hint-laxer, table-laxer, filled-laxer}
-use Rattle.format.specs.Laws.Options.{not-some, some-is}
-use Rattle.format.specs.Laws.Outcomes.{not-accepted, accepted-is, byTest, judged}
+use Rattle.format.specs.Laws.Outcomes.{byTest, judged}
 use Rattle.format.specs.Laws.Places.{lies-there, lies-inside}
-use Rattle.format.specs.Metadata.{anyItem, hintItem, metadata, judgeMetadata, itemAt, askMetadata, askHint}
+use Rattle.format.specs.Metadata.{anyItem, hintItem, metadata, judgeMetadata, askMetadata, askHint}
 use Rattle.format.specs.Options.{mapSome}
 use Rattle.format.specs.Parts.{Part}
 use Rattle.format.specs.Questions.{Question, askAt, ask, asPlace}
-use Rattle.format.specs.Reading.{Reader, Judged, accepted, refused, judgedThen, mapJudged, verdict}
+use Rattle.format.specs.Reading.{Judged, accepted, refused, judgedThen, verdict}
 use Rattle.format.specs.Tables.{Table}
 use Rattle.format.specs.Through.{orNone, through, askThrough, metadataSection, itemOf, askMetadataThrough, askHintThrough}
 use Rattle.format.specs.Walk.{nameSection, hintSection, customPayload}
@@ -27,7 +25,7 @@ use Rattle.format.specs.declared.FunctionIndex.{FunctionIndex}
 use Rattle.format.specs.declared.Hint.{Hint}
 use Rattle.format.specs.declared.Hint.the-variants.{Unlikely, Likely}
 use Rattle.grammar.specs.Laws.Order.{same-true, same-self}
-use Rattle.wakemiono.specs.Boundary.{wmNone, wmFound, wmRefused, wmPlace, wmJudged, wmHint}
+use Rattle.wakemiono.specs.Boundary.{wmNone, wmRefused, wmPlace, wmJudged, wmHint}
 use Rattle.wakemiono.specs.declared.WmAnswer.{WmAnswer}
 use Rattle.promises.specs.Laws.Moving.{movePart, movedJudged, name-asked-moves, any-asked-moves, hint-data-moves, hint-asked-moves}
 use Rattle.promises.specs.Laws.Saying.{judged-said}

@@ -1,6 +1,6 @@
 -- The walk's answers, by the meaning that the grammar gives the module.
 use Prim.Native.Nat.{ℕ, zero, suc, _+_, _≤_}
-use mathlib.Core.Bool.{Bool, true, false}
+use mathlib.Core.Bool.{true}
 use mathlib.Core.List.{List, [], _∷_, _++_}
 use mathlib.Core.Logic.{_↔_, Iff·trans}
 use mathlib.Core.Option.{Option, none, some}
