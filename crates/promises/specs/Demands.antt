@@ -1,5 +1,5 @@
 -- THE FRONT DOOR. What users of the library demand, as types about its C calls, each under the sentence that it comes from; at the end stands the proof of each, by its name. A call is known by its promise alone, which is word for word the `ensures` on it in crates/wakemiono/src/lib.rt. What is said here is said of every answer that meets the promise; that the call's own answer meets it is proved of its code.
-use Prim.Native.Nat.{ℕ, _+_, _≤_, _<_}
+use Prim.Native.Nat.{ℕ, suc, _+_, _≤_, _<_}
 use mathlib.Core.List.{List, [], _∷_, _++_}
 use mathlib.Core.Logic.{_↔_, _≢_, Iff·trans}
 use mathlib.Core.Option.{Option, none, some}
@@ -67,7 +67,7 @@ use Rattle.promises.specs.Laws.Refusing.{Numbered, FairlyJudged, names-v
 use Rattle.promises.specs.Laws.Rewriting.{hints-same, names-first-judged, metadata-first-judged, hints-first-judged, names-compared, metadata-compared, rewritten-same, rewritten-accepted, rewritten-alike, rewritten-shorter, rewritten-rests, rewritten-fits, rewriting-refused, names-refuse, metadata-refuse, hints-refuse}
 use Rattle.promises.specs.Laws.Saying.{Verdict as Says, judged-said, judged-whole}
 use Rattle.promises.specs.Laws.Through.{name-through, hint-through, metadata-through, hint-data-through}
-use Rattle.promises.specs.Laws.Walking.{walked, walk-counts, section-found, section-none, section-refused, custom-tells, custom-refused}
+use Rattle.promises.specs.Laws.Walking.{walked, walk-counts, section-found, section-first, section-none, section-refused, custom-tells, custom-refused}
 
 -- THE CALLS AND THEIR PROMISES
 
@@ -238,9 +238,9 @@ pub record AnswersHints : Type 0 where
   pub none : (function offset : ℕ) (p : List ℕ) (m : Table (Table (List ℕ))) (a : WmAnswer) → CodeMetadata BranchHint p m → wm-hint function offset p a → (a .kind ≡ 0) ↔ ((x : List ℕ) → HoldsData function offset m x → ⊥)
   pub refuses : (function offset : ℕ) → RefusesAs wm-hints-judge (wm-hint function offset)
 
--- The walk. A module means its sections in file order, each with its id, its contents and, of a custom section, its name and payload. A section s stands in m at an offset: there is its id byte, then the size number, which is the length of the contents, then the contents
-abbrev pub Stands : List ℕ → ℕ → Section → Type 0
-Stands m at s = (front size rest : List ℕ) × (m ≡ front ++ (s .id ∷ (size ++ (s .contents ++ rest)))) × (length front ≡ at) × U32 size (length (s .contents))
+-- The walk. A module means its sections in file order, each with its id, its contents and, of a custom section, its name and payload. A section s stands in m at an offset: there is its id byte, then the size number, which is the length of the contents, then the contents, which end where the next section begins
+abbrev pub Stands : List ℕ → (at next : ℕ) → Section → Type 0
+Stands m at next s = (front size rest : List ℕ) × (m ≡ front ++ (s .id ∷ (size ++ (s .contents ++ rest)))) × (length front ≡ at) × U32 size (length (s .contents)) × (next + length rest ≡ length m)
 
 -- The first custom section of a name has the payload x: there is such a section, and none of those before it has the name
 abbrev pub FirstCalled : (name : List ℕ) → List Section → List ℕ → Type 0
@@ -250,7 +250,9 @@ pub record Walks : Type 0 where
   -- the count of sections
   pub counts : (m : List ℕ) (ss : List Section) (a : WmAnswer) → Module m ss → wm-walk m a → a .length ≡ length ss
   -- the section at a position, counted from 0: its id, the offset of its id byte and the length of its contents
-  pub section : (position : ℕ) (m : List ℕ) (ss : List Section) (a : WmAnswer) → Module m ss → wm-section position m a → Bytes m → (s : Section) → getElem? ss position ≡ some s → (a .kind ≡ 1) × (a .code ≡ s .id) × (a .length ≡ length (s .contents)) × Stands m (a .offset) s
+  pub section : (position : ℕ) (m : List ℕ) (ss : List Section) (a : WmAnswer) → Module m ss → wm-section position m a → Bytes m → (s : Section) → getElem? ss position ≡ some s → (a .kind ≡ 1) × (a .code ≡ s .id) × (a .length ≡ length (s .contents)) × ((next : ℕ) × Stands m (a .offset) next s × ((b : WmAnswer) → wm-section (suc position) m b → b .kind ≡ 1 → b .offset ≡ next))
+  -- the first begins after the 8 bytes of the preamble
+  pub first : (m : List ℕ) (ss : List Section) (a : WmAnswer) → Module m ss → wm-section 0 m a → a .kind ≡ 1 → a .offset ≡ 8
   -- none past the last
   pub past-the-last : (position : ℕ) (m : List ℕ) (ss : List Section) (a : WmAnswer) → Module m ss → wm-section position m a → (a .kind ≡ 0) ↔ (length ss ≤ position)
   -- the payload of the first custom section of a name, or none
@@ -471,6 +473,7 @@ walks : Walks
 walks = record {
   counts = walk-counts;
   section = section-found;
+  first = section-first;
   past-the-last = section-none;
   custom = custom-tells;
   section-refuses = section-refused;

@@ -7,7 +7,7 @@ use mathlib.Core.Option.{Option, none, some}
 use mathlib.Core.Path.{_≡_, refl, sym, ap, subst, _∙_}
 use native.Mathlib.Omega.{arith}
 use native.Mathlib.Numerals.{add-one}
-use lib.ListN.{length, take, drop, getElem?, take-append-drop}
+use lib.ListN.{length, take, drop, getElem?, take-append-drop, length-drop}
 use lib.Seq.{length-take-le, drop-drop}
 use Rattle.format.specs.Bytes.{Bytes, same}
 use Rattle.format.specs.Holding.{Framed, Covers, atTheEnd, aSection}
@@ -22,7 +22,7 @@ use Rattle.format.specs.Options.{mapSome}
 use Rattle.format.specs.Parts.{Part}
 use Rattle.format.specs.Questions.{asPlace, asTold}
 use Rattle.format.specs.Reading.{Judged, accepted, refused, mapJudged}
-use Rattle.format.specs.Walk.{Custom, Section, walk, sectionCount, sectionAt, payloadOf, payloadIn, customPayload}
+use Rattle.format.specs.Walk.{preamble, Custom, Section, walk, sectionCount, sectionAt, payloadOf, payloadIn, customPayload}
 use Rattle.grammar.specs.Forgetting.{bareCustom, bareSection, bareSections}
 use Rattle.grammar.specs.Laws.Exact.{bytes-after}
 use Rattle.grammar.specs.Laws.Modules.{walk-complete}
@@ -30,16 +30,16 @@ use Rattle.grammar.specs.Laws.Numbers.{number-exactly}
 use Rattle.grammar.specs.Laws.Order.{same-true, same-self}
 use Rattle.grammar.specs.Modules.{Custom as MeantCustom, Section as Meant, Among, here, further, Called, Module}
 use Rattle.grammar.specs.Numbers.{U32}
-use Rattle.wakemiono.specs.Boundary.{wmRefused, wmCount, wmSection, wmPlace}
+use Rattle.wakemiono.specs.Boundary.{wmNone, wmFound, wmRefused, wmCount, wmSection, wmPlace}
 use Rattle.wakemiono.specs.declared.WmAnswer.{WmAnswer}
 use Rattle.walk.specs.Surveys.{sectionPlace}
 use Rattle.promises.specs.Laws.Saying.{Verdict, count-said, FoundIn, found-said, none-said, refused-said}
 
 -- a section stands at an offset: the id byte, the size number, and so many bytes of contents
-abbrev Stands : List ℕ → ℕ → Meant → Type 0
-Stands m at s = (front size rest : List ℕ) × (m ≡ front ++ (s .id ∷ (size ++ (s .contents ++ rest)))) × (length front ≡ at) × U32 size (length (s .contents))
+abbrev Stands : List ℕ → (at next : ℕ) → Meant → Type 0
+Stands m at next s = (front size rest : List ℕ) × (m ≡ front ++ (s .id ∷ (size ++ (s .contents ++ rest)))) × (length front ≡ at) × U32 size (length (s .contents)) × (next + length rest ≡ length m)
 
-framed-stands : (m : List ℕ) (s : Section) → Bytes m → Framed m s → Stands m (s .at) (bareSection s)
+framed-stands : (m : List ℕ) (s : Section) → Bytes m → Framed m s → Stands m (s .at) (s .contents .at + length (s .contents .bytes)) (bareSection s)
 framed-stands m s bytes f =
     let after : Bytes (drop (suc (s .at)) m) = bytes-after (take (suc (s .at)) m) (drop (suc (s .at)) m) (rw take-append-drop bytes) in
     let (size, is, split, next) = number-exactly (suc (s .at)) (drop (suc (s .at)) m) after (length (s .contents .bytes)) (s .contents .at) (drop (s .contents .at) m) .0 (f .size-number) in
@@ -54,12 +54,23 @@ framed-stands m s bytes f =
       sym (take-append-drop (s .at) m) ∙ ap (λ bs. take (s .at) m ++ bs) (sym one ∙ ap (λ bs. s .id ∷ bs) (further ∙ split ∙ ap (λ bs. size ++ bs) (sym contents))),
       length-take-le (s .at) m (omega (arith, inside, next)),
       is,
+      omega (arith, inside, length-drop (length (s .contents .bytes)) (drop (s .contents .at) m), length-drop (s .contents .at) m),
     )
 
 covered-framed : {m : List ℕ} {o : ℕ} {ss : List Section} {s : Section} → Covers m o ss → (i : ℕ) → getElem? ss i ≡ some s → Framed m s
 covered-framed (aSection f c) zero e = rw (← some-is e) f
 covered-framed (aSection f c) (suc i) e = covered-framed c i e
 covered-framed atTheEnd i e = absurd (not-some e)
+
+-- the first stands after the preamble, and each other where the one before it ends
+covered-first : {m : List ℕ} {o : ℕ} {ss : List Section} {t : Section} → Covers m o ss → getElem? ss 0 ≡ some t → t .at ≡ o
+covered-first (aSection f c) e = ap (λ (s : Section). s .at) (sym (some-is e))
+covered-first atTheEnd e = absurd (not-some e)
+
+covered-next : {m : List ℕ} {o : ℕ} {ss : List Section} {s t : Section} → Covers m o ss → (i : ℕ) → getElem? ss i ≡ some s → getElem? ss (suc i) ≡ some t → t .at ≡ s .contents .at + length (s .contents .bytes)
+covered-next (aSection f c) zero e e′ = covered-first c e′ ∙ ap (λ (s : Section). s .contents .at + length (s .contents .bytes)) (some-is e)
+covered-next (aSection f c) (suc i) e e′ = covered-next c i e e′
+covered-next atTheEnd i e e′ = absurd (not-some e)
 
 bare-at : (ss : List Section) (i : ℕ) → getElem? (bareSections ss) i ≡ mapSome bareSection (getElem? ss i)
 bare-at [] i = refl
@@ -94,6 +105,17 @@ section-kind j i {read} is = rw is (by-section (getElem? read i))
     by-section none = (λ _. refl, λ _. refl)
     by-section (some s) = (λ e. absurd (omega (arith, e)), λ e. absurd (not-some (sym e)))
 
+section-offset : (i : ℕ) (m : List ℕ) (b : WmAnswer) {read : List Section} (at : ℕ) → walk m ≡ accepted read → b ≡ wmSection (mapJudged (mapSome sectionPlace) (sectionAt i m)) → b .kind ≡ 1 → ((t : Section) → getElem? read i ≡ some t → t .at ≡ at) → b .offset ≡ at
+unfolding sectionAt
+section-offset i m b {read} at is e k h =
+    byOption (getElem? read i)
+    (λ n. let none-there : b ≡ wmNone = e ∙ rw (is, n) in absurd (omega (arith, k, ap (λ (a : WmAnswer). a .kind) none-there)))
+    (λ t n. let there : b ≡ wmFound (t .id) (t .at) (length (t .contents .bytes)) = e ∙ rw (is, n) in ap (λ (a : WmAnswer). a .offset) there ∙ h t n)
+
+pub section-first : (m : List ℕ) (ss : List Meant) (a : WmAnswer) → Module m ss → a ≡ wmSection (mapJudged (mapSome sectionPlace) (sectionAt 0 m)) → a .kind ≡ 1 → a .offset ≡ 8
+unfolding preamble
+section-first m ss a g e k = let (read, is, same) = walk-complete m ss g in section-offset 0 m a 8 is e k (λ t n. covered-first (walk-covers m is) n)
+
 module _ (i : ℕ) (m : List ℕ) (ss : List Meant) (a : WmAnswer) (g : Module m ss) (e : a ≡ wmSection (mapJudged (mapSome sectionPlace) (sectionAt i m))) where
   pub section-none : (a .kind ≡ 0) ↔ (length ss ≤ i)
   unfolding sectionAt
@@ -101,7 +123,7 @@ module _ (i : ℕ) (m : List ℕ) (ss : List Meant) (a : WmAnswer) (g : Module m
       let (read, is, same) = walk-complete m ss g in
       rw (e, ← same, bare-count read) (Iff·trans (section-kind (walk m) i is) (past-last read i))
 
-  pub section-found : Bytes m → (s : Meant) → getElem? ss i ≡ some s → (a .kind ≡ 1) × (a .code ≡ s .id) × (a .length ≡ length (s .contents)) × Stands m (a .offset) s
+  pub section-found : Bytes m → (s : Meant) → getElem? ss i ≡ some s → (a .kind ≡ 1) × (a .code ≡ s .id) × (a .length ≡ length (s .contents)) × ((next : ℕ) × Stands m (a .offset) next s × ((b : WmAnswer) → b ≡ wmSection (mapJudged (mapSome sectionPlace) (sectionAt (suc i) m)) → b .kind ≡ 1 → b .offset ≡ next))
   unfolding sectionAt
   section-found bytes s at =
       let (read, is, same) = walk-complete m ss g in
@@ -111,7 +133,10 @@ module _ (i : ℕ) (m : List ℕ) (ss : List Meant) (a : WmAnswer) (g : Module m
       (λ t n.
       let meant : bareSection t ≡ s = some-is (rw n at there) in
       let stands = framed-stands m t bytes (covered-framed (walk-covers m is) i n) in
-      rw (e, is, n, ← meant) (refl, refl, refl, stands))
+      let end : ℕ = t .contents .at + length (t .contents .bytes) in
+      let follows : (b : WmAnswer) → b ≡ wmSection (mapJudged (mapSome sectionPlace) (sectionAt (suc i) m)) → b .kind ≡ 1 → b .offset ≡ end = λ b e′ k. section-offset (suc i) m b end is e′ k (λ t′ n′. covered-next (walk-covers m is) i n n′) in
+      let here : a ≡ wmFound (t .id) (t .at) (length (t .contents .bytes)) = e ∙ rw (is, n) in
+      rw (here, ← meant) (refl, refl, refl, (end, stands, follows)))
 
 pub section-refused : (i : ℕ) (m : List ℕ) (a j : WmAnswer) → a ≡ wmSection (mapJudged (mapSome sectionPlace) (sectionAt i m)) → j ≡ wmCount (sectionCount m) → (n at : ℕ) → (a ≡ wmRefused n at) ↔ (j ≡ wmRefused n at)
 unfolding sectionAt sectionCount
