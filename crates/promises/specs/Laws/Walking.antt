@@ -24,7 +24,7 @@ use Rattle.format.specs.Questions.{asPlace, asTold}
 use Rattle.format.specs.Reading.{Judged, accepted, refused, mapJudged}
 use Rattle.format.specs.Walk.{preamble, Custom, Section, walk, sectionCount, sectionAt, payloadOf, payloadIn, customPayload}
 use Rattle.grammar.specs.Forgetting.{bareCustom, bareSection, bareSections}
-use Rattle.grammar.specs.Laws.Exact.{bytes-after}
+use Rattle.format.specs.Laws.Tight.{bytes-after}
 use Rattle.grammar.specs.Laws.Modules.{walk-complete}
 use Rattle.grammar.specs.Laws.Numbers.{number-exactly}
 use Rattle.grammar.specs.Laws.Order.{same-true, same-self}
