@@ -1,4 +1,3 @@
-pub mod Tests
 pub mod Exact
 pub mod Judgements
 pub mod Numbers

@@ -1,6 +1,6 @@
 -- The checks one after the other: the first refusal is the judgement, and lists that pass are measured.
 use Prim.Native.Nat.{ℕ, _≤_}
-use mathlib.Core.Bool.{Bool, true, false, not, _&&_}
+use mathlib.Core.Bool.{Bool, true, false, not}
 use mathlib.Core.List.{List}
 use mathlib.Core.Option.{Option, none, some}
 use mathlib.Core.Path.{_≡_, refl, sym, _∙_}
@@ -11,7 +11,7 @@ use lib.Dec.{eqb}
 use lib.ListN.{length}
 use Rattle.format.specs.Reading.{Judged, accepted, refused}
 use Rattle.format.specs.Lists.{sum, unsortedAt, badTextAt, unless}
-use Rattle.format.specs.Laws.Outcomes.{not-accepted}
+use Rattle.format.specs.Laws.Outcomes.{not-accepted, onBoth}
 use Rattle.format.specs.declared.Reason.{Reason}
 use Rattle.format.specs.declared.Reason.the-variants.{ListsDisagree, NotAbove, NotText}
 use Rattle.format.specs.declared.Refusal.{Refusal}
@@ -34,18 +34,10 @@ module _ {A : Type 0} (why : Reason) (next : Judged A) where
   went-on none e = refl
   went-on (some p) e = absurd (not-accepted (sym e))
 
-both {ℓ} : {C : Type ℓ} (a b : Bool) → a && b ≡ true → (a ≡ true → b ≡ true → C) → C
-both true true e k = k refl refl
-both true false e k = k refl e
-both false b e k = k e (absurd (not-same e))
-  where
-    not-same : false ≡ true → ⊥
-    not-same q = let z : _≡_ {A = ℕ} 0 1 = cc in omega arith
-
 pub agreed-joined : (is ns text : List ℕ) → agree is ns text ≡ true → Joined is ns text
 unfolding agree
 agreed-joined is ns text e =
-    both (eqb (length is) (length ns)) (eqb (sum ns) (length text)) e λ p q.
+    onBoth (eqb (length is) (length ns)) (eqb (sum ns) (length text)) e λ p q.
     record { same-count = eqb-true (length is) (length ns) p; add-up = eqb-true (sum ns) (length text) q }
 
 module _ (is ns text : List ℕ) {b : Bool} (a : b ≡ agree is ns text) where

@@ -1,4 +1,4 @@
--- What the demands in `Demands.antt` rest on. Where a law speaks of what the demands define, it has the same words again, as an abbreviation: the demands are said with nothing but their own file, and the checker holds the two to be one.
+-- What the proofs of the demands rest on, in the words of `Demands.antt`.
 pub mod Saying
 pub mod Judging
 pub mod Lookups

@@ -8,5 +8,6 @@ pub mod Asking
 pub mod Handing
 pub mod Walking
 pub mod Writing
-pub mod Laws
 pub mod Demands
+pub mod Laws
+pub mod Proved

@@ -2,20 +2,16 @@
 use Prim.Native.Nat.{ℕ, zero, suc, _+_, _-_, _/_, _≤_, _<_}
 use mathlib.Core.Bool.{Bool, true, false, not, _&&_}
 use mathlib.Core.List.{List}
-use mathlib.Core.Path.{_≡_, refl}
+use mathlib.Core.Path.{_≡_}
 use native.Mathlib.Nat.{add-zero}
 use native.Mathlib.Omega.{arith}
 use borrow.Author.Needs.{needs}
 use borrow.Author.Tests.{ltb-true, ltb-false, not-false}
 use lib.Dec.{ltb}
 use lib.ListN.{length, getD}
-use Rattle.format.specs.Laws.Outcomes.{byTest}
+use Rattle.format.specs.Laws.Outcomes.{byTest, onBoth}
 use Rattle.reading.specs.Texts.{SeesAscii, Passes, Stands}
 use Rattle.reading.proofs.TextSteps.{ascii-stands, passes-none, passes-join, passed}
-
-onBoth {ℓ} : {C : Type ℓ} (a b : Bool) → (a && b) ≡ true → (a ≡ true → b ≡ true → C) → C
-onBoth true b e k = k refl e
-onBoth false b e k = absurd (let z : _≡_ {A = ℕ} 0 1 = cc in omega arith)
 
 -- One byte by itself, and two runs of which the second begins at or before the first's end
 sees-one : (s : List ℕ) (i : ℕ) → SeesAscii s i 1 (ltb (getD s i 0) 0x80)

@@ -10,6 +10,9 @@ use reading::PartRead;
 use walk::Counted;
 use walk::survey::SectionAnswer;
 
+// The programs fill every output with this byte before a write, so that a byte left alone shows.
+pub const UNTOUCHED: u8 = 0xEE;
+
 // Of hexadecimal digits; from ten on they are letters.
 const BASE: u8 = 16;
 

@@ -1,4 +1,5 @@
 pub mod Rows
 pub mod Laws
+pub mod Hints
 pub mod RowSteps
 pub mod Turns

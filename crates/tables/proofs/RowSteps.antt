@@ -1,15 +1,13 @@
 -- What reading a row does with what it read first: an item, the row's number, and the row.
-use Prim.Native.Nat.{ℕ, zero, suc, _-_, _≤_, _<_}
+use Prim.Native.Nat.{ℕ, _-_, _≤_, _<_}
 use mathlib.Core.Bool.{Bool, true, false}
-use mathlib.Core.List.{List, [], _∷_}
+use mathlib.Core.List.{List}
 use mathlib.Core.Option.{Option, some}
 use mathlib.Core.Path.{_≡_, refl, sym, _∙_}
 use native.Mathlib.Omega.{arith}
 use borrow.Author.Needs.{needs}
-use borrow.Author.Tests.{le-leb, lt-leb, le-ltb}
-use lib.Dec.{ltb, leb}
-use lib.ListN.{length, getD}
-use lib.Seq.{slice-cons, slice-empty, length-slice}
+use borrow.Author.Tests.{le-leb, lt-leb}
+use lib.Dec.{leb}
 use Rattle.format.specs.Reading.{Outcome, got, stop, Reader}
 use Rattle.format.specs.Numbers.{number}
 use Rattle.format.specs.Parts.{Part, sized}
@@ -36,32 +34,8 @@ use Rattle.tables.specs.declared.Seek.{Seek}
 use Rattle.tables.specs.declared.Seek.the-variants.{None, Found, Refused as NoSeek}
 use Rattle.tables.specs.declared.Held.the-variants.{Nothing, Part as Held·Part}
 use Rattle.tables.specs.declared.RowRead.the-variants.{Row, Refused as NoRow}
+use Rattle.tables.proofs.Hints.{value-short}
 use Rattle.tables.proofs.Laws.{item-means, item-behind, none-means, none-end, none-inside, found-means, found-inside}
-
--- A hint
-small-hint : (b : ℕ) → ltb b 2 ≡ isSome (hintOf (b ∷ []))
-unfolding hintOf
-small-hint zero = refl
-small-hint (suc zero) = refl
-small-hint (suc (suc b)) = le-ltb (suc (suc b)) 2 (omega arith)
-
-no-hint : (x : List ℕ) → (length x ≡ 1 → ⊥) → false ≡ isSome (hintOf x)
-unfolding hintOf
-no-hint [] h = refl
-no-hint (b ∷ []) h = absurd (h refl)
-no-hint (b ∷ c ∷ x) h = refl
-
-module _ {s : List ℕ} {part : Cursor} (i : Inside s part) where
-  pub hint-one : part .end - part .at ≡ 1 → ltb (getD s (part .at) 0) 2 ≡ isSome (hintOf (left s part))
-  hint-one h =
-      let q : part .end ≡ suc (part .at) = omega (arith, i .ahead) in
-      let one : left s part ≡ getD s (part .at) 0 ∷ [] = slice-cons (part .at) (part .end) s 0 (omega arith) (i .within) ∙ rw (q, slice-empty) in
-      small-hint (getD s (part .at) 0) ∙ sym (rw one)
-
-  pub hint-other : (part .end - part .at ≡ 1 → ⊥) → false ≡ isSome (hintOf (left s part))
-  hint-other h = no-hint (left s part) (λ e. h (sym (length-slice (part .at) (part .end) s (i .within)) ∙ e))
-
-pub ruleset is-hint-steps = (hint-one, hint-other, needs)
 
 -- An item's bytes
 module _ (item : Item) (bs : List ℕ) where
@@ -115,7 +89,7 @@ module _ {s : List ℕ} {c : Cursor} {x : PartRead} (n : PartReads sized s c x) 
     pub part-inside : Inside s c → Inside s part
     part-inside i = part-behind i n e .in-part
 
-pub ruleset value-steps = (value-refused, value-taken, value-not, part-inside, needs)
+pub ruleset value-steps = (value-short, value-refused, value-taken, value-not, part-inside, needs)
 
 -- A row's number
 module _ {s : List ℕ} {c : Cursor} {x : NumberRead} {least : ℕ} where

@@ -1,10 +1,10 @@
--- What the steps of a search promise one another: a row's number, a row, what is held after it, and the rows of a table. Assumes nothing.
+-- What the steps of a search promise one another: a short hint, a row's number, a row, what is held after it, and the rows of a table. Assumes nothing.
 use Prim.Native.Nat.{ℕ, _≤_}
-use mathlib.Core.Bool.{cond}
-use mathlib.Core.List.{List}
+use mathlib.Core.Bool.{Bool, false, cond, _&&_}
+use mathlib.Core.List.{List, [], _∷_}
 use mathlib.Core.Option.{Option, none, some}
 use mathlib.Core.Path.{_≡_}
-use lib.Dec.{leb, eqb}
+use lib.Dec.{leb, ltb, eqb}
 use Rattle.format.specs.Reading.{_>>=_, _>>_, Outcome, got, Reader, return, here, checked}
 use Rattle.format.specs.Numbers.{number}
 use Rattle.format.specs.Parts.{Part}
@@ -14,12 +14,25 @@ use Rattle.format.specs.declared.Reason.the-variants.{NotAbove}
 use Rattle.reading.specs.Cursors.{left, refusalOf, numberOutcome, numberEnd, partOf}
 use Rattle.reading.specs.declared.Cursor.{Cursor}
 use Rattle.reading.specs.declared.NumberRead.{NumberRead}
+use Rattle.tables.specs.declared.Item.{Item}
+use Rattle.tables.specs.declared.Item.the-variants.{Name, Data, Hint}
 use Rattle.tables.specs.declared.Seek.{Seek}
 use Rattle.tables.specs.declared.Seek.the-variants.{None, Found}
 use Rattle.tables.specs.declared.Held.{Held}
 use Rattle.tables.specs.declared.Held.the-variants.{Nothing, Part as APart}
 use Rattle.tables.specs.declared.RowRead.{RowRead}
 use Rattle.tables.specs.declared.RowRead.the-variants.{Row, Refused}
+
+-- a hint in its fewest bytes: 1 for its size, and its data
+abbrev pub isShortHint : List ℕ → Bool
+isShortHint [] = false
+isShortHint (size ∷ []) = false
+isShortHint (size ∷ byte ∷ bs) = eqb size 1 && ltb byte 2
+
+abbrev pub isShort : Item → List ℕ → Bool
+isShort Name bs = false
+isShort Data bs = false
+isShort Hint bs = isShortHint bs
 
 -- a row's number, which is at least `least`; refusal 11 gives its offset
 unfoldable pub indexFrom : ℕ → Reader ℕ

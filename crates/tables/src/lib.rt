@@ -7,7 +7,7 @@ ghost use Rattle.format.specs.Text.{utf8};
 ghost use Rattle.format.specs.Tables.{table, lookup};
 ghost use Rattle.reading.specs.Cursors.{Inside, left, PartReads};
 ghost use Rattle.tables.specs.Seeking.{readerOf, isItem, notItem, sought, soughtWithin, Seeks};
-ghost use Rattle.tables.specs.Steps.{IndexReads, RowReads, keptOf, seekOf, soughtRows};
+ghost use Rattle.tables.specs.Steps.{isShortHint, isShort, IndexReads, RowReads, keptOf, seekOf, soughtRows};
 use format::Offset;
 use format::Reason;
 use format::Refusal;
@@ -94,12 +94,52 @@ fn not_item(item: Item, size: usize, text: usize) -> Refusal
     }
 }
 
+// Whether a hint in its fewest bytes begins here: its size, which is 1, and its data. Nearly all are written so.
+fn is_short_hint(s: &[u8], c: Cursor) -> bool
+    requires { ⌜ Inside (now s) c ⌝ }
+    ensures { λ r. ⌜ r ≡ isShortHint (left (now (s .entry)) c) ⌝ }
+{
+    let at = c.at;
+    if c.end - at < 2 {
+        return false;
+    }
+    if s[at] == 1 {
+        return s[at + 1] < 2;
+    }
+    false
+}
+
+// Whether an item begins here that is a hint in its fewest bytes.
+fn is_short(s: &[u8], c: Cursor, item: Item) -> bool
+    requires { ⌜ Inside (now s) c ⌝ }
+    ensures { λ r. ⌜ r ≡ isShort item (left (now (s .entry)) c) ⌝ }
+{
+    match item {
+        Item::Name => false,
+        Item::Data => false,
+        Item::Hint => is_short_hint(s, c),
+    }
+}
+
 // A row's value: every item is a sized part.
 pub fn value(c: Cursor, s: &[u8], item: Item) -> PartRead
     requires { ⌜ Inside (now s) c ⌝ }
     ensures { λ r. ⌜ PartReads (readerOf item) (now (s .entry)) c r ⌝ }
 {
     let size = c.at;
+    if is_short(s, c, item) {
+        let data = size + 1;
+        let behind = data + 1;
+        let part = Cursor {
+            at: data,
+            end: behind,
+        };
+        let next = Cursor {
+            at: behind,
+            end: c.end,
+        };
+        return PartRead::Part(part, next);
+    }
     match c.sized(s) {
         PartRead::Refused(r) => PartRead::Refused(r),
         PartRead::Part(part, next) => {

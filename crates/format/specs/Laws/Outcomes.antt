@@ -1,6 +1,6 @@
 -- Outcomes and judgements, taken apart: what a reading that went on had read.
 use Prim.Native.Nat.{ℕ}
-use mathlib.Core.Bool.{Bool, true, false}
+use mathlib.Core.Bool.{Bool, true, false, _&&_}
 use mathlib.Core.List.{List, [], _∷_}
 use mathlib.Core.Logic.{_↔_}
 use mathlib.Core.Path.{_≡_, refl, sym, ap, _∙_}
@@ -32,6 +32,14 @@ module _ {A : Type 0} where
 pub byTest {ℓ} : {C : Type ℓ} (b : Bool) → (b ≡ true → C) → (b ≡ false → C) → C
 byTest true f g = f refl
 byTest false f g = g refl
+
+pub false-true {ℓ} : {C : Type ℓ} → false ≡ true → C
+false-true e = absurd (let z : _≡_ {A = ℕ} 0 1 = cc in omega arith)
+
+-- two tests that both passed
+pub onBoth {ℓ} : {C : Type ℓ} (a b : Bool) → (a && b) ≡ true → (a ≡ true → b ≡ true → C) → C
+onBoth true b e k = k refl e
+onBoth false b e k = false-true e
 
 -- by what a reading came to
 pub byOutcome {ℓ} : {A : Type 0} {C : Type ℓ} (r : Outcome A) → ((a : A) (o : ℕ) (bs : List ℕ) → r ≡ got a o bs → C) → ((n at : ℕ) → r ≡ stop n at → C) → C

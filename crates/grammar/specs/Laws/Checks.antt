@@ -11,10 +11,9 @@ use Rattle.format.specs.Reading.{got, checked}
 use Rattle.format.specs.Options.{mapSome}
 use Rattle.format.specs.Parts.{Part, sized, name, inside}
 use Rattle.format.specs.Walk.{greatestId, isCustom, isCode, isData, rank, custom, isCalled, nameSection, hintSection, Custom, Section, Seen, seeing, idRules, nameRules, section}
-use Rattle.format.specs.Laws.Outcomes.{not-got, got-value, got-next, got-rest, byTest, inTurn, passed, inPart}
+use Rattle.format.specs.Laws.Outcomes.{not-got, got-value, got-next, got-rest, byTest, false-true, inTurn, passed, inPart}
 use Rattle.format.specs.declared.Reason.{Reason}
 use Rattle.grammar.specs.Forgetting.{bareCustom, bareSection}
-use Rattle.grammar.specs.Laws.Tests.{false-true}
 use Rattle.grammar.specs.Laws.Order.{calledIn, to-called, from-called, Allows, after}
 
 -- The checks of one section that the walk makes

@@ -10,12 +10,11 @@ use Rattle.format.specs.Parts.{Part}
 use Rattle.format.specs.Tables.{Table}
 use Rattle.format.specs.Metadata.{hintOf, anyItem, hintItem, metadata, judgeMetadata}
 use Rattle.format.specs.Canonical.{bareItems}
-use Rattle.format.specs.Laws.Outcomes.{judged}
+use Rattle.format.specs.Laws.Outcomes.{false-true, judged}
 use Rattle.format.specs.declared.Reason.the-variants.{NotHint}
 use Rattle.grammar.specs.Lists.{Sized}
 use Rattle.grammar.specs.Metadata.{Format, Item, item as anItem, CodeMetadata, Unknown, anyData, BranchHint, unlikely, likely}
 use Rattle.grammar.specs.Laws.Exact.{Exact, exact-for, fills-sound, fills-complete}
-use Rattle.grammar.specs.Laws.Tests.{false-true}
 use Rattle.grammar.specs.Laws.Lists.{sized-exact, tested-exact, table-exact}
 
 item-part : (bs x : List ℕ) → Item Unknown bs x → Sized bs x

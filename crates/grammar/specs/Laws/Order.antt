@@ -10,9 +10,8 @@ use borrow.Author.Tests.{eqb-true, eqb-false, eq-eqb, ne-eqb}
 use lib.Dec.{eqb}
 use Rattle.format.specs.Bytes.{ascii, same}
 use Rattle.format.specs.Walk.{Seen, nothing}
-use Rattle.format.specs.Laws.Outcomes.{byTest}
+use Rattle.format.specs.Laws.Outcomes.{byTest, false-true}
 use Rattle.grammar.specs.Modules.{Custom, Section, Among, here, further, Before, fromHere, fromFurther, Called, NameSection, HintSection, Ordered}
-use Rattle.grammar.specs.Laws.Tests.{false-true}
 
 -- Called by a name, as a test
 pub same-true : (x y : List ℕ) → same x y ≡ true → x ≡ y

@@ -8,9 +8,8 @@ use borrow.Author.Tests.{leb-true}
 use lib.Dec.{leb}
 use lib.ListN.{length}
 use Rattle.format.specs.Text.{Range, _to_, inRange, Row, form, wellFormed, following, continues, utf8}
-use Rattle.format.specs.Laws.Outcomes.{byTest}
+use Rattle.format.specs.Laws.Outcomes.{byTest, false-true, onBoth}
 use Rattle.grammar.specs.Texts.{Character, beforeSurrogates, afterSurrogates, one, two, three, four, Text, empty, character}
-use Rattle.grammar.specs.Laws.Tests.{false-true, both}
 use Rattle.grammar.specs.Laws.Ranges.{tail}
 
 abbrev HasText : List ℕ → Type 0
@@ -33,7 +32,7 @@ inRangeNext {ℓ} : {C : Type ℓ} (low high : ℕ) (rs : List Range) (bs : List
 unfolding continues
 inRangeNext low high rs [] e k = false-true e
 inRangeNext low high rs (b ∷ more) e k =
-    both (inRange b (low to high)) _ e λ r e′. both (leb low b) (leb b high) r λ l h. k b more refl (leb-true low b l) (leb-true b high h) e′
+    onBoth (inRange b (low to high)) _ e λ r e′. onBoth (leb low b) (leb b high) r λ l h. k b more refl (leb-true low b l) (leb-true b high h) e′
 
 record Begins (b : ℕ) (rows : List Row) (bs : List ℕ) : Type 0 where
   goes : continues (following b rows) bs ≡ true
@@ -42,7 +41,7 @@ inRow {ℓ} : {C : Type ℓ} {b low high : ℕ} {rs : List Range} {rows : List R
 unfolding following
 inRow {b} {low} {high} e k other =
     byTest (inRange b (low to high))
-    (λ t. both (leb low b) (leb b high) t λ l h. k (leb-true low b l) (leb-true b high h) (rw t at (e .goes)))
+    (λ t. onBoth (leb low b) (leb b high) t λ l h. k (leb-true low b l) (leb-true b high h) (rw t at (e .goes)))
     (λ t. other (record { goes = rw t at (e .goes) }))
 
 inNoRow {ℓ} : {C : Type ℓ} {b : ℕ} (bs : List ℕ) → Begins b [] bs → C

@@ -8,7 +8,6 @@ use lib.Dec.{eqb}
 use lib.ListN.{length, take}
 use Rattle.format.specs.Canonical.{canonicalNames}
 use Rattle.format.specs.Demands.{document-names-answered}
-use Rattle.format.specs.Holding.{Lists}
 use Rattle.format.specs.Laws.Answers.{told-none}
 use Rattle.format.specs.Laws.Holding.{none-exactly}
 use Rattle.format.specs.Laws.Lists.{Written, written, listed-exactly, lists-told, lists-stay}
@@ -21,19 +20,10 @@ use Rattle.format.specs.Reading.{accepted, verdict}
 use Rattle.format.specs.Tables.{nil, row, lookup}
 use Rattle.wakemiono.specs.Boundary.{wmFound, wmPlace, wmJudged, WmWrites}
 use Rattle.wakemiono.specs.declared.WmAnswer.{WmAnswer}
+use Rattle.promises.specs.Demands.{Tells, Listed}
 use Rattle.promises.specs.Laws.Outputs.{Wrote, wrote, wrote-there, wrote-long, wrote-first}
 use Rattle.promises.specs.Laws.Rewriting.{names-first-judged}
-use Rattle.promises.specs.Laws.Saying.{FoundIn, found-said, none-said, judged-said}
-
--- what the lists give for a question: a text of their own for an index of a function
-abbrev Listed : (is ns text : List ℕ) → Question → List ℕ → Type 0
-Listed is ns text moduleName x = ⊥
-Listed is ns text (functionName k) x = Lists (k .0) x is ns text
-Listed is ns text (typeName k) x = ⊥
-Listed is ns text (tagName k) x = ⊥
-Listed is ns text (localName k j) x = ⊥
-Listed is ns text (fieldName k j) x = ⊥
-Listed is ns text (keptContents id) x = ⊥
+use Rattle.promises.specs.Laws.Saying.{found-said, none-said, judged-said}
 
 map-kind : knownKind 1 ≡ nameMap
 unfolding knownKind known lookup
@@ -58,7 +48,7 @@ module _ {is ns text bs : List ℕ} (w : Written is ns text bs) where
   unfolding ask askAt
   all-told q = lists-told w knownKind map-kind (idOf q) (queryOf q)
 
-  written-tells : (q : Question) {a : WmAnswer} → a ≡ wmPlace (asPlace (ask q bs)) → ((x : List ℕ) → FoundIn bs a x ↔ Listed is ns text q x) × ((a .kind ≡ 0) ↔ ((x : List ℕ) → Listed is ns text q x → ⊥))
+  written-tells : (q : Question) {a : WmAnswer} → a ≡ wmPlace (asPlace (ask q bs)) → Tells bs (λ x. Listed is ns text q x) a
   written-tells q e =
       let told : asTold (ask q bs) ≡ accepted (answer (idOf q) (queryOf q) (row 1 (names (listed is ns text)) nil)) = all-told q in
       rw e (
@@ -79,7 +69,7 @@ module _ (is ns text old new : List ℕ) (a : WmAnswer) (indices : Indices is) (
       let was = names-first-judged p p (lists-stay lists-written) in
       judged-said (length p) (judgeNames knownKind 0 p) e .found .1 (was .value, was .judged)
 
-  pub lists-read-back : (q : Question) (b : WmAnswer) → b ≡ wmPlace (asPlace (ask q (take (a .length) new))) → ((x : List ℕ) → FoundIn (take (a .length) new) b x ↔ Listed is ns text q x) × ((b .kind ≡ 0) ↔ ((x : List ℕ) → Listed is ns text q x → ⊥))
+  pub lists-read-back : (q : Question) (b : WmAnswer) → b ≡ wmPlace (asPlace (ask q (take (a .length) new))) → Tells (take (a .length) new) (λ x. Listed is ns text q x) b
   lists-read-back q b e = written-tells lists-written q e
 
   pub lists-rest : (old′ new′ : List ℕ) (b : WmAnswer) → a .length ≤ length old′ → WmWrites (canonicalNames (take (a .length) new)) old′ new′ b → (b ≡ a) × (take (b .length) new′ ≡ take (a .length) new)

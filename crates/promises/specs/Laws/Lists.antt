@@ -12,14 +12,13 @@ use Rattle.format.specs.Canonical.{writeContent, writeSubsections}
 use Rattle.format.specs.Holding.{Lists, firstListed, laterListed}
 use Rattle.format.specs.Laws.Lists.{on-provided, on-unless}
 use Rattle.format.specs.Laws.Options.{not-some, some-is}
-use Rattle.format.specs.Laws.Outcomes.{byTest}
+use Rattle.format.specs.Laws.Outcomes.{byTest, onBoth}
 use Rattle.format.specs.Lists.{sum, listed, unsortedAt, badTextAt, subsection, functionNames}
 use Rattle.format.specs.Names.{names}
 use Rattle.format.specs.Numbers.{limit32}
 use Rattle.format.specs.Reading.{accepted}
 use Rattle.format.specs.Text.{utf8}
 use Rattle.grammar.specs.Grammar.{texts-exact}
-use Rattle.grammar.specs.Laws.Tests.{both}
 use Rattle.grammar.specs.Texts.{Text}
 use Rattle.wakemiono.specs.Boundary.{wmRefused, WmWrites}
 use Rattle.wakemiono.specs.declared.WmAnswer.{WmAnswer}
@@ -81,7 +80,7 @@ module _ (is ns text old new : List ℕ) (a : WmAnswer) (w : WmWrites (functionN
   lists-fine k =
       on-provided (eqb (length is) (length ns) && eqb (sum ns) (length text)) _ _ (wrote (functionNames is ns text) w k .wants) λ c e₁.
       on-unless (unsortedAt 0 0 is) _ _ e₁ λ u e₂. on-unless (badTextAt 0 ns text) _ _ e₂ λ b e₃.
-      both (eqb (length is) (length ns)) (eqb (sum ns) (length text)) c λ l s.
+      onBoth (eqb (length is) (length ns)) (eqb (sum ns) (length text)) c λ l s.
       (eqb-true (length is) (length ns) l, eqb-true (sum ns) (length text) s, rising-of 0 0 is u, λ k x m. texts-exact .valid-exactly x .0 (texts-of 0 b m))
 
   -- fine lists are refused for their size alone, or for want of room

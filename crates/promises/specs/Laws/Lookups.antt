@@ -19,14 +19,11 @@ use Rattle.grammar.specs.Laws.Metadata.{hint-exact, metadata-complete}
 use Rattle.grammar.specs.Metadata.{CodeMetadata, BranchHint}
 use Rattle.wakemiono.specs.Boundary.{wmRefused, wmPlace, wmHint}
 use Rattle.wakemiono.specs.declared.WmAnswer.{WmAnswer}
-use Rattle.promises.specs.Laws.Saying.{Verdict, FoundIn, found-said, none-said, refused-said, unlikely-said, likely-said, no-hint-said, hint-refused-said}
+use Rattle.promises.specs.Demands.{Tells}
+use Rattle.promises.specs.Laws.Saying.{Verdict, found-said, none-said, refused-said, unlikely-said, likely-said, no-hint-said, hint-refused-said}
 
 back : {A B : Type 0} → A ↔ B → B ↔ A
 back e = (e .1, e .0)
-
--- found is exactly what is held, and none where nothing is
-abbrev Tells : List ℕ → (List ℕ → Type 0) → WmAnswer → Type 0
-Tells lent Held a = ((x : List ℕ) → FoundIn lent a x ↔ Held x) × ((a .kind ≡ 0) ↔ ((x : List ℕ) → Held x → ⊥))
 
 pub tells-as : (lent : List ℕ) (a : WmAnswer) (Held Kept : List ℕ → Type 0) → ((x : List ℕ) → Held x ↔ Kept x) → Tells lent Held a → Tells lent Kept a
 tells-as lent a Held Kept same t = (λ x. Iff·trans (t .0 x) (same x), Iff·trans (t .1) (λ empty x h. empty x (same x .1 h), λ empty x h. empty x (same x .0 h)))

@@ -5,7 +5,7 @@ use mathlib.Core.Logic.{_↔_, Iff·trans}
 use mathlib.Core.Option.{Option, none, some}
 use mathlib.Core.Path.{_≡_, refl, sym, ap, _∙_}
 use native.Mathlib.Omega.{arith}
-use lib.ListN.{length, take, drop}
+use lib.ListN.{length, take}
 use Rattle.format.specs.Bytes.{Bytes}
 use Rattle.format.specs.Canonical.{rewriteNames, canonical, canonicalNames, rewriteMetadata, canonicalOf, canonicalMetadata, canonicalHints}
 use Rattle.format.specs.Demands.{VeryBytes, Rewrites, ItemQuestion, itemTold, document-names-answered, any-metadata-answered}
@@ -20,12 +20,9 @@ use Rattle.format.specs.declared.Hint.{Hint}
 use Rattle.wakemiono.specs.Boundary.{wmFound, wmRefused, wmPlace, wmHint, WmWrites}
 use Rattle.wakemiono.specs.declared.WmAnswer.{WmAnswer}
 use Rattle.promises.specs.Answers.{saysHint, hint-said}
+use Rattle.promises.specs.Demands.{SameAnswer}
 use Rattle.promises.specs.Laws.Outputs.{Wrote, wrote, wrote-there, wrote-long, wrote-first, wrote-refused}
 use Rattle.promises.specs.Laws.Saying.{Verdict}
-
--- Two answers are the same: of one kind, and with the same bytes of what was lent
-abbrev SameAnswer : (x y : List ℕ) (a b : WmAnswer) → Type 0
-SameAnswer x y a b = (a .kind ≡ b .kind) × (take (a .length) (drop (a .offset) x) ≡ take (b .length) (drop (b .offset) y))
 
 parts-same : (x y : List ℕ) (u w : Option Part) → ((p : Part) → u ≡ some p → VeryBytes x p) → ((p : Part) → w ≡ some p → VeryBytes y p) → SameAnswer x y (wmPlace (asPlace (accepted u))) (wmPlace (asPlace (accepted w))) ↔ (asTold (accepted u) ≡ asTold (accepted w))
 unfolding asPlace asTold

@@ -1,11 +1,10 @@
 -- What an answer at the C boundary says of the judgement that it was made of, by its fields.
-use Prim.Native.Nat.{ℕ, _+_, _≤_}
+use Prim.Native.Nat.{ℕ}
 use mathlib.Core.List.{List}
 use mathlib.Core.Logic.{_↔_}
 use mathlib.Core.Option.{Option, none, some}
 use mathlib.Core.Path.{_≡_, refl, sym, ap, _∙_}
 use native.Mathlib.Omega.{arith}
-use lib.ListN.{length, take, drop}
 use Rattle.format.specs.Demands.{VeryBytes}
 use Rattle.format.specs.Laws.Options.{not-some, some-is}
 use Rattle.format.specs.Laws.Outcomes.{not-accepted, accepted-is}
@@ -16,6 +15,7 @@ use Rattle.format.specs.declared.Hint.{Hint}
 use Rattle.format.specs.declared.Hint.the-variants.{Unlikely, Likely}
 use Rattle.wakemiono.specs.Boundary.{wmFound, wmRefused, wmPlace, wmCount, wmJudged, wmHint}
 use Rattle.wakemiono.specs.declared.WmAnswer.{WmAnswer}
+use Rattle.promises.specs.Demands.{FoundIn}
 
 refused-alike : {A : Type 0} {n m at at′ : ℕ} → wmRefused n at ≡ wmRefused m at′ → _≡_ {A = Judged A} (refused n at) (refused m at′)
 refused-alike {A} e = let c = ap (λ (a : WmAnswer). a .code) e in let o = ap (λ (a : WmAnswer). a .offset) e in λ i. refused (c i) (o i)
@@ -60,10 +60,6 @@ count-said f j e = rw e (sum-said f j)
 pub judged-whole : {a : WmAnswer} (n : ℕ) (j : Judged (Unit {0})) → a ≡ wmJudged n j → a .kind ≡ 1 → a ≡ wmFound 0 0 n
 judged-whole n (accepted v) e k = e
 judged-whole n (refused m at) e k = absurd (omega (arith, k, ap (λ (a : WmAnswer). a .kind) e))
-
--- A part that was asked for: a place in what was lent, where these bytes lie
-abbrev pub FoundIn : List ℕ → WmAnswer → List ℕ → Type 0
-FoundIn lent a x = (a .kind ≡ 1) × (a .offset + a .length ≤ length lent) × (take (a .length) (drop (a .offset) lent) ≡ x)
 
 pub found-said : (lent : List ℕ) (j : Judged (Option Part)) → ((y : Part) → j ≡ accepted (some y) → VeryBytes lent y) → (x : List ℕ) → FoundIn lent (wmPlace (asPlace j)) x ↔ (asTold j ≡ accepted (some x))
 unfolding asPlace asTold

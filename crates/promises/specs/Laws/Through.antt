@@ -27,12 +27,9 @@ use Rattle.format.specs.declared.Hint.the-variants.{Unlikely, Likely}
 use Rattle.grammar.specs.Laws.Order.{same-true, same-self}
 use Rattle.wakemiono.specs.Boundary.{wmNone, wmRefused, wmPlace, wmJudged, wmHint}
 use Rattle.wakemiono.specs.declared.WmAnswer.{WmAnswer}
+use Rattle.promises.specs.Demands.{Moved, PutThrough}
 use Rattle.promises.specs.Laws.Moving.{movePart, movedJudged, name-asked-moves, any-asked-moves, hint-data-moves, hint-asked-moves}
 use Rattle.promises.specs.Laws.Saying.{judged-said}
-
--- the same answer further on: what is found, and what is refused, lies so much further
-abbrev pub Moved : ℕ → WmAnswer → WmAnswer → Type 0
-Moved k b a = (a .kind ≡ b .kind) × (a .code ≡ b .code) × (a .length ≡ b .length) × (a .kind ≡ 1 → a .offset ≡ k + b .offset) × (a .kind ≡ 2 → a .offset ≡ k + b .offset)
 
 place-moved : (k : ℕ) (j : Judged (Option Part)) → Moved k (wmPlace (asPlace j)) (wmPlace (asPlace (movedJudged (mapSome (movePart k)) k j)))
 unfolding asPlace
@@ -91,10 +88,6 @@ module _ {A : Type 0} (wm : Judged (Option A) → WmAnswer) (question : ℕ → 
 
   through-moved : ((k : ℕ) (p : List ℕ) → Moved k (wm (question 0 p)) (wm (question k p))) → (b : WmAnswer) → c .kind ≡ 1 → b ≡ wm (question 0 (take (c .length) (drop (c .offset) m))) → Moved (c .offset) b a
   through-moved moves b k f = rw (through-found k, f) (moves (c .offset) (take (c .length) (drop (c .offset) m)))
-
--- none without the section, the walk's refusal first, else the payload's own answer, further on by where the payload begins
-abbrev PutThrough : (section : List ℕ) (asking asking-in : List ℕ → WmAnswer → Type 0) → Type 0
-PutThrough section asking asking-in = (m : List ℕ) (a c : WmAnswer) → asking-in m a → c ≡ wmPlace (asPlace (customPayload section m)) → (c .kind ≡ 0 → a ≡ wmNone) × ((n at : ℕ) → c ≡ wmRefused n at → a ≡ wmRefused n at) × ((b : WmAnswer) → c .kind ≡ 1 → asking (take (c .length) (drop (c .offset) m)) b → Moved (c .offset) b a)
 
 places-through : (x : List ℕ) (question : ℕ → List ℕ → Judged (Option Part)) → ((k : ℕ) (p : List ℕ) → question k p ≡ movedJudged (mapSome (movePart k)) k (question 0 p)) → PutThrough x (λ p b. b ≡ wmPlace (asPlace (question 0 p))) (λ m a. a ≡ wmPlace (asPlace (through x question m)))
 unfolding asPlace

@@ -29,15 +29,11 @@ use Rattle.grammar.specs.Laws.Modules.{walk-complete}
 use Rattle.grammar.specs.Laws.Numbers.{number-exactly}
 use Rattle.grammar.specs.Laws.Order.{same-true, same-self}
 use Rattle.grammar.specs.Modules.{Custom as MeantCustom, Section as Meant, Among, here, further, Called, Module}
-use Rattle.grammar.specs.Numbers.{U32}
 use Rattle.wakemiono.specs.Boundary.{wmNone, wmFound, wmRefused, wmCount, wmSection, wmPlace}
 use Rattle.wakemiono.specs.declared.WmAnswer.{WmAnswer}
 use Rattle.walk.specs.Surveys.{sectionPlace}
-use Rattle.promises.specs.Laws.Saying.{Verdict, count-said, FoundIn, found-said, none-said, refused-said}
-
--- a section stands at an offset: the id byte, the size number, and so many bytes of contents
-abbrev Stands : List ℕ → (at next : ℕ) → Meant → Type 0
-Stands m at next s = (front size rest : List ℕ) × (m ≡ front ++ (s .id ∷ (size ++ (s .contents ++ rest)))) × (length front ≡ at) × U32 size (length (s .contents)) × (next + length rest ≡ length m)
+use Rattle.promises.specs.Demands.{Tells, Stands, FirstCalled}
+use Rattle.promises.specs.Laws.Saying.{Verdict, count-said, found-said, none-said, refused-said}
 
 framed-stands : (m : List ℕ) (s : Section) → Bytes m → Framed m s → Stands m (s .at) (s .contents .at + length (s .contents .bytes)) (bareSection s)
 framed-stands m s bytes f =
@@ -155,9 +151,6 @@ data First (name x : List ℕ) : List Meant → Type 0 where
   firstHere : {s : Meant} {ss : List Meant} → s .custom ≡ some (record { name = name; payload = x }) → First name x (s ∷ ss)
   firstLater : {s : Meant} {ss : List Meant} → (Called name s → ⊥) → First name x ss → First name x (s ∷ ss)
 
-abbrev FirstCalled : List ℕ → List Meant → List ℕ → Type 0
-FirstCalled name ss x = (before : List Meant) × (s : Meant) × (after : List Meant) × (ss ≡ before ++ (s ∷ after)) × (s .custom ≡ some (record { name = name; payload = x })) × ((t : Meant) → Among t before → Called name t → ⊥)
-
 not-empty : {A : Type 0} {v : A} {l : List A} → v ∷ l ≡ [] → ⊥
 not-empty e = let z : _≡_ {A = ℕ} 0 1 = cc in omega arith
 
@@ -226,7 +219,7 @@ module _ (name : List ℕ) where
       told none n e = absurd (not-some e)
       told (some p) n e = rw (← some-is e) (payload-first read n)
 
-  pub custom-tells : (m : List ℕ) (ss : List Meant) (a : WmAnswer) → Module m ss → a ≡ wmPlace (asPlace (customPayload name m)) → ((x : List ℕ) → FoundIn m a x ↔ FirstCalled name ss x) × ((a .kind ≡ 0) ↔ ((x : List ℕ) → FirstCalled name ss x → ⊥))
+  pub custom-tells : (m : List ℕ) (ss : List Meant) (a : WmAnswer) → Module m ss → a ≡ wmPlace (asPlace (customPayload name m)) → Tells m (λ x. FirstCalled name ss x) a
   unfolding customPayload asTold
   custom-tells m ss a g e =
       let (read, is, same) = walk-complete m ss g in

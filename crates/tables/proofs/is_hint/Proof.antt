@@ -1,4 +1,4 @@
-use Rattle.tables.proofs.RowSteps.{is-hint-steps}
+use Rattle.tables.proofs.Hints.{is-hint-steps}
 use Rattle.tables.proofs.is_hint.Statement.{statement}
 use Rattle.tables.proofs.is_hint.Tie as tie
 
