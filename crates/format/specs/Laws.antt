@@ -1,4 +1,5 @@
 pub mod Outcomes
+pub mod Bytes
 pub mod Options
 pub mod Tight
 pub mod Numbers

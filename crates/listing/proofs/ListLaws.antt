@@ -32,6 +32,7 @@ use Rattle.format.specs.declared.Place.{Place}
 use Rattle.format.specs.declared.Reason.the-variants.{InputTooLarge}
 use Rattle.format.specs.declared.Refusal.{Refusal}
 use Rattle.format.proofs.Answer as answer-type
+use Rattle.format.proofs.Tags.{no-answer}
 use Rattle.listing.specs.Lines.{space, labelled, placeLine, countLine, AnswerPut, customLine, Adds, AddsFrom}
 use Rattle.walk.specs.Sections.{seenOf, sectionOf}
 use Rattle.walk.specs.Steps.{Forward, Steps, Begins}
@@ -47,15 +48,11 @@ use Rattle.walk.specs.declared.step.Walk.{Walk}
 use Rattle.walk.proofs.SurveyLaws.{begun-within}
 use Rattle.walk.proofs.step.Began as began-type
 use Rattle.walk.proofs.step.Step as step-type
+use Rattle.walk.proofs.Tags.{at-end}
 use Rattle.writing.specs.Wrote.{Wrote}
 use Rattle.writing.proofs.Laws.{wrote-nothing, wrote-join, wrote-length}
 
 -- an arm that binds nothing gives the tag alone
-is-none : (x : Answer) → tagOf answer-type.the-type x ≡ 0 → x ≡ NoAnswer
-is-none NoAnswer h = refl
-is-none (FoundAt p) h = absurd (omega arith)
-is-none (NotAnswered r) h = absurd (omega arith)
-
 is-refused : (x : Answer) → tagOf answer-type.the-type x ≡ 2 → (r : Refusal) × (x ≡ NotAnswered r)
 is-refused NoAnswer h = absurd (omega arith)
 is-refused (FoundAt p) h = absurd (omega arith)
@@ -68,7 +65,7 @@ module _ {label : List ℕ} {a : Answer} {old : List ℕ} {at : ℕ} where
 
   pub answer-none : {mid new : List ℕ} {i next : ℕ} → tagOf answer-type.the-type a ≡ 0 → Wrote old mid at i (label ++ space) → Wrote mid new i next (110 ∷ 111 ∷ 110 ∷ 101 ∷ 10 ∷ []) → AnswerPut label a old new at next
   unfolding placeLine labelled line piece ascii
-  answer-none h p q = record { says = λ found e. rw (← accepted-is (rw (is-none a h) at e)) (rw append-assoc at (wrote-join p q)) }
+  answer-none h p q = record { says = λ found e. rw (← accepted-is (rw (no-answer a h) at e)) (rw append-assoc at (wrote-join p q)) }
 
   pub answer-found : {new : List ℕ} {next : ℕ} {p : Place} → a ≡ FoundAt p → Wrote old new at next (labelled label (num (p .offset .0) ∷ num (p .length) ∷ [])) → AnswerPut label a old new at next
   unfolding placeLine
@@ -108,11 +105,6 @@ one-more done s (refused n at) = refl
 none-done : (j : Judged (List AnySection)) → j ≡ mapJudged (λ more. [] ++ more) j
 none-done (accepted ss) = refl
 none-done (refused n at) = refl
-
-is-done : (x : Step) → tagOf step-type.the-type x ≡ 1 → x ≡ AtTheEnd
-is-done (ASection s w) h = absurd (omega arith)
-is-done AtTheEnd h = refl
-is-done (StepRefused r) h = absurd (omega arith)
 
 is-stopped : (x : Step) → tagOf step-type.the-type x ≡ 2 → (r : Refusal) × (x ≡ StepRefused r)
 is-stopped (ASection s w) h = absurd (omega arith)
@@ -157,7 +149,7 @@ module _ {m : List ℕ} {walk : Walk} {x : Step} (p : Steps m walk x) where
 
     pub turn-done : tagOf step-type.the-type x ≡ 1 → AddsFrom m begun sectionLines old new at next
     turn-done h =
-        let all = t .same ∙ ap (mapJudged (λ more. t .done ++ more)) (walk-ended m (seenOf (walk .seen)) (walk .at) (sym (rw (is-done x h) at (p .means)))) in
+        let all = t .same ∙ ap (mapJudged (λ more. t .done ++ more)) (walk-ended m (seenOf (walk .seen)) (walk .at) (sym (rw (at-end x h) at (p .means)))) in
         record { says = λ ss q. rw (← accepted-is (sym all ∙ q), append-nil) (t .so-far) }
 
     pub turn-room : next ≤ at + 32 * length m

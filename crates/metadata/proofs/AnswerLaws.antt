@@ -18,7 +18,7 @@ use Rattle.format.specs.Laws.Hints.{hint-is, found-hint}
 use Rattle.format.specs.Laws.Places.{lies-inside, lies-there, PartIn, hint-located}
 use Rattle.format.specs.Laws.Found.{item-lies}
 use Rattle.format.specs.declared.Answer.{Answer}
-use Rattle.format.specs.declared.Answer.the-variants.{None, Found, Refused}
+use Rattle.format.specs.declared.Answer.the-variants.{Found, Refused}
 use Rattle.format.specs.declared.CodeOffset.{CodeOffset}
 use Rattle.format.specs.declared.FunctionIndex.{FunctionIndex}
 use Rattle.format.specs.declared.Hint.{Hint}
@@ -27,16 +27,12 @@ use Rattle.format.specs.declared.HintAnswer.the-variants.{None as NoHint, Found
 use Rattle.format.specs.declared.Place.{Place}
 use Rattle.format.specs.declared.Refusal.{Refusal}
 use Rattle.format.proofs.Answer as answer-type
+use Rattle.format.proofs.Tags.{no-answer}
 use Rattle.reading.proofs.Laws.{lies-left}
 use Rattle.reading.specs.Cursors.{Inside, left}
 use Rattle.reading.specs.declared.Cursor.{Cursor}
 use Rattle.metadata.specs.Judgements.{judged}
 use Rattle.metadata.specs.declared.Judged.the-variants.{Accepted, Refused as NotAccepted}
-
-no-answer : (a : Answer) → tagOf answer-type.the-type a ≡ 0 → a ≡ None
-no-answer None h = refl
-no-answer (Found p) h = absurd (omega arith)
-no-answer (Refused r) h = absurd (omega arith)
 
 -- from the answer to the judgement
 module _ (value : Reader Part) (f : FunctionIndex) (at : CodeOffset) (o : ℕ) (bs : List ℕ) (a : Answer) (q : answered a ≡ asPlace (askMetadata value f at o bs)) where

@@ -38,6 +38,7 @@ use Rattle.names.specs.declared.judging.Judged.the-variants.{Accepted, R
 use Rattle.names.proofs.kinds.Kind as kind-type
 use Rattle.names.proofs.places.Sub as sub-type
 use Rattle.names.proofs.judging.Judged as judged-type
+use Rattle.names.proofs.Tags.{as-refused, as-accepted}
 use Rattle.names.proofs.ContentLaws.{known-inside, map-known, indirect-known, seek-ordered}
 use Rattle.names.proofs.FrameLaws.{asked-lies}
 use Rattle.names.proofs.JudgeLaws.{all-inside}
@@ -85,10 +86,6 @@ pub place-answers : {s : List ℕ} {at : ℕ} {bs : List ℕ} {p : Places} (id :
 place-answers {at = at} {bs = bs} id q place a st asks = asks .says ∙ ap asPlace (rw (st .is) (sym (asked-lies knownKind id q at bs (a .judged) (a .framed))))
 
 -- A payload that is not accepted, and one that is
-as-refused : (j : Judged) → tagOf judged-type.the-type j ≡ 1 → j ≡ Refused (refusalIn j)
-as-refused (Accepted p) h = absurd (omega arith)
-as-refused (Refused r) h = refl
-
 module _ {s : List ℕ} {at : ℕ} {bs : List ℕ} {j : Judged} where
   pub question-refused : (q : Question) (r : Refusal) → Judges s at bs j → tagOf judged-type.the-type j ≡ 1 → r ≡ refusalIn j → answered (NotAnswered r) ≡ asPlace (askAt q at bs)
   unfolding askAt asked asPlace
@@ -171,10 +168,6 @@ known-silent kept o bs n e = absurd (n refl)
 silent-in : (kind : AnyKind) (found : Option Part) {x : Option Part} → (kind ≡ kept → ⊥) → asksIn kind itsContents found ≡ accepted x → none ≡ x
 silent-in kind none n e = accepted-is e
 silent-in kind (some p) n e = known-silent kind (p .at) (p .bytes) n e
-
-as-accepted : (j : Judged) → tagOf judged-type.the-type j ≡ 0 → (p : Places) × (j ≡ Accepted p)
-as-accepted (Accepted p) h = (p, refl)
-as-accepted (Refused r) h = absurd (omega arith)
 
 not-kept : (k : Kind) → (tagOf kind-type.the-type k ≡ 0) ⊎ ((tagOf kind-type.the-type k ≡ 1) ⊎ (tagOf kind-type.the-type k ≡ 2)) → kindMeant k ≡ kept → ⊥
 not-kept OneName h e = let z : _≡_ {A = ℕ} 0 1 = cc in omega arith

@@ -1,3 +1,4 @@
+pub mod Tags
 pub mod ContentLaws
 pub mod FrameSteps
 pub mod PlaceLaws

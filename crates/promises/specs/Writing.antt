@@ -1,14 +1,14 @@
 -- Wrong writers: one that refuses everything, one that never refuses, one that writes nothing, one that writes one fixed payload, one that copies its input as a rewriting. Each promise of a rewriting and of the writer from lists rules them out, and so does that of its C call. What comes back is the answer and the output's bytes.
 use Prim.Native.Nat.{ℕ}
-use mathlib.Core.Bool.{true, false}
+use mathlib.Core.Bool.{false}
 use mathlib.Core.List.{List, [], _∷_}
 use mathlib.Core.Option.{some}
 use mathlib.Core.Path.{_≡_, refl, ap, sym, subst, _∙_}
 use native.Mathlib.Omega.{arith}
-use borrow.Author.Tests.{eq-eqb}
 use lib.Dec.{eqb}
 use lib.ListN.{length, take, drop}
 use lib.Seq.{take-at}
+use Rattle.format.specs.Laws.Bytes.{same-self}
 use Rattle.format.specs.Bytes.{ascii, same}
 use Rattle.format.specs.Canonical.{writePart, writeRows, writeTable, unlessEmpty, keepRows, bare, writeContent, writeSubsections, rewriteNames, canonical, canonicalNames, rewriteMetadata, canonicalOf, canonicalMetadata, canonicalHints}
 use Rattle.format.specs.Examples.{hex, digit}
@@ -69,11 +69,6 @@ module _ {Lent : Type 0} (wanted : Lent → Judged (List ℕ)) where
     pub two : same (one .found) (another .found) ≡ false
     pub changed : same (one .input .1) (outputAfter (wanted (one .input .0)) (one .input .1)) ≡ false
     pub apart : eqb (bad .offset) (worse .offset) ≡ false
-
-same-self : (x : List ℕ) → same x x ≡ true
-unfolding same
-same-self [] = refl
-same-self (x ∷ xs) = rw (eq-eqb x x refl, same-self xs)
 
 differ : (x y : List ℕ) → same x y ≡ false → y ≡ x → ⊥
 differ x y e is = not-both (sym (same-self x) ∙ ap (same x) (sym is) ∙ e)

@@ -1,6 +1,6 @@
 -- Why the text reader is right: the table of valid UTF-8 by comparisons, and what is wanted behind a first byte.
 use Prim.Native.Nat.{ℕ, suc, _+_, _-_, _≤_, _<_}
-use mathlib.Core.Bool.{Bool, true, false, cond, _&&_}
+use mathlib.Core.Bool.{true, false, cond, _&&_}
 use mathlib.Core.List.{List, [], _∷_}
 use mathlib.Core.Path.{_≡_, refl, ap, _∙_}
 use native.Mathlib.Numerals.{add-one}
@@ -10,7 +10,7 @@ use borrow.Author.Tests.{le-leb, lt-leb, ltb-true, ltb-false, eqb-true, eqb-fals
 use lib.Dec.{T, ltb, leb, leb→le, eqb}
 use lib.ListN.{length, getD}
 use lib.Seq.{slice, slice-cons, length-slice}
-use Rattle.format.specs.Laws.Outcomes.{byTest}
+use Rattle.format.specs.Laws.Outcomes.{byTest, and-false}
 use Rattle.format.specs.Text.{Range, _to_, inRange, following, wellFormed, continues, utf8}
 use Rattle.reading.specs.Texts.{secondOf, Stands}
 
@@ -129,11 +129,7 @@ too-short : (rs : List Range) (bs : List ℕ) → length bs < length rs → cont
 unfolding continues
 too-short [] bs h = absurd (omega arith)
 too-short (r ∷ rs) [] h = refl
-too-short (r ∷ rs) (b ∷ bs) h = rw (too-short rs bs (omega arith)) (andFalse (inRange b r))
-  where
-    andFalse : (x : Bool) → (x && false) ≡ false
-    andFalse true = refl
-    andFalse false = refl
+too-short (r ∷ rs) (b ∷ bs) h = rw (too-short rs bs (omega arith)) (and-false (inRange b r))
 
 module _ {s : List ℕ} {i end : ℕ} (lent : end ≤ length s) where
   pub wants-first : i < end → (rs : List Range) → rs ≡ following (getD s i 0) wellFormed → Wants s i end (i + 1) rs

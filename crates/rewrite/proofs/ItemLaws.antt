@@ -34,6 +34,7 @@ use Rattle.metadata.specs.Judgements.{judged as saysOf}
 use Rattle.metadata.specs.declared.Judged.{Judged}
 use Rattle.metadata.specs.declared.Judged.the-variants.{Accepted, Refused as NotAccepted}
 use Rattle.metadata.proofs.Judged as judged-type
+use Rattle.metadata.proofs.Tags.{as-accepted}
 use Rattle.reading.specs.Cursors.{Inside, left}
 use Rattle.reading.specs.declared.Cursor.{Cursor}
 use Rattle.reading.proofs.Laws.{left-all}
@@ -113,10 +114,6 @@ pub ruleset item-steps = (items-count, items-ordered, items-groups, items-fit, i
 as-refused : (j : Judged) → tagOf judged-type.the-type j ≡ 1 → j ≡ NotAccepted (refusalIn j)
 as-refused Accepted h = absurd (omega arith)
 as-refused (NotAccepted r) h = refl
-
-as-accepted : (j : Judged) → tagOf judged-type.the-type j ≡ 0 → j ≡ Accepted
-as-accepted Accepted h = refl
-as-accepted (NotAccepted r) h = absurd (omega arith)
 
 abbrev whole : List ℕ → Cursor
 whole p = record { at = 0; end = length p }

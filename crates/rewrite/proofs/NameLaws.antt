@@ -1,7 +1,7 @@
 -- The name payload: judged whole, then rewritten.
 use Prim.Native.Nat.{ℕ}
 use mathlib.Core.List.{List}
-use mathlib.Core.Path.{_≡_, refl}
+use mathlib.Core.Path.{_≡_}
 use native.Mathlib.Omega.{arith}
 use borrow.Author.Needs.{needs}
 use denote.Enum.Declared.{tagOf}
@@ -20,19 +20,10 @@ use Rattle.format.specs.declared.Written.the-variants.{Refused as NotWritten}
 use Rattle.reading.specs.declared.Cursor.{Cursor}
 use Rattle.reading.proofs.Laws.{left-all}
 use Rattle.names.specs.Places.{Judges, Accepts, refusalIn}
-use Rattle.names.specs.declared.places.Places.{Places}
 use Rattle.names.specs.declared.judging.Judged.{Judged}
-use Rattle.names.specs.declared.judging.Judged.the-variants.{Accepted as IsAccepted, Refused as IsRefused}
 use Rattle.names.proofs.judging.Judged as judged-type
+use Rattle.names.proofs.Tags.{as-refused, as-accepted}
 use Rattle.rewrite.specs.Subsections.{PayloadStands, KnownPayload, RewritesNames}
-
-as-refused : (j : Judged) → tagOf judged-type.the-type j ≡ 1 → j ≡ IsRefused (refusalIn j)
-as-refused (IsAccepted p) h = absurd (omega arith)
-as-refused (IsRefused r) h = refl
-
-as-accepted : (j : Judged) → tagOf judged-type.the-type j ≡ 0 → (p : Places) × (j ≡ IsAccepted p)
-as-accepted (IsAccepted p) h = (p, refl)
-as-accepted (IsRefused r) h = absurd (omega arith)
 
 abbrev whole : List ℕ → Cursor
 whole p = record { at = 0; end = length p }

@@ -3,7 +3,7 @@ use Prim.Native.Nat.{ℕ, _+_, _≤_}
 use mathlib.Core.List.{List}
 use mathlib.Core.Logic.{_⊎_, ⊎-elim}
 use mathlib.Core.Option.{Option, some}
-use mathlib.Core.Path.{_≡_, refl, sym, ap, subst, _∙_}
+use mathlib.Core.Path.{_≡_, sym, ap, subst, _∙_}
 use native.Mathlib.Omega.{arith}
 use borrow.Author.Needs.{needs}
 use denote.Enum.Declared.{tagOf}
@@ -28,6 +28,7 @@ use Rattle.format.specs.declared.HintAnswer.the-variants.{None as NoHint, Refus
 use Rattle.format.specs.declared.Place.{Place}
 use Rattle.format.specs.declared.Refusal.{Refusal}
 use Rattle.format.proofs.Answer as answer-type
+use Rattle.format.proofs.Tags.{no-answer}
 use Rattle.reading.specs.Cursors.{Inside, left}
 use Rattle.reading.specs.declared.Cursor.{Cursor}
 use Rattle.reading.proofs.PartSteps.{take-drop}
@@ -100,11 +101,6 @@ module _ (format : List ℕ) (f : FunctionIndex) (at : CodeOffset) (m : List ℕ
 pub ruleset metadata-questions = (payload-inside, cursor-inside, data-not-there, data-there, needs)
 
 -- Hints
-no-answer : (a : Answer) → tagOf answer-type.the-type a ≡ 0 → a ≡ None
-no-answer None h = refl
-no-answer (Found p) h = absurd (omega arith)
-no-answer (Refused r) h = absurd (omega arith)
-
 module _ (f : FunctionIndex) (at : CodeOffset) (m : List ℕ) (a : Answer) (e : answered a ≡ asPlace (customPayload hintSection m)) where
   pub hint-refused : {r : Refusal} → a ≡ Refused r → hintAnswered (NotHinted r) ≡ askHintThrough f at m
   unfolding askHintThrough through

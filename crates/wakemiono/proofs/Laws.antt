@@ -13,7 +13,7 @@ use Rattle.format.specs.Metadata.{hintAnswered}
 use Rattle.format.specs.Outputs.{writtenAs, Writes}
 use Rattle.format.specs.Questions.{answered}
 use Rattle.format.specs.declared.Answer.{Answer}
-use Rattle.format.specs.declared.Answer.the-variants.{None, Found, Refused}
+use Rattle.format.specs.declared.Answer.the-variants.{Found, Refused}
 use Rattle.format.specs.declared.Hint.{Hint}
 use Rattle.format.specs.declared.Hint.the-variants.{Unlikely, Likely}
 use Rattle.format.specs.declared.HintAnswer.{HintAnswer}
@@ -23,12 +23,14 @@ use Rattle.format.specs.declared.Refusal.{Refusal}
 use Rattle.format.specs.declared.Written.{Written}
 use Rattle.format.specs.declared.Written.the-variants.{Length, Refused as NotWritten}
 use Rattle.format.proofs.Answer as answer-type
+use Rattle.format.proofs.Tags.{no-answer}
 use Rattle.format.proofs.Hint as likelihood-type
 use Rattle.format.proofs.HintAnswer as hint-type
 use Rattle.metadata.specs.Judgements.{judged}
 use Rattle.metadata.specs.declared.Judged.{Judged}
-use Rattle.metadata.specs.declared.Judged.the-variants.{Accepted, Refused as NotAccepted}
+use Rattle.metadata.specs.declared.Judged.the-variants.{Refused as NotAccepted}
 use Rattle.metadata.proofs.Judged as judged-type
+use Rattle.metadata.proofs.Tags.{as-accepted}
 use Rattle.names.specs.Places.{verdictOf, Judges}
 use Rattle.names.specs.declared.judging.Judged.{Judged as NamesJudged}
 use Rattle.names.specs.declared.judging.Judged.the-variants.{Accepted as NamesAccepted, Refused as NamesRefused}
@@ -38,9 +40,10 @@ use Rattle.walk.specs.Surveys.{counted, sectionAnswered}
 use Rattle.walk.specs.declared.Counted.{Counted}
 use Rattle.walk.specs.declared.Counted.the-variants.{Count, Refused as NotCounted}
 use Rattle.walk.specs.declared.survey.SectionAnswer.{SectionAnswer}
-use Rattle.walk.specs.declared.survey.SectionAnswer.the-variants.{None as NoSection, Found as ASection, Refused as NotFound}
+use Rattle.walk.specs.declared.survey.SectionAnswer.the-variants.{Found as ASection, Refused as NotFound}
 use Rattle.walk.specs.declared.survey.SectionPlace.{SectionPlace}
 use Rattle.walk.proofs.survey.SectionAnswer as section-type
+use Rattle.walk.proofs.Tags.{no-section}
 use Rattle.wakemiono.specs.Boundary.{wmNone, wmFound, wmRefused, wmPlace, wmSection, wmCount, wmJudged, wmHinted, wmHint, WmWrites}
 use Rattle.wakemiono.specs.declared.WmAnswer.{WmAnswer}
 
@@ -64,11 +67,6 @@ module _ (w : Written) where
   written-is a n e q = rw e q
 
 -- a section
-no-section : (s : SectionAnswer) → tagOf section-type.the-type s ≡ 0 → s ≡ NoSection
-no-section NoSection h = refl
-no-section (ASection p) h = absurd (omega arith)
-no-section (NotFound r) h = absurd (omega arith)
-
 module _ (s : SectionAnswer) where
   pub section-none : tagOf section-type.the-type s ≡ 0 → wmNone ≡ wmSection (sectionAnswered s)
   section-none h = rw (no-section s h)
@@ -80,14 +78,9 @@ module _ (s : SectionAnswer) where
   section-is p e = rw e
 
 -- a place
-no-place : (x : Answer) → tagOf answer-type.the-type x ≡ 0 → x ≡ None
-no-place None h = refl
-no-place (Found p) h = absurd (omega arith)
-no-place (Refused r) h = absurd (omega arith)
-
 module _ (x : Answer) where
   pub place-none : tagOf answer-type.the-type x ≡ 0 → wmNone ≡ wmPlace (answered x)
-  place-none h = rw (no-place x h)
+  place-none h = rw (no-answer x h)
 
   pub place-refused : (a : WmAnswer) (r : Refusal) → x ≡ Refused r → a ≡ wmRefused (numberOf (r .reason)) (r .offset .0) → a ≡ wmPlace (answered x)
   place-refused a r e q = rw e q
@@ -96,16 +89,12 @@ module _ (x : Answer) where
   place-is p e = rw e
 
 -- a judgement
-is-accepted : (j : Judged) → tagOf judged-type.the-type j ≡ 0 → j ≡ Accepted
-is-accepted Accepted h = refl
-is-accepted (NotAccepted r) h = absurd (omega arith)
-
 module _ (j : Judged) (n : ℕ) where
   pub judged-refused : (a : WmAnswer) (r : Refusal) → j ≡ NotAccepted r → a ≡ wmRefused (numberOf (r .reason)) (r .offset .0) → a ≡ wmJudged n (judged j)
   judged-refused a r e q = rw e q
 
   pub judged-is : (a : WmAnswer) → tagOf judged-type.the-type j ≡ 0 → a ≡ wmFound 0 0 n → a ≡ wmJudged n (judged j)
-  judged-is a h e = rw (is-accepted j h) e
+  judged-is a h e = rw (as-accepted j h) e
 
 module _ (j : NamesJudged) (n : ℕ) where
   pub names-refused : (a : WmAnswer) (r : Refusal) → j ≡ NamesRefused r → a ≡ wmRefused (numberOf (r .reason)) (r .offset .0) → a ≡ wmJudged n (verdictOf j)

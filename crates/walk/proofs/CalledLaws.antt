@@ -1,19 +1,20 @@
 -- Comparing a name byte by byte.
 use Prim.Native.Nat.{ℕ, suc, _+_, _-_, _≤_, _<_}
-use mathlib.Core.Bool.{Bool, true, false, _&&_, false≢true}
+use mathlib.Core.Bool.{Bool, true, false, _&&_}
 use mathlib.Core.List.{List, [], _∷_, _++_}
 use mathlib.Core.Path.{_≡_, refl, sym, ap, _∙_}
 use native.Mathlib.Nat.{add-zero}
 use native.Mathlib.Numerals.{add-one}
 use native.Mathlib.Omega.{arith}
 use borrow.Author.Needs.{needs}
-use borrow.Author.Tests.{eq-eqb, ne-eqb, eqb-true}
+use borrow.Author.Tests.{eq-eqb, ne-eqb}
 use lib.Dec.{eqb}
 use lib.ListN.{length, getD, take, drop, length-append}
 use lib.Seq.{slice, slice-cons, slice-empty, length-slice, drop-cons, drop-length, drop-drop, take-take}
 use Rattle.format.specs.Bytes.{ascii, same}
 use Rattle.format.specs.Walk.{nameSection, hintSection}
-use Rattle.format.specs.Laws.Outcomes.{byTest}
+use Rattle.format.specs.Laws.Bytes.{same-true}
+use Rattle.format.specs.Laws.Outcomes.{byTest, and-false}
 use Rattle.reading.specs.Cursors.{Inside, left}
 use Rattle.reading.specs.declared.Cursor.{Cursor}
 use Rattle.reading.proofs.PartSteps.{take-drop}
@@ -90,11 +91,7 @@ module _ (s : List ℕ) (part : Cursor) (front rest : List ℕ) (i : Inside s pa
 
     module _ {b : Bool} (e : b ≡ same rest (slice (part .at + length front) (part .end) s)) where
       pub rest-differs : b ≡ false → false ≡ same (front ++ rest) (left s part)
-      rest-differs t = sym (both ∙ rw (← e, t) (never-both (same front (slice (part .at) (part .at + length front) s))))
-        where
-          never-both : (b : Bool) → (b && false) ≡ false
-          never-both true = refl
-          never-both false = refl
+      rest-differs t = sym (both ∙ rw (← e, t) (and-false (same front (slice (part .at) (part .at + length front) s))))
 
       pub front-decides : {r : Bool} → b ≡ true → r ≡ same front (slice (part .at) (part .at + length front) s) → r ≡ same (front ++ rest) (left s part)
       front-decides t q = q ∙ sym (both ∙ rw (← e, t) (with-true (same front (slice (part .at) (part .at + length front) s))))
@@ -112,18 +109,11 @@ nameBytes = 110 ∷ 97 ∷ 109 ∷ 101 ∷ []
 abbrev hintBytes : List ℕ
 hintBytes = 109 ∷ 101 ∷ 116 ∷ 97 ∷ 100 ∷ 97 ∷ 116 ∷ 97 ∷ 46 ∷ 99 ∷ 111 ∷ 100 ∷ 101 ∷ 46 ∷ 98 ∷ 114 ∷ 97 ∷ 110 ∷ 99 ∷ 104 ∷ 95 ∷ 104 ∷ 105 ∷ 110 ∷ 116 ∷ []
 
-same-is : (x y : List ℕ) → same x y ≡ true → x ≡ y
-unfolding same
-same-is [] [] e = refl
-same-is [] (b ∷ y) e = absurd (false≢true e)
-same-is (a ∷ x) [] e = absurd (false≢true e)
-same-is (a ∷ x) (b ∷ y) e = byTest (eqb a b) (λ t. let z = same-is x y (rw t at e) in rw (eqb-true a b t, z)) (λ t. absurd (false≢true (rw t at e)))
-
 module _ {x : List ℕ} {r : Bool} where
   pub calls-name : r ≡ same nameBytes x → r ≡ true → Calls x Name
   unfolding nameSection hintSection ascii same
   calls-name e t =
-      let is = same-is nameBytes x (sym e ∙ t) in
+      let is = same-true nameBytes x (sym e ∙ t) in
       rw (← is) (record { as-name = refl; as-hints = refl })
 
   module _ {q : Bool} (e : r ≡ same nameBytes x) (t : r ≡ false) (f : q ≡ same hintBytes x) where

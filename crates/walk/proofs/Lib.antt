@@ -1,3 +1,4 @@
+pub mod Tags
 pub mod RuleLaws
 pub mod CalledLaws
 pub mod StepLaws

@@ -19,6 +19,7 @@ use Rattle.format.specs.declared.Answer.the-variants.{None as NoAnswer, Found a
 use Rattle.format.specs.declared.Place.{Place}
 use Rattle.format.specs.declared.Refusal.{Refusal}
 use Rattle.format.proofs.Answer as answer-type
+use Rattle.format.proofs.Tags.{no-answer}
 use Rattle.reading.specs.Cursors.{Inside, left}
 use Rattle.reading.specs.declared.Cursor.{Cursor}
 use Rattle.walk.specs.Sections.{seenOf, sectionOf, CustomInside, SectionInside}
@@ -30,7 +31,7 @@ use Rattle.walk.specs.declared.step.Custom.{Custom}
 use Rattle.walk.specs.declared.step.Custom.the-variants.{None as NotCustom, Named}
 use Rattle.walk.specs.declared.step.Section.{Section}
 use Rattle.walk.specs.declared.step.Step.{Step}
-use Rattle.walk.specs.declared.step.Step.the-variants.{Section as ASection, Done as AtTheEnd, Refused as StepRefused}
+use Rattle.walk.specs.declared.step.Step.the-variants.{Section as ASection, Refused as StepRefused}
 use Rattle.walk.specs.declared.step.Walk.{Walk}
 use Rattle.walk.specs.declared.survey.SectionAnswer.{SectionAnswer}
 use Rattle.walk.specs.declared.survey.SectionAnswer.the-variants.{None, Found as FoundHere, Refused}
@@ -41,13 +42,9 @@ use Rattle.walk.specs.declared.survey.Tally.{Tally}
 use Rattle.walk.proofs.step.Custom as custom-type
 use Rattle.walk.proofs.step.Step as step-type
 use Rattle.walk.proofs.survey.SectionAnswer as section-type
+use Rattle.walk.proofs.Tags.{no-section, at-end}
 
 -- the section at a position
-none-yet : (x : SectionAnswer) → tagOf section-type.the-type x ≡ 0 → x ≡ None
-none-yet None h = refl
-none-yet (FoundHere p) h = absurd (omega arith)
-none-yet (Refused r) h = absurd (omega arith)
-
 module _ {m : List ℕ} {before : SectionAnswer} {here : Bool} {s : Section} where
   pub section-found : {p : SectionPlace} → before ≡ FoundHere p → SectionKept m before here s (FoundHere p)
   section-found e = record { says = rw e }
@@ -57,19 +54,14 @@ module _ {m : List ℕ} {before : SectionAnswer} {here : Bool} {s : Section} whe
 
   module _ (n : tagOf section-type.the-type before ≡ 0) where
     pub section-here : SectionInside m s → here ≡ true → SectionKept m before here s (FoundHere (record { id = s .id; at = s .at; length = s .contents .end - s .contents .at }))
-    section-here i t = record { says = rw (none-yet before n, t, length-slice (s .contents .at) (s .contents .end) m (i .contents .within)) }
+    section-here i t = record { says = rw (no-section before n, t, length-slice (s .contents .at) (s .contents .end) m (i .contents .within)) }
 
     pub section-elsewhere : here ≡ false → SectionKept m before here s None
-    section-elsewhere t = record { says = rw (none-yet before n, t) }
+    section-elsewhere t = record { says = rw (no-section before n, t) }
 
 pub ruleset sections-kept = (section-found, section-refused, section-here, section-elsewhere, needs)
 
 -- the first payload of a name
-no-answer : (x : Answer) → tagOf answer-type.the-type x ≡ 0 → x ≡ NoAnswer
-no-answer NoAnswer h = refl
-no-answer (FoundAt p) h = absurd (omega arith)
-no-answer (NotAnswered r) h = absurd (omega arith)
-
 not-custom : (c : Custom) → tagOf custom-type.the-type c ≡ 0 → c ≡ NotCustom
 not-custom NotCustom h = refl
 not-custom (Named n p) h = absurd (omega arith)
@@ -113,11 +105,6 @@ found-more : (position : ℕ) (name : List ℕ) (f : Found) (s : AnySection) (j 
 unfolding findAll
 found-more position name f s (accepted ss) = refl
 found-more position name f s (refused n at) = refl
-
-at-end : (x : Step) → tagOf step-type.the-type x ≡ 1 → x ≡ AtTheEnd
-at-end (ASection s w) h = absurd (omega arith)
-at-end AtTheEnd h = refl
-at-end (StepRefused r) h = absurd (omega arith)
 
 -- The loop: what was found, and what the rest of the module will add
 pub record Turn (m : List ℕ) (position : ℕ) (name : List ℕ) (begun walk : Walk) (tally : Tally) : Type 0 where

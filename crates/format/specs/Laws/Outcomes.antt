@@ -41,6 +41,10 @@ pub onBoth {ℓ} : {C : Type ℓ} (a b : Bool) → (a && b) ≡ true → (a ≡ 
 onBoth true b e k = k refl e
 onBoth false b e k = false-true e
 
+pub and-false : (b : Bool) → (b && false) ≡ false
+and-false true = refl
+and-false false = refl
+
 -- by what a reading came to
 pub byOutcome {ℓ} : {A : Type 0} {C : Type ℓ} (r : Outcome A) → ((a : A) (o : ℕ) (bs : List ℕ) → r ≡ got a o bs → C) → ((n at : ℕ) → r ≡ stop n at → C) → C
 byOutcome (got a o bs) f g = f a o bs refl

@@ -4,28 +4,17 @@ use mathlib.Core.Bool.{Bool, true, false, cond, _||_}
 use mathlib.Core.List.{List, [], _∷_}
 use mathlib.Core.Logic.{_≢_}
 use mathlib.Core.Option.{Option, none, some}
-use mathlib.Core.Path.{_≡_, refl, sym, ap, ap₂}
+use mathlib.Core.Path.{_≡_, refl, sym, ap}
 use native.Mathlib.Omega.{arith}
 use borrow.Author.Tests.{eqb-true, eqb-false, eq-eqb, ne-eqb}
 use lib.Dec.{eqb}
 use Rattle.format.specs.Bytes.{ascii, same}
 use Rattle.format.specs.Walk.{Seen, nothing}
+use Rattle.format.specs.Laws.Bytes.{same-true, same-self}
 use Rattle.format.specs.Laws.Outcomes.{byTest, false-true}
 use Rattle.grammar.specs.Modules.{Custom, Section, Among, here, further, Before, fromHere, fromFurther, Called, NameSection, HintSection, Ordered}
 
 -- Called by a name, as a test
-pub same-true : (x y : List ℕ) → same x y ≡ true → x ≡ y
-unfolding same
-same-true [] [] e = refl
-same-true [] (b ∷ y) e = false-true e
-same-true (a ∷ x) [] e = false-true e
-same-true (a ∷ x) (b ∷ y) e = byTest (eqb a b) (λ t. ap₂ (λ c z. c ∷ z) (eqb-true a b t) (same-true x y (rw t at e))) (λ t. false-true (rw t at e))
-
-pub same-self : (x : List ℕ) → same x x ≡ true
-unfolding same
-same-self [] = refl
-same-self (a ∷ x) = rw (eq-eqb a a refl) (same-self x)
-
 abbrev pub calledIn : List ℕ → Option Custom → Bool
 calledIn x none = false
 calledIn x (some c) = same x (c .name)

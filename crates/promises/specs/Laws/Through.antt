@@ -8,6 +8,7 @@ use native.Mathlib.Omega.{arith}
 use lib.ListN.{length, take, drop}
 use Rattle.format.specs.Bytes.{ascii, same}
 use Rattle.format.specs.Demands.{VeryBytes}
+use Rattle.format.specs.Laws.Bytes.{same-true, same-self}
 use Rattle.format.specs.Laws.Found.{payload-lies}
 use Rattle.format.specs.Laws.Laxer.{hint-laxer, table-laxer, filled-laxer}
 use Rattle.format.specs.Laws.Outcomes.{byTest, judged}
@@ -24,7 +25,6 @@ use Rattle.format.specs.declared.CodeOffset.{CodeOffset}
 use Rattle.format.specs.declared.FunctionIndex.{FunctionIndex}
 use Rattle.format.specs.declared.Hint.{Hint}
 use Rattle.format.specs.declared.Hint.the-variants.{Unlikely, Likely}
-use Rattle.grammar.specs.Laws.Order.{same-true, same-self}
 use Rattle.wakemiono.specs.Boundary.{wmNone, wmRefused, wmPlace, wmJudged, wmHint}
 use Rattle.wakemiono.specs.declared.WmAnswer.{WmAnswer}
 use Rattle.promises.specs.Demands.{Moved, PutThrough}

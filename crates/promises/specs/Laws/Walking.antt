@@ -14,6 +14,7 @@ use Rattle.format.specs.Holding.{Framed, Covers, atTheEnd, aSection}
 use Rattle.format.specs.Laws.Options.{not-some, some-is, byOption}
 use Rattle.format.specs.Laws.Outcomes.{byTest, accepted-exactly, refused-exactly}
 use Rattle.format.specs.Laws.Answers.{told-none}
+use Rattle.format.specs.Laws.Bytes.{same-true, same-self}
 use Rattle.format.specs.Laws.Found.{payload-lies}
 use Rattle.format.specs.Laws.Holding.{none-exactly}
 use Rattle.format.specs.Laws.Places.{lies-there, lies-inside}
@@ -27,7 +28,6 @@ use Rattle.grammar.specs.Forgetting.{bareCustom, bareSection, bareSections}
 use Rattle.format.specs.Laws.Tight.{bytes-after}
 use Rattle.grammar.specs.Laws.Modules.{walk-complete}
 use Rattle.grammar.specs.Laws.Numbers.{number-exactly}
-use Rattle.grammar.specs.Laws.Order.{same-true, same-self}
 use Rattle.grammar.specs.Modules.{Custom as MeantCustom, Section as Meant, Among, here, further, Called, Module}
 use Rattle.wakemiono.specs.Boundary.{wmNone, wmFound, wmRefused, wmCount, wmSection, wmPlace}
 use Rattle.wakemiono.specs.declared.WmAnswer.{WmAnswer}
