@@ -1,5 +1,11 @@
 // Where the known subsections lie.
 ghost use Rattle.names.specs.Places.{Puts};
+use crate::kinds::FIELD_NAMES;
+use crate::kinds::FUNCTION_NAMES;
+use crate::kinds::LOCAL_NAMES;
+use crate::kinds::MODULE_NAME;
+use crate::kinds::TAG_NAMES;
+use crate::kinds::TYPE_NAMES;
 use reading::Cursor;
 
 // Where a known subsection's contents lie.
@@ -23,27 +29,27 @@ pub fn placed(places: Places, id: u8, part: Cursor) -> Places
 {
     let here = Sub::At(part);
     match id {
-        0 => Places {
+        MODULE_NAME => Places {
             module: here,
             ..places
         },
-        1 => Places {
+        FUNCTION_NAMES => Places {
             functions: here,
             ..places
         },
-        2 => Places {
+        LOCAL_NAMES => Places {
             locals: here,
             ..places
         },
-        4 => Places {
+        TYPE_NAMES => Places {
             types: here,
             ..places
         },
-        10 => Places {
+        FIELD_NAMES => Places {
             fields: here,
             ..places
         },
-        11 => Places {
+        TAG_NAMES => Places {
             tags: here,
             ..places
         },

@@ -3,8 +3,17 @@ ghost use Prim.Native.Nat.{_+_, _-_, _≤_, _<_};
 ghost use lib.ListN.{length};
 ghost use Rattle.reading.specs.Texts.{SeesAscii, Passes};
 
+// Every byte below this is a character of its own.
+const ASCII_END: u8 = 0x80;
+
 // How many bytes are looked at together, where so many are left.
+const QUARTER: usize = 4;
+
+const HALF: usize = 8;
+
 const BLOCK: usize = 16;
+
+const TWO_BLOCKS: usize = 32;
 
 const BLOCKS: usize = 64;
 
@@ -12,35 +21,35 @@ fn are_four_ascii(s: &[u8], i: usize) -> bool
     requires { ⌜ i + 4 ≤ length (now s) ⌝ }
     ensures { λ r. ⌜ SeesAscii (now (s .entry)) i 4 r ⌝ }
 {
-    (s[i] < 0x80) & (s[i + 1] < 0x80) & (s[i + 2] < 0x80) & (s[i + 3] < 0x80)
+    (s[i] < ASCII_END) & (s[i + 1] < ASCII_END) & (s[i + 2] < ASCII_END) & (s[i + 3] < ASCII_END)
 }
 
 fn are_eight_ascii(s: &[u8], i: usize) -> bool
     requires { ⌜ i + 8 ≤ length (now s) ⌝ }
     ensures { λ r. ⌜ SeesAscii (now (s .entry)) i 8 r ⌝ }
 {
-    are_four_ascii(s, i) & are_four_ascii(s, i + 4)
+    are_four_ascii(s, i) & are_four_ascii(s, i + QUARTER)
 }
 
 fn is_block_ascii(s: &[u8], i: usize) -> bool
     requires { ⌜ i + 16 ≤ length (now s) ⌝ }
     ensures { λ r. ⌜ SeesAscii (now (s .entry)) i 16 r ⌝ }
 {
-    are_eight_ascii(s, i) & are_eight_ascii(s, i + 8)
+    are_eight_ascii(s, i) & are_eight_ascii(s, i + HALF)
 }
 
 fn are_two_blocks_ascii(s: &[u8], i: usize) -> bool
     requires { ⌜ i + 32 ≤ length (now s) ⌝ }
     ensures { λ r. ⌜ SeesAscii (now (s .entry)) i 32 r ⌝ }
 {
-    is_block_ascii(s, i) & is_block_ascii(s, i + 16)
+    is_block_ascii(s, i) & is_block_ascii(s, i + BLOCK)
 }
 
 fn are_blocks_ascii(s: &[u8], i: usize) -> bool
     requires { ⌜ i + 64 ≤ length (now s) ⌝ }
     ensures { λ r. ⌜ SeesAscii (now (s .entry)) i 64 r ⌝ }
 {
-    are_two_blocks_ascii(s, i) & are_two_blocks_ascii(s, i + 32)
+    are_two_blocks_ascii(s, i) & are_two_blocks_ascii(s, i + TWO_BLOCKS)
 }
 
 // Fewer bytes than a block: the first half and the last half of them, which may have bytes in common.
@@ -50,17 +59,17 @@ fn are_few_ascii(s: &[u8], from: usize, to: usize) -> bool
     ensures { λ r. ⌜ SeesAscii (now (s .entry)) from (to - from) r ⌝ }
 {
     let n = to - from;
-    if 8 <= n {
-        return are_eight_ascii(s, from) & are_eight_ascii(s, to - 8);
+    if HALF <= n {
+        return are_eight_ascii(s, from) & are_eight_ascii(s, to - HALF);
     }
-    if 4 <= n {
-        return are_four_ascii(s, from) & are_four_ascii(s, to - 4);
+    if QUARTER <= n {
+        return are_four_ascii(s, from) & are_four_ascii(s, to - QUARTER);
     }
     if n == 0 {
         return true;
     }
     // at most three: the first, the one in the middle and the last
-    (s[from] < 0x80) & (s[from + n / 2] < 0x80) & (s[to - 1] < 0x80)
+    (s[from] < ASCII_END) & (s[from + n / 2] < ASCII_END) & (s[to - 1] < ASCII_END)
 }
 
 // As far as four blocks at a time are ASCII.

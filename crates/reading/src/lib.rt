@@ -28,6 +28,15 @@ pub enum PartRead {
     Refused(Refusal),
 }
 
+// A byte of a number holds seven bits; one from here on says that another follows.
+const FOLLOWED: u32 = 128;
+
+// How many bytes may follow the first of a number.
+const MOST_FOLLOWING: u32 = 4;
+
+// The fifth byte has the last four of 32 bits.
+const GREATEST_FIFTH: u32 = 0x0F;
+
 // A byte as a number: where a byte is read for its value, nothing is left to show of its range.
 pub fn wide(x: u8) -> u32
     ensures { λ r. ⌜ r ≡ x ⌝ }
@@ -47,7 +56,7 @@ impl Cursor {
             return self.long_number(s);
         }
         let first = wide(s[at]);
-        if 128 <= first {
+        if FOLLOWED <= first {
             return self.long_number(s);
         }
         NumberRead::Value(first, Cursor { at: at + 1, end })
@@ -63,12 +72,12 @@ impl Cursor {
         let mut value: u32 = 0;
         let mut weight: u32 = 1;
         let mut i = at;
-        let mut more: u32 = 4;
+        let mut more: u32 = MOST_FOLLOWING;
         while i < end {
             let b = wide(s[i]);
             let next = Cursor { at: i + 1, end };
             if more == 0 {
-                if b <= 0x0F {
+                if b <= GREATEST_FIFTH {
                     return NumberRead::Value(value + weight * b, next);
                 }
                 return NumberRead::Refused(Refusal {
@@ -76,11 +85,11 @@ impl Cursor {
                     offset: Offset(at),
                 });
             }
-            if b < 128 {
+            if b < FOLLOWED {
                 return NumberRead::Value(value + weight * b, next);
             }
-            value = value + weight * (b % 128);
-            weight = weight * 128;
+            value = value + weight * (b % FOLLOWED);
+            weight = weight * FOLLOWED;
             more = more - 1;
             i = i + 1;
         }

@@ -1,4 +1,4 @@
-// Valid UTF-8, by byte ranges.
+// Valid UTF-8, by the byte ranges of the Unicode Standard's table, whose numbers stand here as they do there.
 ghost use mathlib.Core.Path.{_≡_};
 ghost use Prim.Native.Nat.{_≤_, _<_};
 ghost use lib.ListN.{length};

@@ -16,6 +16,17 @@ use reading::NumberRead;
 use reading::PartRead;
 use reading::text::is_text;
 
+// A hint's data is one byte.
+const HINT_SIZE: usize = 1;
+
+// The data of a hint is below this: 0 is unlikely, 1 likely.
+const HINT_VALUES: u8 = 2;
+
+// A hint in its fewest bytes is this byte, its size, and its data.
+const SHORT_SIZE: u8 = 1;
+
+const SHORT_HINT: usize = 2;
+
 // What a row's value is: a name, data of any size, or a branch hint.
 pub enum Item {
     Name,
@@ -48,8 +59,8 @@ fn is_hint(s: &[u8], part: Cursor) -> bool
     ensures { λ r. ⌜ r ≡ isSome (hintOf (left (now (s .entry)) part)) ⌝ }
 {
     let at = part.at;
-    if part.end - at == 1 {
-        return s[at] < 2;
+    if part.end - at == HINT_SIZE {
+        return s[at] < HINT_VALUES;
     }
     false
 }
@@ -100,11 +111,11 @@ fn is_short_hint(s: &[u8], c: Cursor) -> bool
     ensures { λ r. ⌜ r ≡ isShortHint (left (now (s .entry)) c) ⌝ }
 {
     let at = c.at;
-    if c.end - at < 2 {
+    if c.end - at < SHORT_HINT {
         return false;
     }
-    if s[at] == 1 {
-        return s[at + 1] < 2;
+    if s[at] == SHORT_SIZE {
+        return s[at + 1] < HINT_VALUES;
     }
     false
 }

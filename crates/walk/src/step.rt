@@ -110,7 +110,9 @@ fn after_size(m: &[u8], walk: Walk, id: u8, contents: Cursor, next: usize) -> St
     }
 }
 
-const PREAMBLE: [u8; 8] = [0x00, 0x61, 0x73, 0x6D, 0x01, 0x00, 0x00, 0x00];
+const PREAMBLE_LENGTH: usize = 8;
+
+const PREAMBLE: [u8; PREAMBLE_LENGTH] = [0x00, 0x61, 0x73, 0x6D, 0x01, 0x00, 0x00, 0x00];
 
 const NOTHING: Seen = Seen {
     rank: 0,
@@ -124,16 +126,19 @@ impl Walk {
     pub fn begin(m: &[u8]) -> Began
         ensures { λ r. ⌜ Begins (now (m .entry)) r ⌝ }
     {
-        if m.len() < 8 {
+        if m.len() < PREAMBLE_LENGTH {
             return Began::Refused(Refusal {
                 reason: Reason::NoPreamble,
                 offset: Offset(0),
             });
         }
-        let front = Cursor { at: 0, end: 8 };
+        let front = Cursor {
+            at: 0,
+            end: PREAMBLE_LENGTH,
+        };
         if is_called(m, front, &PREAMBLE) {
             return Began::At(Walk {
-                at: 8,
+                at: PREAMBLE_LENGTH,
                 seen: NOTHING,
             });
         }

@@ -10,6 +10,8 @@ ghost use Rattle.writing.specs.Wrote.{Wrote};
 // As many digits as the greatest 64-bit number has.
 const MOST_DIGITS: usize = 20;
 
+const TEN: u64 = 10;
+
 // The digit 0 in ASCII: the others follow it.
 const ZERO: u8 = b'0';
 
@@ -47,9 +49,9 @@ pub fn put_decimal(out: &mut [u8], at: usize, n: u64) -> usize
     let mut text = [0u8; MOST_DIGITS];
     let mut first = MOST_DIGITS - 1;
     let mut rest = n;
-    while 10 <= rest {
-        text[first] = ZERO + (rest % 10) as u8;
-        rest = rest / 10;
+    while TEN <= rest {
+        text[first] = ZERO + (rest % TEN) as u8;
+        rest = rest / TEN;
         first -= 1;
     }
     text[first] = ZERO + rest as u8;
