@@ -12,9 +12,7 @@ use Rattle.format.specs.Names.{known, knownKind, contents, subsections, payload
 use Rattle.format.specs.Numbers.{number, groups}
 use Rattle.format.specs.Parts.{sized}
 use Rattle.format.specs.Reading.{Judged, refused, verdict}
-use Rattle.format.specs.Refusals.{numberOf}
 use Rattle.format.specs.Tables.{lookup, rows, table}
-use Rattle.format.specs.declared.Reason.the-variants.{NoPreamble, PastItsPart}
 use Rattle.metadata.specs.Judgements.{judged}
 use Rattle.names.specs.Places.{Judges, verdictOf}
 use Rattle.names.proofs.Verdicts.{verdict-is}
@@ -77,7 +75,3 @@ metadata-judge-hints = judges-rightly (λ p r meets. meets) hints-verdicts
 
 pub wm-hints-judge : JudgesRightly (λ p a. a ≡ wmJudged (length p) (verdict (judgeMetadata hintItem 0 p))) saysVerdict
 wm-hints-judge = judges-rightly (λ p a meets. ap saysVerdict meets ∙ verdict-said (length p) (verdict (judgeMetadata hintItem 0 p))) hints-verdicts
-
--- The number of a reason: a function that gives one number for all
-pub reason-number : (n : ℕ) → RuledOut (λ reason r. r ≡ numberOf reason) (λ _ r. r ≡ n)
-reason-number n = by-two-inputs {says = λ r. r} (λ reason r meets. meets) (λ r. some r) (eqb 1) NoPreamble PastItsPart refl refl refl refl n

@@ -2,6 +2,7 @@ pub mod Determined
 pub mod RuledOut
 pub mod Answers
 pub mod Judging
+pub mod Helping
 pub mod FirstEntries
 pub mod Stopping
 pub mod Asking

@@ -19,8 +19,11 @@ use Rattle.format.specs.Text.{utf8, continues, following, wellFormed}
 use Rattle.format.specs.Walk.{preamble, begins, greatestId, isCustom, isCode, isData, rank, custom, isCalled, nameSection, hintSection, nothing, seeing, idRules, nameRules, section, step, sections, framing, walk, sectionCount, sectionAt, payloadOf, payloadIn, customPayload}
 use Rattle.walk.specs.Sections.{seenOf}
 use Rattle.walk.specs.Steps.{Begins, Steps}
-use Rattle.walk.specs.Surveys.{counted, sectionAnswered, sectionPlace}
+use Rattle.walk.proofs.AnswerLaws.{count-refused, count-found}
+use Rattle.walk.specs.Surveys.{counted, sectionAnswered, sectionPlace, Surveys}
 use Rattle.walk.specs.declared.survey.SectionPlace.{SectionPlace}
+use Rattle.walk.specs.declared.survey.Surveyed.{Surveyed}
+use Rattle.walk.specs.declared.survey.Surveyed.the-variants.{Done as WholeSurveyed, Refused as NotSurveyed}
 use Rattle.walk.specs.declared.step.Began.{Began}
 use Rattle.walk.specs.declared.step.Began.the-variants.{At, Refused as NotBegun}
 use Rattle.walk.specs.declared.step.Step.{Step}
@@ -59,6 +62,18 @@ count = counts-rightly (λ m r meets. meets)
 
 pub wm-walk : CountsRightly (λ m a. a ≡ wmCount (sectionCount m)) saysCount
 wm-walk = counts-rightly (λ m a meets. ap saysCount meets ∙ count-said (sectionCount m))
+
+-- the one pass that all questions of the walk share, whichever position and name it looks for
+abbrev countSurveyed : Surveyed → Judged ℕ
+countSurveyed (WholeSurveyed t) = accepted (t .count)
+countSurveyed (NotSurveyed r) = refused (numberOf (r .reason)) (r .offset .0)
+
+survey-told : (position : ℕ) (name : List ℕ) → Tells (λ m r. Surveys m position name r) countSurveyed sectionCount
+survey-told position name m (WholeSurveyed t) meets = count-found meets refl
+survey-told position name m (NotSurveyed r) meets = count-refused meets refl
+
+pub survey : (position : ℕ) (name : List ℕ) → CountsRightly (λ m r. Surveys m position name r) countSurveyed
+survey position name = counts-rightly (survey-told position name)
 
 -- the section at a position: an empty one, one of a byte; what is refused is damaged behind it
 abbrev sectionWanted : List ℕ × ℕ → Judged (Option SectionPlace)
