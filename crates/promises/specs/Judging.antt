@@ -1,7 +1,6 @@
 -- Wrong judges: one that refuses everything, one that accepts everything, one that gives every refusal at one offset, and one that checks a map's first entry and waves the others through. Each judging call's promise rules them out, and so does that of its C call.
 use Prim.Native.Nat.{ℕ}
 use mathlib.Core.Bool.{false}
-use mathlib.Core.Option.{some}
 use mathlib.Core.Path.{_≡_, refl, ap, subst, _∙_}
 use borrow.Author.Tests.{eq-eqb}
 use lib.Dec.{eqb}

@@ -9,7 +9,7 @@ use borrow.Author.Tests.{le-leb}
 use lib.Dec.{leb·suc-zero}
 use lib.ListN.{length, getD}
 use lib.Seq.{slice, slice-empty}
-use Rattle.format.specs.Text.{Range, _to_, inRange, following, wellFormed, continues, utf8}
+use Rattle.format.specs.Text.{Range, inRange, following, wellFormed, continues, utf8}
 use Rattle.reading.specs.Texts.{between, secondOf, Begins, Passes, Stands}
 use Rattle.reading.proofs.TextLaws.{later, noByte, wants-ascii, wants-none, wants-two, wants-three, wants-four, wants-no-more, any-second, Wants, wants-first, wants-next, wants-other, wants-more, stands-some, stands-none}
 

@@ -75,9 +75,6 @@ module _ {read : Reader (Option Part)} {s : List ℕ} {c next : Cursor} {x : See
         let near : next .at ≤ c .end = rw e at (r .ahead) in
         record { ahead = omega arith; within = omega (arith, i .within) }
 
-    pub found-before : Seeks read s c x → x ≡ Found part next → part .end ≤ c .end
-    found-before r e = let same = rw e at (r .same-part) in same .1
-
     pub found-part : Inside s c → Seeks read s c x → x ≡ Found part next → Inside s part
     found-part i r e = let same = rw e at (r .same-part) in record { ahead = same .0; within = omega (arith, same .1, i .within) }
 

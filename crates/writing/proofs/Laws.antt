@@ -5,15 +5,13 @@ use mathlib.Core.Path.{_≡_, refl, ap, _∙_, sym}
 use native.Mathlib.Nat.{pow-succ', add-zero, zero-add}
 use native.Mathlib.Numerals.{add-one}
 use native.Mathlib.Omega.{arith}
-use borrow.Author.Tests.{lt-ltb, le-ltb, ltb-true, ltb-false}
-use lib.Dec.{ltb}
+use borrow.Author.Tests.{lt-ltb, le-ltb}
 use lib.ListN.{length, take, drop, set, getD, length-set, length-append, length-take, length-drop, take-append-drop, drop-of-length-le}
 use lib.Seq.{set-split, take-suc, take-all, take-at, drop-at, drop-drop, drop-cons, drop-set-lt, getD-set-same}
 use Rattle.format.specs.Reading.{Judged, accepted}
 use Rattle.format.specs.Listing.{digits, decimal}
 use Rattle.format.specs.Outputs.{Writes}
 use Rattle.format.specs.Laws.Listing.{digits-enough}
-use Rattle.format.specs.Laws.Outcomes.{byTest}
 use Rattle.format.specs.Laws.Outputs.{writes-all}
 use Rattle.format.specs.declared.Written.the-variants.{Length}
 use Rattle.writing.specs.Wrote.{Wrote}
@@ -91,19 +89,6 @@ digits-last n after h = rw (lt-ltb n 10 h, digits)
 digits-more : (n : ℕ) (after : List ℕ) → 10 ≤ n → digits (suc n) n after ≡ digits (suc (n / 10)) (n / 10) ((48 + n % 10) ∷ after)
 unfolding digits
 digits-more n after h = rw (le-ltb n 10 h, digits) (digits-enough n (suc (n / 10)) (n / 10) ((48 + n % 10) ∷ after) (omega arith) (omega arith))
-
-digits-short : (room n : ℕ) (after : List ℕ) → n < 10 ^ suc room → length (digits (suc n) n after) ≤ suc room + length after
-digits-short zero n after h = rw (digits-last n after (omega arith)) (omega arith)
-digits-short (suc room) n after h =
-    byTest (ltb n 10)
-    (λ t. rw (digits-last n after (ltb-true n 10 t)) (omega arith))
-    (λ t. rw (digits-more n after (ltb-false n 10 t))
-    (omega (arith, digits-short room (n / 10) ((48 + n % 10) ∷ after) (omega (arith, pow-succ' 10 (suc room))))))
-
--- 20 digits hold every 64-bit number
-pub decimal-short : (n : ℕ) → n < 2 ^ 64 → length (decimal n) ≤ 20
-unfolding decimal
-decimal-short n h = digits-short 19 n [] (omega arith)
 
 -- The loop that finds digits: those behind `first` stand in `text`, and `rest` has the others, which fit before them
 pub record Found (n : ℕ) (text : List ℕ) (first rest : ℕ) : Type 0 where

@@ -1,32 +1,26 @@
 -- A rewriting that is as long as its payload is the payload: every number was in its fewest bytes already, and nothing empty was left out.
 use Prim.Native.Nat.{ℕ, _+_, _≤_}
-use mathlib.Core.List.{List, _++_}
+use mathlib.Core.List.{List}
 use mathlib.Core.Option.{some}
 use mathlib.Core.Path.{_≡_, refl, sym, ap, _∙_}
 use native.Mathlib.Omega.{arith}
 use lib.ListN.{length, length-append}
 use Rattle.format.specs.Bytes.{Bytes}
-use Rattle.format.specs.Reading.{got, Reader, filling, accepted}
-use Rattle.format.specs.Numbers.{number, shortest}
+use Rattle.format.specs.Reading.{got, Reader}
+use Rattle.format.specs.Numbers.{shortest}
 use Rattle.format.specs.Parts.{Part}
 use Rattle.format.specs.Tables.{Table, row, size, table}
-use Rattle.format.specs.Names.{Kind, Content, namesBy, payload, judgeNames}
-use Rattle.format.specs.Metadata.{metadata, judgeMetadata}
+use Rattle.format.specs.Names.{Kind, Content, namesBy, payload}
 use Rattle.format.specs.Canonical.{writePart, writeRows, writeTable, unlessEmpty, keepRows, trim, writeContent, writeSubsections, rewriteNames, rewriteMetadata}
-use Rattle.format.specs.Laws.Outcomes.{inTurn, ended, judged}
 use Rattle.format.specs.Laws.Options.{some-is, inThen, byOption}
 use Rattle.format.specs.Laws.Numbers.{shortest-mono, shortest-positive}
 use Rattle.format.specs.Laws.Tight.{tight-whole}
-use Rattle.format.specs.Laws.Codecs.{Codec, Sorted, end, next, number-sound, table-codec, writePart-mono}
+use Rattle.format.specs.Laws.Codecs.{Codec, Sorted, end, next, table-codec, writePart-mono}
 use Rattle.format.specs.Laws.Tables.{size-keep, kept-rows, rows-shorter}
 use Rattle.format.specs.Laws.Groups.{groups-shorter}
 use Rattle.format.specs.Laws.Names.{ContentFine, singleFine, namesFine, namesByFine, wholeFine, SubFine, payload-sound}
 use Rattle.format.specs.Laws.Trimming.{trim-shorter}
 use Rattle.format.specs.Laws.CanonicalNames.{subsections-shorter}
-
--- a number that takes its fewest bytes
-pub number-tight : (o : ℕ) (bs : List ℕ) {v o′ : ℕ} {rest : List ℕ} → Bytes bs → number o bs ≡ got v o′ rest → length (shortest v) + length rest ≡ length bs → bs ≡ shortest v ++ rest
-number-tight o bs h e long = number-sound o bs e .tight .same h long
 
 -- What is left out makes a writing shorter: where it is as long, nothing was left out
 module _ {B : Type 0} (write : Table B → List ℕ) where
@@ -94,10 +88,6 @@ module _ (kindOf : ℕ → Kind) where
       let stays = subsections-unchanged (r .sorted) (omega (arith, long, short, r .shorter)) in
       ap writeSubsections stays ∙ tight-whole rest (r .tight) (r .shorter) h (omega (arith, long, short, r .shorter))
 
-  pub names-tight : (at : ℕ) (bs : List ℕ) {t : Table (Content Part)} → Bytes bs → judgeNames kindOf at bs ≡ accepted t → length (rewriteNames t) ≡ length bs → rewriteNames t ≡ bs
-  unfolding judgeNames
-  names-tight at bs h e long = judged (payload kindOf at bs) e λ o rest e₁. payload-tight at bs h e₁ long
-
 -- Code metadata, over any item
 module _ {item : Reader Part} {Fine : List ℕ → Type 0} (codec : Codec item (λ p. p .bytes) writePart Fine) where
   pub functions-tight : (o : ℕ) (bs : List ℕ) {t : Table (Table Part)} {o′ : ℕ} {rest : List ℕ} → Bytes bs → table (table item) o bs ≡ got t o′ rest → length (rewriteMetadata t) ≡ length bs → rewriteMetadata t ≡ bs
@@ -107,10 +97,3 @@ module _ {item : Reader Part} {Fine : List ℕ → Type 0} (codec : Codec item (
       let short = groups-shorter (writeTable writePart) (r .fine .sorted) in
       let stays = groups-unchanged (writeTable writePart) (r .fine .sorted) (omega (arith, long, short, r .shorter)) in
       ap (writeTable (writeTable writePart)) stays ∙ tight-whole rest (r .tight) (r .shorter) h (omega (arith, long, short, r .shorter))
-
-  pub items-tight : (at : ℕ) (bs : List ℕ) {t : Table (Table Part)} → Bytes bs → judgeMetadata item at bs ≡ accepted t → length (rewriteMetadata t) ≡ length bs → rewriteMetadata t ≡ bs
-  unfolding judgeMetadata metadata
-  items-tight at bs h e long =
-      judged (filling (table (table item)) at bs) e λ o rest e₁.
-      inTurn (table (table item) at bs) _ e₁ λ v o₁ r₁ e₂ e₃.
-      ended v o₁ r₁ e₃ λ _ q. functions-tight at bs h (rw q at e₂) long
