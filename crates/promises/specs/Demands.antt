@@ -1,6 +1,7 @@
--- THE FRONT DOOR. What users of the library demand, as types about its C calls, each under the sentence that it comes from, with the name of its proof in Proved.antt. A call is known by its promise alone, which is word for word the `ensures` on it in crates/wakemiono/src/lib.rt. What is said here is said of every answer that meets the promise; that the call's own answer meets it is proved of its code.
+-- THE FRONT DOOR. What users of the library demand, as types about its C calls, each under the sentence that it comes from, with the name of its proof in Proved.antt. A call is known by its promise alone: what is said here is said of every answer that meets the promise; that the call's own answer meets it is proved of its code.
 use Prim.Native.Nat.{ℕ, suc, _+_, _≤_, _<_}
 use mathlib.Core.List.{List, [], _∷_, _++_}
+-- `A ↔ B`: each follows from the other; `x ≢ y`: they are not equal; `A × B`: both; `⊥`: never
 use mathlib.Core.Logic.{_↔_, _≢_}
 use mathlib.Core.Option.{none, some}
 use mathlib.Core.Path.{_≡_}
@@ -30,71 +31,8 @@ use Rattle.format.specs.Holding.{Lists}
 use Rattle.format.specs.Questions.{InRange, Question, moduleName, functionName, typeName, tagName, localName, fieldName, keptContents}
 -- Of metadata and hints: `ItemQuestion` is a function and an offset, each a record of one number; `ItemInRange q` says that both are below 4,294,967,296.
 use Rattle.format.specs.Demands.{ItemQuestion, ItemInRange}
--- The words of the promises: the demands below say what they come to.
-use Rattle.format.specs.Canonical.{canonicalNames, canonicalMetadata, canonicalHints}
-use Rattle.format.specs.Metadata.{anyItem, hintItem, judgeMetadata, askMetadata, askHint}
-use Rattle.format.specs.Names.{knownKind, judgeNames}
-use Rattle.format.specs.Questions.{asPlace, ask}
-use Rattle.format.specs.Lists.{functionNames}
-use Rattle.format.specs.Options.{mapSome}
-use Rattle.format.specs.Reading.{mapJudged, verdict}
-use Rattle.format.specs.Through.{askThrough, askMetadataThrough, askHintThrough}
-use Rattle.format.specs.Walk.{sectionCount, sectionAt, customPayload}
-use Rattle.wakemiono.specs.Boundary.{wmCount, wmSection, wmPlace, wmJudged, wmHint, WmWrites}
-use Rattle.walk.specs.Surveys.{sectionPlace}
-
--- THE CALLS AND THEIR PROMISES
-
-abbrev pub wm-walk : List ℕ → WmAnswer → Type 0
-wm-walk bytes a = a ≡ wmCount (sectionCount bytes)
-
-abbrev pub wm-section : (position : ℕ) → List ℕ → WmAnswer → Type 0
-wm-section position bytes a = a ≡ wmSection (mapJudged (mapSome sectionPlace) (sectionAt position bytes))
-
-abbrev pub wm-custom : (name : List ℕ) → List ℕ → WmAnswer → Type 0
-wm-custom name bytes a = a ≡ wmPlace (asPlace (customPayload name bytes))
-
-abbrev pub wm-names-judge : List ℕ → WmAnswer → Type 0
-wm-names-judge payload a = a ≡ wmJudged (length payload) (verdict (judgeNames knownKind 0 payload))
-
--- The questions to a name payload, one for each call: wm_module_name asks moduleName, wm_function_name functionName (record { 0 = function }), wm_type_name typeName (record { 0 = index }), wm_tag_name tagName (record { 0 = tag }), wm_local_name localName (record { 0 = function }) (record { 0 = local }), wm_field_name fieldName (record { 0 = index }) (record { 0 = field }), wm_kept keptContents id
-abbrev pub wm-name : Question → List ℕ → WmAnswer → Type 0
-wm-name q payload a = a ≡ wmPlace (asPlace (ask q payload))
-
-abbrev pub wm-metadata-judge : List ℕ → WmAnswer → Type 0
-wm-metadata-judge payload a = a ≡ wmJudged (length payload) (verdict (judgeMetadata anyItem 0 payload))
-
-abbrev pub wm-metadata : (function offset : ℕ) → List ℕ → WmAnswer → Type 0
-wm-metadata function offset payload a = a ≡ wmPlace (asPlace (askMetadata anyItem (record { 0 = function }) (record { 0 = offset }) 0 payload))
-
-abbrev pub wm-hints-judge : List ℕ → WmAnswer → Type 0
-wm-hints-judge payload a = a ≡ wmJudged (length payload) (verdict (judgeMetadata hintItem 0 payload))
-
-abbrev pub wm-hint : (function offset : ℕ) → List ℕ → WmAnswer → Type 0
-wm-hint function offset payload a = a ≡ wmHint (askHint (record { 0 = function }) (record { 0 = offset }) 0 payload)
-
--- The same questions through a module: wm_module_name_in and the others with `_in`
-abbrev pub wm-name-in : Question → List ℕ → WmAnswer → Type 0
-wm-name-in q bytes a = a ≡ wmPlace (asPlace (askThrough q bytes))
-
-abbrev pub wm-metadata-in : (format : List ℕ) (function offset : ℕ) → List ℕ → WmAnswer → Type 0
-wm-metadata-in format function offset bytes a = a ≡ wmPlace (asPlace (askMetadataThrough format (record { 0 = function }) (record { 0 = offset }) bytes))
-
-abbrev pub wm-hint-in : (function offset : ℕ) → List ℕ → WmAnswer → Type 0
-wm-hint-in function offset bytes a = a ≡ wmHint (askHintThrough (record { 0 = function }) (record { 0 = offset }) bytes)
-
--- The calls that write are promised of the output before and after, too: `old` and `new`
-abbrev pub wm-names-canonical : (payload old new : List ℕ) → WmAnswer → Type 0
-wm-names-canonical payload old new a = WmWrites (canonicalNames payload) old new a
-
-abbrev pub wm-metadata-canonical : (payload old new : List ℕ) → WmAnswer → Type 0
-wm-metadata-canonical payload old new a = WmWrites (canonicalMetadata payload) old new a
-
-abbrev pub wm-hints-canonical : (payload old new : List ℕ) → WmAnswer → Type 0
-wm-hints-canonical payload old new a = WmWrites (canonicalHints payload) old new a
-
-abbrev pub wm-function-names-write : (indices lengths text old new : List ℕ) → WmAnswer → Type 0
-wm-function-names-write indices lengths text old new a = WmWrites (functionNames indices lengths text) old new a
+-- THE CALLS, each by its promise: `wm-walk bytes a` says that the answer a is one that the promise of wm_walk allows for these bytes. It is the promise itself, the one name that stands in the `ensures` of the call in crates/wakemiono/src/lib.rt. What the promises come to is said below, so that nothing has to be known of how they are put. `wm-name q` is the promise of the call that asks q: wm_module_name asks `moduleName`, wm_function_name `functionName` of its function, wm_type_name `typeName` of its index, wm_tag_name `tagName` of its tag, wm_local_name `localName` of its function and its local, wm_field_name `fieldName` of its index and its field, wm_kept `keptContents` of its id; `wm-name-in q` is that of the same call with `_in`, which is lent a module. The calls that write are promised of the output before and after, too: `old` and `new`.
+use Rattle.wakemiono.specs.Calls.{wm-walk, wm-section, wm-custom, wm-names-judge, wm-name, wm-metadata-judge, wm-metadata, wm-hints-judge, wm-hint, wm-name-in, wm-metadata-in, wm-hint-in, wm-names-canonical, wm-metadata-canonical, wm-hints-canonical, wm-function-names-write}
 
 -- DEMAND 1. "Any bytes may be lent as a module, a payload or lists. Each public call ends, does nothing undefined and asks no prior check. Bad input gets a refusal number and its offset, and every lent buffer is unchanged." Proved as `demand-1` in Proved.antt.
 

@@ -17,7 +17,7 @@ use Rattle.metadata.specs.Judgements.{judged}
 use Rattle.names.specs.Places.{Judges, verdictOf}
 use Rattle.names.proofs.Verdicts.{verdict-is}
 use Rattle.walk.specs.Surveys.{counted}
-use Rattle.wakemiono.specs.Boundary.{wmJudged, wmCount}
+use Rattle.wakemiono.specs.Calls as call
 use Rattle.promises.specs.Answers.{saysVerdict, verdict-said, saysCount, count-said}
 use Rattle.promises.specs.RuledOut.{Row, _demands_, Demanded, by-table}
 
@@ -50,7 +50,7 @@ names-computed = refl
 pub names-judge : Demanded (λ p r. Judges p 0 p r) verdictOf name-rows
 names-judge = by-table (λ p r meets. verdict-is p 0 p r meets) name-rows names-computed
 
-pub wm-names-judge : Demanded (λ p a. a ≡ wmJudged (length p) (verdict (judgeNames knownKind 0 p))) saysVerdict name-rows
+pub wm-names-judge : Demanded (λ p a. call.wm-names-judge p a) saysVerdict name-rows
 wm-names-judge = by-table (λ p a meets. ap saysVerdict meets ∙ verdict-said (length p) (verdict (judgeNames knownKind 0 p))) name-rows names-computed
 
 -- Code metadata: the second function, and the first function's second item
@@ -70,7 +70,7 @@ metadata-computed = refl
 pub metadata-judge : Demanded (λ p r. judged r ≡ verdict (judgeMetadata anyItem 0 p)) judged metadata-rows
 metadata-judge = by-table (λ p r meets. meets) metadata-rows metadata-computed
 
-pub wm-metadata-judge : Demanded (λ p a. a ≡ wmJudged (length p) (verdict (judgeMetadata anyItem 0 p))) saysVerdict metadata-rows
+pub wm-metadata-judge : Demanded (λ p a. call.wm-metadata-judge p a) saysVerdict metadata-rows
 wm-metadata-judge = by-table (λ p a meets. ap saysVerdict meets ∙ verdict-said (length p) (verdict (judgeMetadata anyItem 0 p))) metadata-rows metadata-computed
 
 -- Hints: the same, and a second hint that is none
@@ -90,7 +90,7 @@ hints-computed = refl
 pub metadata-judge-hints : Demanded (λ p r. judged r ≡ verdict (judgeMetadata hintItem 0 p)) judged hint-rows
 metadata-judge-hints = by-table (λ p r meets. meets) hint-rows hints-computed
 
-pub wm-hints-judge : Demanded (λ p a. a ≡ wmJudged (length p) (verdict (judgeMetadata hintItem 0 p))) saysVerdict hint-rows
+pub wm-hints-judge : Demanded (λ p a. call.wm-hints-judge p a) saysVerdict hint-rows
 wm-hints-judge = by-table (λ p a meets. ap saysVerdict meets ∙ verdict-said (length p) (verdict (judgeMetadata hintItem 0 p))) hint-rows hints-computed
 
 -- Sections: the second one repeated, unknown, past the module; a second `name`, and data after it
@@ -112,5 +112,5 @@ sections-computed = refl
 pub walk-count : Demanded (λ m r. counted r ≡ sectionCount m) counted section-rows
 walk-count = by-table (λ m r meets. meets) section-rows sections-computed
 
-pub wm-walk : Demanded (λ m a. a ≡ wmCount (sectionCount m)) saysCount section-rows
+pub wm-walk : Demanded (λ m a. call.wm-walk m a) saysCount section-rows
 wm-walk = by-table (λ m a meets. ap saysCount meets ∙ count-said (sectionCount m)) section-rows sections-computed

@@ -15,7 +15,7 @@ use Rattle.format.specs.Tables.{lookup, rows, table}
 use Rattle.metadata.specs.Judgements.{judged}
 use Rattle.names.specs.Places.{Judges, verdictOf}
 use Rattle.names.proofs.Verdicts.{verdict-is}
-use Rattle.wakemiono.specs.Boundary.{wmJudged}
+use Rattle.wakemiono.specs.Calls as call
 use Rattle.promises.specs.Answers.{saysVerdict, verdict-said}
 use Rattle.promises.specs.RuledOut.{RuledOut, Refuses, Accepts, Always, offsetIn, Refusing, refuses, Tells, by-input, by-two-inputs}
 
@@ -51,7 +51,7 @@ names-verdicts = record { fine = hex ""; bad = refuses (hex "01 00") 2 2; worse 
 pub names-judge : JudgesRightly (λ p r. Judges p 0 p r) verdictOf
 names-judge = judges-rightly (λ p r meets. verdict-is p 0 p r meets) names-verdicts
 
-pub wm-names-judge : JudgesRightly (λ p a. a ≡ wmJudged (length p) (verdict (judgeNames knownKind 0 p))) saysVerdict
+pub wm-names-judge : JudgesRightly (λ p a. call.wm-names-judge p a) saysVerdict
 wm-names-judge = judges-rightly (λ p a meets. ap saysVerdict meets ∙ verdict-said (length p) (verdict (judgeNames knownKind 0 p))) names-verdicts
 
 -- Code metadata of any format, and hints: a payload without functions is accepted; one without its count, a function without its index, a hint of 2 are refused
@@ -66,11 +66,11 @@ hints-verdicts = record { fine = hex "00"; bad = refuses (hex "01 02 01 05 01 02
 pub metadata-judge : JudgesRightly (λ p r. judged r ≡ verdict (judgeMetadata anyItem 0 p)) judged
 metadata-judge = judges-rightly (λ p r meets. meets) metadata-verdicts
 
-pub wm-metadata-judge : JudgesRightly (λ p a. a ≡ wmJudged (length p) (verdict (judgeMetadata anyItem 0 p))) saysVerdict
+pub wm-metadata-judge : JudgesRightly (λ p a. call.wm-metadata-judge p a) saysVerdict
 wm-metadata-judge = judges-rightly (λ p a meets. ap saysVerdict meets ∙ verdict-said (length p) (verdict (judgeMetadata anyItem 0 p))) metadata-verdicts
 
 pub metadata-judge-hints : JudgesRightly (λ p r. judged r ≡ verdict (judgeMetadata hintItem 0 p)) judged
 metadata-judge-hints = judges-rightly (λ p r meets. meets) hints-verdicts
 
-pub wm-hints-judge : JudgesRightly (λ p a. a ≡ wmJudged (length p) (verdict (judgeMetadata hintItem 0 p))) saysVerdict
+pub wm-hints-judge : JudgesRightly (λ p a. call.wm-hints-judge p a) saysVerdict
 wm-hints-judge = judges-rightly (λ p a meets. ap saysVerdict meets ∙ verdict-said (length p) (verdict (judgeMetadata hintItem 0 p))) hints-verdicts

@@ -50,7 +50,8 @@ use Rattle.promises.specs.Laws.Rewriting.{hints-same, names-first-judged
 use Rattle.promises.specs.Laws.Saying.{Verdict as Says, judged-said, judged-whole}
 use Rattle.promises.specs.Laws.Through.{name-through, hint-through, metadata-through, hint-data-through}
 use Rattle.promises.specs.Laws.Walking.{walked, walk-counts, section-found, section-first, section-none, section-refused, custom-tells, custom-refused}
-use Rattle.promises.specs.Demands.{wm-walk, wm-names-judge, wm-name, wm-metadata-judge, wm-metadata, wm-hints-judge, wm-hint, Refusal, Verdict, Reply, HintReply, Leaves, NeedsRoom, Demand1, HoldsName, HoldsData, JudgesExactly, AnswersNames, AnswersMetadata, AnswersHints, Walks, Demand2, SameAnswer, Rewrites, Demand3, refusal, yes, no, replyNone, replyFound, replyRefused, hintNone, hintUnlikely, hintLikely, hintRefused}
+use Rattle.wakemiono.specs.Calls.{wm-walk, wm-names-judge, wm-name, wm-metadata-judge, wm-metadata, wm-hints-judge, wm-hint}
+use Rattle.promises.specs.Demands.{Refusal, Verdict, Reply, HintReply, Leaves, NeedsRoom, Demand1, HoldsName, HoldsData, JudgesExactly, AnswersNames, AnswersMetadata, AnswersHints, Walks, Demand2, SameAnswer, Rewrites, Demand3, refusal, yes, no, replyNone, replyFound, replyRefused, hintNone, hintUnlikely, hintLikely, hintRefused}
 
 -- Demand 1
 refuses : (n at : ℕ) → Numbered n → Refusal (wmRefused n at)

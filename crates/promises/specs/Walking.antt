@@ -29,7 +29,7 @@ use Rattle.walk.specs.declared.step.Began.the-variants.{At, Refused as NotBegun
 use Rattle.walk.specs.declared.step.Step.{Step}
 use Rattle.walk.specs.declared.step.Step.the-variants.{Section as ASection, Done, Refused}
 use Rattle.walk.specs.declared.step.Walk.{Walk}
-use Rattle.wakemiono.specs.Boundary.{wmCount, wmSection}
+use Rattle.wakemiono.specs.Calls as call
 use Rattle.promises.specs.Answers.{saysCount, count-said, saysSection, section-said}
 use Rattle.promises.specs.Asking.{AnswersRightly, Answers, answers-rightly, PlaceCalls, place-answers, place-calls}
 use Rattle.promises.specs.Judging.{JudgesRightly, Verdicts, judges-rightly}
@@ -60,7 +60,7 @@ module _ {Result : Type 0} {promise : List ℕ → Result → Type 0} {says : Re
 pub count : CountsRightly (λ m r. counted r ≡ sectionCount m) counted
 count = counts-rightly (λ m r meets. meets)
 
-pub wm-walk : CountsRightly (λ m a. a ≡ wmCount (sectionCount m)) saysCount
+pub wm-walk : CountsRightly (λ m a. call.wm-walk m a) saysCount
 wm-walk = counts-rightly (λ m a meets. ap saysCount meets ∙ count-said (sectionCount m))
 
 -- the one pass that all questions of the walk share, whichever position and name it looks for
@@ -99,7 +99,7 @@ section-answers = record {
 pub section-at : AnswersRightly (λ (x : List ℕ × ℕ) r. sectionAnswered r ≡ mapJudged (mapSome sectionPlace) (sectionAt (x .1) (x .0))) sectionAnswered (λ s. s .length) 0
 section-at = answers-rightly (λ x r meets. meets) section-answers
 
-pub wm-section : AnswersRightly (λ (x : List ℕ × ℕ) a. a ≡ wmSection (mapJudged (mapSome sectionPlace) (sectionAt (x .1) (x .0)))) saysSection (λ s. s .length) 0
+pub wm-section : AnswersRightly (λ (x : List ℕ × ℕ) a. call.wm-section (x .1) (x .0) a) saysSection (λ s. s .length) 0
 wm-section = answers-rightly (λ x a meets. ap saysSection meets ∙ section-said (sectionWanted x)) section-answers
 
 -- the payload of the first custom section of a name, also of one that is lent in two pieces

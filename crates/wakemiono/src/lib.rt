@@ -1,21 +1,15 @@
 // The C boundary: every call takes any bytes, ends, and asks no prior check. include/wakemiono.h says the same for C.
 ghost use mathlib.Core.Path.{_≡_};
 ghost use lib.ListN.{length};
-ghost use Rattle.format.specs.Canonical.{canonicalNames, canonicalMetadata, canonicalHints};
-ghost use Rattle.format.specs.Lists.{functionNames};
-ghost use Rattle.format.specs.Metadata.{anyItem, hintItem, judgeMetadata, askMetadata, askHint, hintAnswered};
-ghost use Rattle.format.specs.Names.{knownKind, judgeNames};
-ghost use Rattle.format.specs.Options.{mapSome};
+ghost use Rattle.format.specs.Metadata.{hintAnswered};
 ghost use Rattle.format.specs.Outputs.{writtenAs};
-ghost use Rattle.format.specs.Questions.{answered, asPlace, ask, moduleName, functionName, typeName, tagName, localName, fieldName, keptContents};
-ghost use Rattle.format.specs.Reading.{mapJudged, verdict};
+ghost use Rattle.format.specs.Questions.{answered, moduleName, functionName, typeName, tagName, localName, fieldName, keptContents};
 ghost use Rattle.format.specs.Refusals.{numberOf};
-ghost use Rattle.format.specs.Through.{askThrough, askMetadataThrough, askHintThrough};
-ghost use Rattle.format.specs.Walk.{sectionCount, sectionAt, customPayload};
 ghost use Rattle.metadata.specs.Judgements;
 ghost use Rattle.names.specs.Places.{verdictOf};
-ghost use Rattle.walk.specs.Surveys.{counted, sectionAnswered, sectionPlace};
-ghost use Rattle.wakemiono.specs.Boundary.{wmFound, wmRefused, wmCount, wmSection, wmPlace, wmJudged, wmHinted, wmHint, WmWrites};
+ghost use Rattle.walk.specs.Surveys.{counted, sectionAnswered};
+ghost use Rattle.wakemiono.specs.Boundary.{wmFound, wmRefused, wmCount, wmSection, wmPlace, wmJudged, wmHinted, wmHint};
+ghost use Rattle.wakemiono.specs.Calls.{wm-walk, wm-section, wm-custom, wm-names-judge, wm-name, wm-metadata-judge, wm-metadata, wm-hints-judge, wm-hint, wm-name-in, wm-metadata-in, wm-hint-in, wm-names-canonical, wm-metadata-canonical, wm-hints-canonical, wm-function-names-write};
 use format::Answer;
 use format::CodeOffset;
 use format::FieldIndex;
@@ -191,154 +185,154 @@ fn of_hint(answer: HintAnswer) -> WmAnswer
 
 #[no_mangle]
 pub extern "C" fn wm_walk(bytes: &[u8]) -> WmAnswer
-    ensures { λ a. ⌜ a ≡ wmCount (sectionCount (now (bytes .entry))) ⌝ }
+    ensures { λ a. ⌜ wm-walk (now (bytes .entry)) a ⌝ }
 {
     of_count(walk::count(bytes))
 }
 
 #[no_mangle]
 pub extern "C" fn wm_section(bytes: &[u8], position: u64) -> WmAnswer
-    ensures { λ a. ⌜ a ≡ wmSection (mapJudged (mapSome sectionPlace) (sectionAt position (now (bytes .entry)))) ⌝ }
+    ensures { λ a. ⌜ wm-section position (now (bytes .entry)) a ⌝ }
 {
     of_section(walk::section_at(bytes, position))
 }
 
 #[no_mangle]
 pub extern "C" fn wm_custom(bytes: &[u8], name: &[u8]) -> WmAnswer
-    ensures { λ a. ⌜ a ≡ wmPlace (asPlace (customPayload (now (name .entry)) (now (bytes .entry)))) ⌝ }
+    ensures { λ a. ⌜ wm-custom (now (name .entry)) (now (bytes .entry)) a ⌝ }
 {
     of_answer(walk::custom(bytes, name))
 }
 
 #[no_mangle]
 pub extern "C" fn wm_names_judge(payload: &[u8]) -> WmAnswer
-    ensures { λ a. ⌜ a ≡ wmJudged (length (now (payload .entry))) (verdict (judgeNames knownKind 0 (now (payload .entry)))) ⌝ }
+    ensures { λ a. ⌜ wm-names-judge (now (payload .entry)) a ⌝ }
 {
     of_names_judged(judging::judge(payload), payload.len())
 }
 
 #[no_mangle]
 pub extern "C" fn wm_module_name(payload: &[u8]) -> WmAnswer
-    ensures { λ a. ⌜ a ≡ wmPlace (asPlace (ask moduleName (now (payload .entry)))) ⌝ }
+    ensures { λ a. ⌜ wm-name moduleName (now (payload .entry)) a ⌝ }
 {
     of_answer(names::module_name(payload))
 }
 
 #[no_mangle]
 pub extern "C" fn wm_function_name(payload: &[u8], function: u32) -> WmAnswer
-    ensures { λ a. ⌜ a ≡ wmPlace (asPlace (ask (functionName (record { 0 = function })) (now (payload .entry)))) ⌝ }
+    ensures { λ a. ⌜ wm-name (functionName (record { 0 = function })) (now (payload .entry)) a ⌝ }
 {
     of_answer(names::function_name(payload, FunctionIndex(function)))
 }
 
 #[no_mangle]
 pub extern "C" fn wm_type_name(payload: &[u8], index: u32) -> WmAnswer
-    ensures { λ a. ⌜ a ≡ wmPlace (asPlace (ask (typeName (record { 0 = index })) (now (payload .entry)))) ⌝ }
+    ensures { λ a. ⌜ wm-name (typeName (record { 0 = index })) (now (payload .entry)) a ⌝ }
 {
     of_answer(names::type_name(payload, TypeIndex(index)))
 }
 
 #[no_mangle]
 pub extern "C" fn wm_tag_name(payload: &[u8], tag: u32) -> WmAnswer
-    ensures { λ a. ⌜ a ≡ wmPlace (asPlace (ask (tagName (record { 0 = tag })) (now (payload .entry)))) ⌝ }
+    ensures { λ a. ⌜ wm-name (tagName (record { 0 = tag })) (now (payload .entry)) a ⌝ }
 {
     of_answer(names::tag_name(payload, TagIndex(tag)))
 }
 
 #[no_mangle]
 pub extern "C" fn wm_local_name(payload: &[u8], function: u32, local: u32) -> WmAnswer
-    ensures { λ a. ⌜ a ≡ wmPlace (asPlace (ask (localName (record { 0 = function }) (record { 0 = local })) (now (payload .entry)))) ⌝ }
+    ensures { λ a. ⌜ wm-name (localName (record { 0 = function }) (record { 0 = local })) (now (payload .entry)) a ⌝ }
 {
     of_answer(names::local_name(payload, FunctionIndex(function), LocalIndex(local)))
 }
 
 #[no_mangle]
 pub extern "C" fn wm_field_name(payload: &[u8], index: u32, field: u32) -> WmAnswer
-    ensures { λ a. ⌜ a ≡ wmPlace (asPlace (ask (fieldName (record { 0 = index }) (record { 0 = field })) (now (payload .entry)))) ⌝ }
+    ensures { λ a. ⌜ wm-name (fieldName (record { 0 = index }) (record { 0 = field })) (now (payload .entry)) a ⌝ }
 {
     of_answer(names::field_name(payload, TypeIndex(index), FieldIndex(field)))
 }
 
 #[no_mangle]
 pub extern "C" fn wm_kept(payload: &[u8], id: u8) -> WmAnswer
-    ensures { λ a. ⌜ a ≡ wmPlace (asPlace (ask (keptContents id) (now (payload .entry)))) ⌝ }
+    ensures { λ a. ⌜ wm-name (keptContents id) (now (payload .entry)) a ⌝ }
 {
     of_answer(names::kept(payload, id))
 }
 
 #[no_mangle]
 pub extern "C" fn wm_metadata_judge(payload: &[u8]) -> WmAnswer
-    ensures { λ a. ⌜ a ≡ wmJudged (length (now (payload .entry))) (verdict (judgeMetadata anyItem 0 (now (payload .entry)))) ⌝ }
+    ensures { λ a. ⌜ wm-metadata-judge (now (payload .entry)) a ⌝ }
 {
     of_judged(metadata::judge(payload), payload.len())
 }
 
 #[no_mangle]
 pub extern "C" fn wm_hints_judge(payload: &[u8]) -> WmAnswer
-    ensures { λ a. ⌜ a ≡ wmJudged (length (now (payload .entry))) (verdict (judgeMetadata hintItem 0 (now (payload .entry)))) ⌝ }
+    ensures { λ a. ⌜ wm-hints-judge (now (payload .entry)) a ⌝ }
 {
     of_judged(metadata::judge_hints(payload), payload.len())
 }
 
 #[no_mangle]
 pub extern "C" fn wm_metadata(payload: &[u8], function: u32, offset: u32) -> WmAnswer
-    ensures { λ a. ⌜ a ≡ wmPlace (asPlace (askMetadata anyItem (record { 0 = function }) (record { 0 = offset }) 0 (now (payload .entry)))) ⌝ }
+    ensures { λ a. ⌜ wm-metadata function offset (now (payload .entry)) a ⌝ }
 {
     of_answer(metadata::find(payload, FunctionIndex(function), CodeOffset(offset)))
 }
 
 #[no_mangle]
 pub extern "C" fn wm_hint(payload: &[u8], function: u32, offset: u32) -> WmAnswer
-    ensures { λ a. ⌜ a ≡ wmHint (askHint (record { 0 = function }) (record { 0 = offset }) 0 (now (payload .entry))) ⌝ }
+    ensures { λ a. ⌜ wm-hint function offset (now (payload .entry)) a ⌝ }
 {
     of_hint(metadata::hint(payload, FunctionIndex(function), CodeOffset(offset)))
 }
 
 #[no_mangle]
 pub extern "C" fn wm_module_name_in(bytes: &[u8]) -> WmAnswer
-    ensures { λ a. ⌜ a ≡ wmPlace (asPlace (askThrough moduleName (now (bytes .entry)))) ⌝ }
+    ensures { λ a. ⌜ wm-name-in moduleName (now (bytes .entry)) a ⌝ }
 {
     of_answer(through::module_name(bytes))
 }
 
 #[no_mangle]
 pub extern "C" fn wm_function_name_in(bytes: &[u8], function: u32) -> WmAnswer
-    ensures { λ a. ⌜ a ≡ wmPlace (asPlace (askThrough (functionName (record { 0 = function })) (now (bytes .entry)))) ⌝ }
+    ensures { λ a. ⌜ wm-name-in (functionName (record { 0 = function })) (now (bytes .entry)) a ⌝ }
 {
     of_answer(through::function_name(bytes, FunctionIndex(function)))
 }
 
 #[no_mangle]
 pub extern "C" fn wm_type_name_in(bytes: &[u8], index: u32) -> WmAnswer
-    ensures { λ a. ⌜ a ≡ wmPlace (asPlace (askThrough (typeName (record { 0 = index })) (now (bytes .entry)))) ⌝ }
+    ensures { λ a. ⌜ wm-name-in (typeName (record { 0 = index })) (now (bytes .entry)) a ⌝ }
 {
     of_answer(through::type_name(bytes, TypeIndex(index)))
 }
 
 #[no_mangle]
 pub extern "C" fn wm_tag_name_in(bytes: &[u8], tag: u32) -> WmAnswer
-    ensures { λ a. ⌜ a ≡ wmPlace (asPlace (askThrough (tagName (record { 0 = tag })) (now (bytes .entry)))) ⌝ }
+    ensures { λ a. ⌜ wm-name-in (tagName (record { 0 = tag })) (now (bytes .entry)) a ⌝ }
 {
     of_answer(through::tag_name(bytes, TagIndex(tag)))
 }
 
 #[no_mangle]
 pub extern "C" fn wm_local_name_in(bytes: &[u8], function: u32, local: u32) -> WmAnswer
-    ensures { λ a. ⌜ a ≡ wmPlace (asPlace (askThrough (localName (record { 0 = function }) (record { 0 = local })) (now (bytes .entry)))) ⌝ }
+    ensures { λ a. ⌜ wm-name-in (localName (record { 0 = function }) (record { 0 = local })) (now (bytes .entry)) a ⌝ }
 {
     of_answer(through::local_name(bytes, FunctionIndex(function), LocalIndex(local)))
 }
 
 #[no_mangle]
 pub extern "C" fn wm_field_name_in(bytes: &[u8], index: u32, field: u32) -> WmAnswer
-    ensures { λ a. ⌜ a ≡ wmPlace (asPlace (askThrough (fieldName (record { 0 = index }) (record { 0 = field })) (now (bytes .entry)))) ⌝ }
+    ensures { λ a. ⌜ wm-name-in (fieldName (record { 0 = index }) (record { 0 = field })) (now (bytes .entry)) a ⌝ }
 {
     of_answer(through::field_name(bytes, TypeIndex(index), FieldIndex(field)))
 }
 
 #[no_mangle]
 pub extern "C" fn wm_kept_in(bytes: &[u8], id: u8) -> WmAnswer
-    ensures { λ a. ⌜ a ≡ wmPlace (asPlace (askThrough (keptContents id) (now (bytes .entry)))) ⌝ }
+    ensures { λ a. ⌜ wm-name-in (keptContents id) (now (bytes .entry)) a ⌝ }
 {
     of_answer(through::kept(bytes, id))
 }
@@ -350,35 +344,35 @@ pub extern "C" fn wm_metadata_in(
     function: u32,
     offset: u32,
 ) -> WmAnswer
-    ensures { λ a. ⌜ a ≡ wmPlace (asPlace (askMetadataThrough (now (format .entry)) (record { 0 = function }) (record { 0 = offset }) (now (bytes .entry)))) ⌝ }
+    ensures { λ a. ⌜ wm-metadata-in (now (format .entry)) function offset (now (bytes .entry)) a ⌝ }
 {
     of_answer(through::metadata(bytes, format, FunctionIndex(function), CodeOffset(offset)))
 }
 
 #[no_mangle]
 pub extern "C" fn wm_hint_in(bytes: &[u8], function: u32, offset: u32) -> WmAnswer
-    ensures { λ a. ⌜ a ≡ wmHint (askHintThrough (record { 0 = function }) (record { 0 = offset }) (now (bytes .entry))) ⌝ }
+    ensures { λ a. ⌜ wm-hint-in function offset (now (bytes .entry)) a ⌝ }
 {
     of_hint(through::hint(bytes, FunctionIndex(function), CodeOffset(offset)))
 }
 
 #[no_mangle]
 pub extern "C" fn wm_names_canonical(payload: &[u8], out: &mut [u8]) -> WmAnswer
-    ensures { λ a. ⌜ WmWrites (canonicalNames (now (payload .entry))) (now (out .entry)) (now (out .exit)) a ⌝ }
+    ensures { λ a. ⌜ wm-names-canonical (now (payload .entry)) (now (out .entry)) (now (out .exit)) a ⌝ }
 {
     of_written(rewrite::names(payload, out))
 }
 
 #[no_mangle]
 pub extern "C" fn wm_metadata_canonical(payload: &[u8], out: &mut [u8]) -> WmAnswer
-    ensures { λ a. ⌜ WmWrites (canonicalMetadata (now (payload .entry))) (now (out .entry)) (now (out .exit)) a ⌝ }
+    ensures { λ a. ⌜ wm-metadata-canonical (now (payload .entry)) (now (out .entry)) (now (out .exit)) a ⌝ }
 {
     of_written(rewrite::metadata(payload, out))
 }
 
 #[no_mangle]
 pub extern "C" fn wm_hints_canonical(payload: &[u8], out: &mut [u8]) -> WmAnswer
-    ensures { λ a. ⌜ WmWrites (canonicalHints (now (payload .entry))) (now (out .entry)) (now (out .exit)) a ⌝ }
+    ensures { λ a. ⌜ wm-hints-canonical (now (payload .entry)) (now (out .entry)) (now (out .exit)) a ⌝ }
 {
     of_written(rewrite::hints(payload, out))
 }
@@ -390,7 +384,7 @@ pub extern "C" fn wm_function_names_write(
     text: &[u8],
     out: &mut [u8],
 ) -> WmAnswer
-    ensures { λ a. ⌜ WmWrites (functionNames (now (indices .entry)) (now (lengths .entry)) (now (text .entry))) (now (out .entry)) (now (out .exit)) a ⌝ }
+    ensures { λ a. ⌜ wm-function-names-write (now (indices .entry)) (now (lengths .entry)) (now (text .entry)) (now (out .entry)) (now (out .exit)) a ⌝ }
 {
     of_written(lists::function_names(indices, lengths, text, out))
 }

@@ -1,107 +1,98 @@
 -- Each promise of the crate `wakemiono` determines what comes back.
 use Prim.Native.Nat.{ℕ}
 use mathlib.Core.List.{List}
-use mathlib.Core.Path.{_≡_}
-use lib.ListN.{length}
-use Rattle.format.specs.Canonical.{canonicalNames, canonicalMetadata, canonicalHints}
 use Rattle.format.specs.Determined.{Determines, equal-determined}
-use Rattle.format.specs.Lists.{functionNames}
-use Rattle.format.specs.Metadata.{anyItem, hintItem, judgeMetadata, askMetadata, askHint}
-use Rattle.format.specs.Names.{knownKind, judgeNames}
-use Rattle.format.specs.Options.{mapSome}
-use Rattle.format.specs.Questions.{moduleName, functionName, typeName, tagName, localName, fieldName, keptContents, ask, asPlace}
-use Rattle.format.specs.Reading.{mapJudged, verdict, Judged}
-use Rattle.format.specs.Through.{askThrough, askMetadataThrough, askHintThrough}
-use Rattle.format.specs.Walk.{sectionCount, sectionAt, customPayload}
+use Rattle.format.specs.Questions.{moduleName, functionName, typeName, tagName, localName, fieldName, keptContents}
+use Rattle.format.specs.Reading.{Judged}
 use Rattle.wakemiono.proofs.Same.{wm-writes-same}
-use Rattle.wakemiono.specs.Boundary.{wmCount, wmSection, wmPlace, wmJudged, wmHint, WmWrites}
+use Rattle.wakemiono.specs.Boundary.{WmWrites}
+use Rattle.wakemiono.specs.Calls.{wm-walk, wm-section, wm-custom, wm-names-judge, wm-name, wm-metadata-judge, wm-metadata, wm-hints-judge, wm-hint, wm-name-in, wm-metadata-in, wm-hint-in, wm-names-canonical, wm-metadata-canonical, wm-hints-canonical, wm-function-names-write}
 use Rattle.wakemiono.specs.declared.WmAnswer.{WmAnswer}
-use Rattle.walk.specs.Surveys.{sectionPlace}
 
 -- One answer and one end state alone meet the promise of a write
 pub wm-writes-determined : (wanted : Judged (List ℕ)) (old : List ℕ) → Determines (λ (r : WmAnswer × List ℕ). WmWrites wanted old (r .1) (r .0))
 wm-writes-determined wanted old a b p q = let one = wm-writes-same p q in λ i. (one .0 i, one .1 i)
 
-pub wm-walk-determined : (bytes : List ℕ) → Determines (λ (r : WmAnswer). r ≡ wmCount (sectionCount bytes))
+pub wm-walk-determined : (bytes : List ℕ) → Determines (λ (r : WmAnswer). wm-walk bytes r)
 wm-walk-determined bytes = equal-determined _
 
-pub wm-section-determined : (bytes : List ℕ) (position : ℕ) → Determines (λ (r : WmAnswer). r ≡ wmSection (mapJudged (mapSome sectionPlace) (sectionAt position bytes)))
+pub wm-section-determined : (bytes : List ℕ) (position : ℕ) → Determines (λ (r : WmAnswer). wm-section position bytes r)
 wm-section-determined bytes position = equal-determined _
 
-pub wm-custom-determined : (bytes name : List ℕ) → Determines (λ (r : WmAnswer). r ≡ wmPlace (asPlace (customPayload name bytes)))
+pub wm-custom-determined : (bytes name : List ℕ) → Determines (λ (r : WmAnswer). wm-custom name bytes r)
 wm-custom-determined bytes name = equal-determined _
 
-pub wm-names-judge-determined : (payload : List ℕ) → Determines (λ (r : WmAnswer). r ≡ wmJudged (length payload) (verdict (judgeNames knownKind 0 payload)))
+pub wm-names-judge-determined : (payload : List ℕ) → Determines (λ (r : WmAnswer). wm-names-judge payload r)
 wm-names-judge-determined payload = equal-determined _
 
-pub wm-module-name-determined : (payload : List ℕ) → Determines (λ (r : WmAnswer). r ≡ wmPlace (asPlace (ask moduleName payload)))
+pub wm-module-name-determined : (payload : List ℕ) → Determines (λ (r : WmAnswer). wm-name moduleName payload r)
 wm-module-name-determined payload = equal-determined _
 
-pub wm-function-name-determined : (payload : List ℕ) (function : ℕ) → Determines (λ (r : WmAnswer). r ≡ wmPlace (asPlace (ask (functionName (record { 0 = function })) payload)))
+pub wm-function-name-determined : (payload : List ℕ) (function : ℕ) → Determines (λ (r : WmAnswer). wm-name (functionName (record { 0 = function })) payload r)
 wm-function-name-determined payload function = equal-determined _
 
-pub wm-type-name-determined : (payload : List ℕ) (index : ℕ) → Determines (λ (r : WmAnswer). r ≡ wmPlace (asPlace (ask (typeName (record { 0 = index })) payload)))
+pub wm-type-name-determined : (payload : List ℕ) (index : ℕ) → Determines (λ (r : WmAnswer). wm-name (typeName (record { 0 = index })) payload r)
 wm-type-name-determined payload index = equal-determined _
 
-pub wm-tag-name-determined : (payload : List ℕ) (tag : ℕ) → Determines (λ (r : WmAnswer). r ≡ wmPlace (asPlace (ask (tagName (record { 0 = tag })) payload)))
+pub wm-tag-name-determined : (payload : List ℕ) (tag : ℕ) → Determines (λ (r : WmAnswer). wm-name (tagName (record { 0 = tag })) payload r)
 wm-tag-name-determined payload tag = equal-determined _
 
-pub wm-local-name-determined : (payload : List ℕ) (function local : ℕ) → Determines (λ (r : WmAnswer). r ≡ wmPlace (asPlace (ask (localName (record { 0 = function }) (record { 0 = local })) payload)))
+pub wm-local-name-determined : (payload : List ℕ) (function local : ℕ) → Determines (λ (r : WmAnswer). wm-name (localName (record { 0 = function }) (record { 0 = local })) payload r)
 wm-local-name-determined payload function local = equal-determined _
 
-pub wm-field-name-determined : (payload : List ℕ) (index field : ℕ) → Determines (λ (r : WmAnswer). r ≡ wmPlace (asPlace (ask (fieldName (record { 0 = index }) (record { 0 = field })) payload)))
+pub wm-field-name-determined : (payload : List ℕ) (index field : ℕ) → Determines (λ (r : WmAnswer). wm-name (fieldName (record { 0 = index }) (record { 0 = field })) payload r)
 wm-field-name-determined payload index field = equal-determined _
 
-pub wm-kept-determined : (payload : List ℕ) (id : ℕ) → Determines (λ (r : WmAnswer). r ≡ wmPlace (asPlace (ask (keptContents id) payload)))
+pub wm-kept-determined : (payload : List ℕ) (id : ℕ) → Determines (λ (r : WmAnswer). wm-name (keptContents id) payload r)
 wm-kept-determined payload id = equal-determined _
 
-pub wm-metadata-judge-determined : (payload : List ℕ) → Determines (λ (r : WmAnswer). r ≡ wmJudged (length payload) (verdict (judgeMetadata anyItem 0 payload)))
+pub wm-metadata-judge-determined : (payload : List ℕ) → Determines (λ (r : WmAnswer). wm-metadata-judge payload r)
 wm-metadata-judge-determined payload = equal-determined _
 
-pub wm-hints-judge-determined : (payload : List ℕ) → Determines (λ (r : WmAnswer). r ≡ wmJudged (length payload) (verdict (judgeMetadata hintItem 0 payload)))
+pub wm-hints-judge-determined : (payload : List ℕ) → Determines (λ (r : WmAnswer). wm-hints-judge payload r)
 wm-hints-judge-determined payload = equal-determined _
 
-pub wm-metadata-determined : (payload : List ℕ) (function offset : ℕ) → Determines (λ (r : WmAnswer). r ≡ wmPlace (asPlace (askMetadata anyItem (record { 0 = function }) (record { 0 = offset }) 0 payload)))
+pub wm-metadata-determined : (payload : List ℕ) (function offset : ℕ) → Determines (λ (r : WmAnswer). wm-metadata function offset payload r)
 wm-metadata-determined payload function offset = equal-determined _
 
-pub wm-hint-determined : (payload : List ℕ) (function offset : ℕ) → Determines (λ (r : WmAnswer). r ≡ wmHint (askHint (record { 0 = function }) (record { 0 = offset }) 0 payload))
+pub wm-hint-determined : (payload : List ℕ) (function offset : ℕ) → Determines (λ (r : WmAnswer). wm-hint function offset payload r)
 wm-hint-determined payload function offset = equal-determined _
 
-pub wm-module-name-in-determined : (bytes : List ℕ) → Determines (λ (r : WmAnswer). r ≡ wmPlace (asPlace (askThrough moduleName bytes)))
+pub wm-module-name-in-determined : (bytes : List ℕ) → Determines (λ (r : WmAnswer). wm-name-in moduleName bytes r)
 wm-module-name-in-determined bytes = equal-determined _
 
-pub wm-function-name-in-determined : (bytes : List ℕ) (function : ℕ) → Determines (λ (r : WmAnswer). r ≡ wmPlace (asPlace (askThrough (functionName (record { 0 = function })) bytes)))
+pub wm-function-name-in-determined : (bytes : List ℕ) (function : ℕ) → Determines (λ (r : WmAnswer). wm-name-in (functionName (record { 0 = function })) bytes r)
 wm-function-name-in-determined bytes function = equal-determined _
 
-pub wm-type-name-in-determined : (bytes : List ℕ) (index : ℕ) → Determines (λ (r : WmAnswer). r ≡ wmPlace (asPlace (askThrough (typeName (record { 0 = index })) bytes)))
+pub wm-type-name-in-determined : (bytes : List ℕ) (index : ℕ) → Determines (λ (r : WmAnswer). wm-name-in (typeName (record { 0 = index })) bytes r)
 wm-type-name-in-determined bytes index = equal-determined _
 
-pub wm-tag-name-in-determined : (bytes : List ℕ) (tag : ℕ) → Determines (λ (r : WmAnswer). r ≡ wmPlace (asPlace (askThrough (tagName (record { 0 = tag })) bytes)))
+pub wm-tag-name-in-determined : (bytes : List ℕ) (tag : ℕ) → Determines (λ (r : WmAnswer). wm-name-in (tagName (record { 0 = tag })) bytes r)
 wm-tag-name-in-determined bytes tag = equal-determined _
 
-pub wm-local-name-in-determined : (bytes : List ℕ) (function local : ℕ) → Determines (λ (r : WmAnswer). r ≡ wmPlace (asPlace (askThrough (localName (record { 0 = function }) (record { 0 = local })) bytes)))
+pub wm-local-name-in-determined : (bytes : List ℕ) (function local : ℕ) → Determines (λ (r : WmAnswer). wm-name-in (localName (record { 0 = function }) (record { 0 = local })) bytes r)
 wm-local-name-in-determined bytes function local = equal-determined _
 
-pub wm-field-name-in-determined : (bytes : List ℕ) (index field : ℕ) → Determines (λ (r : WmAnswer). r ≡ wmPlace (asPlace (askThrough (fieldName (record { 0 = index }) (record { 0 = field })) bytes)))
+pub wm-field-name-in-determined : (bytes : List ℕ) (index field : ℕ) → Determines (λ (r : WmAnswer). wm-name-in (fieldName (record { 0 = index }) (record { 0 = field })) bytes r)
 wm-field-name-in-determined bytes index field = equal-determined _
 
-pub wm-kept-in-determined : (bytes : List ℕ) (id : ℕ) → Determines (λ (r : WmAnswer). r ≡ wmPlace (asPlace (askThrough (keptContents id) bytes)))
+pub wm-kept-in-determined : (bytes : List ℕ) (id : ℕ) → Determines (λ (r : WmAnswer). wm-name-in (keptContents id) bytes r)
 wm-kept-in-determined bytes id = equal-determined _
 
-pub wm-metadata-in-determined : (bytes format : List ℕ) (function offset : ℕ) → Determines (λ (r : WmAnswer). r ≡ wmPlace (asPlace (askMetadataThrough format (record { 0 = function }) (record { 0 = offset }) bytes)))
+pub wm-metadata-in-determined : (bytes format : List ℕ) (function offset : ℕ) → Determines (λ (r : WmAnswer). wm-metadata-in format function offset bytes r)
 wm-metadata-in-determined bytes format function offset = equal-determined _
 
-pub wm-hint-in-determined : (bytes : List ℕ) (function offset : ℕ) → Determines (λ (r : WmAnswer). r ≡ wmHint (askHintThrough (record { 0 = function }) (record { 0 = offset }) bytes))
+pub wm-hint-in-determined : (bytes : List ℕ) (function offset : ℕ) → Determines (λ (r : WmAnswer). wm-hint-in function offset bytes r)
 wm-hint-in-determined bytes function offset = equal-determined _
 
-pub wm-names-canonical-determined : (payload old : List ℕ) → Determines (λ (r : WmAnswer × List ℕ). WmWrites (canonicalNames payload) old (r .1) (r .0))
+pub wm-names-canonical-determined : (payload old : List ℕ) → Determines (λ (r : WmAnswer × List ℕ). wm-names-canonical payload old (r .1) (r .0))
 wm-names-canonical-determined payload old = wm-writes-determined _ _
 
-pub wm-metadata-canonical-determined : (payload old : List ℕ) → Determines (λ (r : WmAnswer × List ℕ). WmWrites (canonicalMetadata payload) old (r .1) (r .0))
+pub wm-metadata-canonical-determined : (payload old : List ℕ) → Determines (λ (r : WmAnswer × List ℕ). wm-metadata-canonical payload old (r .1) (r .0))
 wm-metadata-canonical-determined payload old = wm-writes-determined _ _
 
-pub wm-hints-canonical-determined : (payload old : List ℕ) → Determines (λ (r : WmAnswer × List ℕ). WmWrites (canonicalHints payload) old (r .1) (r .0))
+pub wm-hints-canonical-determined : (payload old : List ℕ) → Determines (λ (r : WmAnswer × List ℕ). wm-hints-canonical payload old (r .1) (r .0))
 wm-hints-canonical-determined payload old = wm-writes-determined _ _
 
-pub wm-function-names-write-determined : (indices lengths text old : List ℕ) → Determines (λ (r : WmAnswer × List ℕ). WmWrites (functionNames indices lengths text) old (r .1) (r .0))
+pub wm-function-names-write-determined : (indices lengths text old : List ℕ) → Determines (λ (r : WmAnswer × List ℕ). wm-function-names-write indices lengths text old (r .1) (r .0))
 wm-function-names-write-determined indices lengths text old = wm-writes-determined _ _

@@ -1,0 +1,68 @@
+-- THE PROMISES OF THE C CALLS, each by the name of its call. They stand in the `ensures` of the calls in src/lib.rt and nowhere else: what is shown of these names is shown of the calls. A promise relates what is lent to the answer, and of a call that writes also the output before and after. Assumes nothing.
+use Prim.Native.Nat.{ℕ}
+use mathlib.Core.List.{List}
+use mathlib.Core.Path.{_≡_}
+use lib.ListN.{length}
+use Rattle.format.specs.Canonical.{canonicalNames, canonicalMetadata, canonicalHints}
+use Rattle.format.specs.Lists.{functionNames}
+use Rattle.format.specs.Metadata.{anyItem, hintItem, judgeMetadata, askMetadata, askHint}
+use Rattle.format.specs.Names.{knownKind, judgeNames}
+use Rattle.format.specs.Options.{mapSome}
+use Rattle.format.specs.Questions.{Question, asPlace, ask}
+use Rattle.format.specs.Reading.{mapJudged, verdict}
+use Rattle.format.specs.Through.{askThrough, askMetadataThrough, askHintThrough}
+use Rattle.format.specs.Walk.{sectionCount, sectionAt, customPayload}
+use Rattle.walk.specs.Surveys.{sectionPlace}
+use Rattle.wakemiono.specs.Boundary.{wmCount, wmSection, wmPlace, wmJudged, wmHint, WmWrites}
+use Rattle.wakemiono.specs.declared.WmAnswer.{WmAnswer}
+
+abbrev pub wm-walk : List ℕ → WmAnswer → Type 0
+wm-walk bytes a = a ≡ wmCount (sectionCount bytes)
+
+abbrev pub wm-section : (position : ℕ) → List ℕ → WmAnswer → Type 0
+wm-section position bytes a = a ≡ wmSection (mapJudged (mapSome sectionPlace) (sectionAt position bytes))
+
+abbrev pub wm-custom : (name : List ℕ) → List ℕ → WmAnswer → Type 0
+wm-custom name bytes a = a ≡ wmPlace (asPlace (customPayload name bytes))
+
+abbrev pub wm-names-judge : List ℕ → WmAnswer → Type 0
+wm-names-judge payload a = a ≡ wmJudged (length payload) (verdict (judgeNames knownKind 0 payload))
+
+-- The questions to a name payload, one for each call: wm_module_name asks moduleName, wm_function_name functionName (record { 0 = function }), wm_type_name typeName (record { 0 = index }), wm_tag_name tagName (record { 0 = tag }), wm_local_name localName (record { 0 = function }) (record { 0 = local }), wm_field_name fieldName (record { 0 = index }) (record { 0 = field }), wm_kept keptContents id
+abbrev pub wm-name : Question → List ℕ → WmAnswer → Type 0
+wm-name q payload a = a ≡ wmPlace (asPlace (ask q payload))
+
+abbrev pub wm-metadata-judge : List ℕ → WmAnswer → Type 0
+wm-metadata-judge payload a = a ≡ wmJudged (length payload) (verdict (judgeMetadata anyItem 0 payload))
+
+abbrev pub wm-metadata : (function offset : ℕ) → List ℕ → WmAnswer → Type 0
+wm-metadata function offset payload a = a ≡ wmPlace (asPlace (askMetadata anyItem (record { 0 = function }) (record { 0 = offset }) 0 payload))
+
+abbrev pub wm-hints-judge : List ℕ → WmAnswer → Type 0
+wm-hints-judge payload a = a ≡ wmJudged (length payload) (verdict (judgeMetadata hintItem 0 payload))
+
+abbrev pub wm-hint : (function offset : ℕ) → List ℕ → WmAnswer → Type 0
+wm-hint function offset payload a = a ≡ wmHint (askHint (record { 0 = function }) (record { 0 = offset }) 0 payload)
+
+-- The same questions through a module: wm_module_name_in and the others with `_in`
+abbrev pub wm-name-in : Question → List ℕ → WmAnswer → Type 0
+wm-name-in q bytes a = a ≡ wmPlace (asPlace (askThrough q bytes))
+
+abbrev pub wm-metadata-in : (format : List ℕ) (function offset : ℕ) → List ℕ → WmAnswer → Type 0
+wm-metadata-in format function offset bytes a = a ≡ wmPlace (asPlace (askMetadataThrough format (record { 0 = function }) (record { 0 = offset }) bytes))
+
+abbrev pub wm-hint-in : (function offset : ℕ) → List ℕ → WmAnswer → Type 0
+wm-hint-in function offset bytes a = a ≡ wmHint (askHintThrough (record { 0 = function }) (record { 0 = offset }) bytes)
+
+-- The calls that write are promised of the output before and after, too: `old` and `new`
+abbrev pub wm-names-canonical : (payload old new : List ℕ) → WmAnswer → Type 0
+wm-names-canonical payload old new a = WmWrites (canonicalNames payload) old new a
+
+abbrev pub wm-metadata-canonical : (payload old new : List ℕ) → WmAnswer → Type 0
+wm-metadata-canonical payload old new a = WmWrites (canonicalMetadata payload) old new a
+
+abbrev pub wm-hints-canonical : (payload old new : List ℕ) → WmAnswer → Type 0
+wm-hints-canonical payload old new a = WmWrites (canonicalHints payload) old new a
+
+abbrev pub wm-function-names-write : (indices lengths text old new : List ℕ) → WmAnswer → Type 0
+wm-function-names-write indices lengths text old new a = WmWrites (functionNames indices lengths text) old new a
