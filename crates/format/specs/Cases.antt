@@ -144,8 +144,11 @@ sectionIs position ss = of place′ (sectionAt position (preamble ++ ss))
     place′ none = isNone
     place′ (some s) = found (s .at) (length (s .contents .bytes))
 
+payloadUnder : List ℕ → List ℕ → Result
+payloadUnder called ss = of place (customPayload called (preamble ++ ss))
+
 payloadIs : String → List ℕ → Result
-payloadIs called ss = of place (customPayload (ascii called) (preamble ++ ss))
+payloadIs called ss = payloadUnder (ascii called) ss
 
 answerThrough : Question → List ℕ → Result
 answerThrough q ss = of place (askThrough q (preamble ++ ss))
@@ -185,6 +188,8 @@ modules =
     payloadIs "x" (0 ∷ 5 ∷ 0x81 ∷ 0 ∷ 0x78 ∷ 7 ∷ 7 ∷ []) gives found 13 2 ∷
     payloadIs "x" (customSection "x" "01" ++ customSection "x" "02 03") gives found 12 1 ∷
     payloadIs "y" (customSection "x" "01") gives isNone ∷
+    -- a name that a caller passes is not judged
+    payloadUnder (hex "FF") (customSection "x" "01") gives isNone ∷
     sectionIs 1 (ordinary 1 "AA" ++ ordinary 2 "AA AA") gives found 11 2 ∷
     sectionIs 2 (ordinary 1 "AA" ++ ordinary 2 "AA AA") gives isNone ∷
     -- a module damaged anywhere is refused, whichever section was asked for
@@ -199,12 +204,15 @@ modules =
     metadataThrough "branch_hint" 2 5 (theHints "01 02 01 05 01 02") gives refusal 12 40 ∷
     metadataThrough "branch_hint" 2 5 (theHints "01 02 01 05 01 01") gives found 41 1 ∷
     metadataThrough "" 2 5 (customSection "metadata.code." "01 02 01 05 01 02") gives found 30 1 ∷
+    -- of two with one name the first answers, and the second is not judged
+    metadataThrough "x" 2 5 (customSection "metadata.code.x" "01 02 01 05 01 02" ++ customSection "metadata.code.x" "02") gives found 31 1 ∷
+    metadataThrough "x" 2 5 (customSection "metadata.code.x" "02" ++ customSection "metadata.code.x" "01 02 01 05 01 02") gives refusal 2 27 ∷
     hintThrough 2 5 (theHints "01 02 01 05 01 01") gives isLikely ∷
     hintThrough 2 5 (ordinary 1 "") gives isNone ∷
     []
 
 pub modules-hold : map computed modules ≡ map stated modules
-unfolding modules computed stated ordinary customSection theHints walkIs sectionIs payloadIs answerThrough metadataThrough hintThrough function localIn tag P hex digit of place likelihood ascii same number groups shortest fewest utf8 continues following wellFormed sized name remaining lookup rows table preamble begins greatestId isCustom isCode isData rank custom isCalled nameSection hintSection nothing seeing idRules nameRules section sections framing walk sectionCount sectionAt payloadOf payloadIn customPayload known knownKind contents subsections payload judgeNames answer asked idOf queryOf askAt ask hintOf anyItem hintItem metadata judgeMetadata itemAt askMetadata hintIn askHint writePart through askThrough metadataSection itemOf askMetadataThrough askHintThrough
+unfolding modules computed stated ordinary customSection theHints walkIs sectionIs payloadUnder payloadIs answerThrough metadataThrough hintThrough function localIn tag P hex digit of place likelihood ascii same number groups shortest fewest utf8 continues following wellFormed sized name remaining lookup rows table preamble begins greatestId isCustom isCode isData rank custom isCalled nameSection hintSection nothing seeing idRules nameRules section sections framing walk sectionCount sectionAt payloadOf payloadIn customPayload known knownKind contents subsections payload judgeNames answer asked idOf queryOf askAt ask hintOf anyItem hintItem metadata judgeMetadata itemAt askMetadata hintIn askHint writePart through askThrough metadataSection itemOf askMetadataThrough askHintThrough
 modules-hold = refl
 
 -- The listing

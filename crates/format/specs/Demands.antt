@@ -1,4 +1,4 @@
--- THE FRONT DOOR. What users of the library demand, as types, each under the sentence that it comes from; below each stands its proof, by the laws that it rests on. Here they are said of the definitions; the crates above say them again of their calls.
+-- What users of the library demand, as types, each under the sentence that it comes from; below each stands its proof, by the laws that it rests on. Here they are said of the definitions; the crates above say them again of their calls.
 use Prim.Native.Nat.{ℕ, _+_, _≤_, _<_}
 use mathlib.Core.List.{List, _++_}
 use mathlib.Core.Logic.{_↔_, Iff·trans}
@@ -81,11 +81,13 @@ pub record AnswersHints : Type 0 where
   pub refuses : (f : FunctionIndex) (at : CodeOffset) (p : List ℕ) (n o : ℕ) → (askHint f at 0 p ≡ refused n o) ↔ (judgeMetadata hintItem 0 p ≡ refused n o)
 
 -- Demand 2 through a module. "Asked through an accepted module without the section, each gets none." "A payload asked through its module is judged after the walk and counts from the module's start."
-module _ {Q : Type 0} (section : Q → List ℕ) (answer : Q → List ℕ → Judged (Option Part)) where
+module _ {Q : Type 0} (section : Q → List ℕ) (question : Q → ℕ → List ℕ → Judged (Option Part)) (answer : Q → List ℕ → Judged (Option Part)) where
   pub record AnswersThrough : Type 0 where
     pub very-bytes : (q : Q) (m : List ℕ) {x : Part} → answer q m ≡ accepted (some x) → VeryBytes m x
     pub without : (q : Q) (m : List ℕ) → customPayload (section q) m ≡ accepted none → answer q m ≡ accepted none
     pub walk-first : (q : Q) (m : List ℕ) {n at : ℕ} → walk m ≡ refused n at → answer q m ≡ refused n at
+    -- with the section, the answer is that of its payload where it lies
+    pub then-asked : (q : Q) (m : List ℕ) {p : Part} → customPayload (section q) m ≡ accepted (some p) → answer q m ≡ question q (p .at) (p .bytes)
 
 -- Demand 2 for lists. "The payload written is canonical: each listed index then gives its own text, every other question gets none."
 module _ (is ns text bs : List ℕ) where
@@ -239,20 +241,22 @@ hints-rewritten = let any = metadata-rewritten hint-codec in record {
 }
 
 -- Through a module; for metadata what is asked is a format, a function and an offset
-pub names-through : AnswersThrough (λ _. nameSection) askThrough
+pub names-through : AnswersThrough (λ _. nameSection) askAt askThrough
 unfolding askThrough through customPayload
 names-through = record {
   very-bytes = λ q m e. very (name-lies-through q m e);
   without = λ q m e. rw e;
   walk-first = λ q m e. rw e;
+  then-asked = λ q m e. rw e;
 }
 
-pub metadata-through : AnswersThrough {Q = List ℕ × FunctionIndex × CodeOffset} (λ q. metadataSection (q .0)) (λ q m. askMetadataThrough (q .0) (q .1) (q .2) m)
+pub metadata-through : AnswersThrough {Q = List ℕ × FunctionIndex × CodeOffset} (λ q. metadataSection (q .0)) (λ q. askMetadata (itemOf (q .0)) (q .1) (q .2)) (λ q m. askMetadataThrough (q .0) (q .1) (q .2) m)
 unfolding askMetadataThrough through customPayload
 metadata-through = record {
   very-bytes = λ q m e. very (item-lies-through (q .0) (q .1) (q .2) m e);
   without = λ q m e. rw e;
   walk-first = λ q m e. rw e;
+  then-asked = λ q m e. rw e;
 }
 
 -- hints through a module are the data of `metadata.code.branch_hint`, seen as hints

@@ -104,7 +104,7 @@ askAt q at bs = asked knownKind (idOf q) (queryOf q) at bs
 unfoldable pub ask : Question → List ℕ → Judged (Option Part)
 ask q bs = askAt q 0 bs
 
--- The answer as a place; as bytes, none for none and for a refusal; and without its offset, as answers are compared
+-- The answer as a place; as bytes, which are no bytes for none and for a refusal; and without its offset, as answers are compared
 unfoldable pub asPlace : Judged (Option Part) → Judged (Option Place)
 asPlace j = mapJudged (mapSome placeOf) j
 

@@ -20,7 +20,7 @@ NameMap = Listed Name
 abbrev pub IndirectNameMap : Grammar (Table (Table (List ℕ)))
 IndirectNameMap = Listed NameMap
 
--- the contents B of the subsection namesubsection_N(B): modulenamesubsec ::= namesubsection_0(name), funcnamesubsec ::= namesubsection_1(namemap), and so on by the source's table of ids. Tag names stand there under 11, and the table decides over the production that prints 1. Under any other id the contents may be any bytes
+-- the contents B of the subsection namesubsection_N(B): modulenamesubsec ::= namesubsection_0(name), funcnamesubsec ::= namesubsection_1(namemap), and so on by the source's table of ids. Tag names stand there under 11, and the table decides over the production that prints 1. The source has no others; under any other id the contents may be any bytes, since the rules keep them: "any other | kept"
 pub data Contents : ℕ → List ℕ → Content (List ℕ) → Type 0 where
   moduleName : {bs text : List ℕ} → Name bs text → Contents 0 bs (single text)
   functionNames : {bs : List ℕ} {t : Table (List ℕ)} → NameMap bs t → Contents 1 bs (names t)

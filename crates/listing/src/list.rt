@@ -1,4 +1,4 @@
-// The listing of a module, in two passes: one judges and counts, the other writes.
+// The listing of a module: it is judged and counted first, then its lines are written.
 ghost use mathlib.Core.List.{[], _∷_};
 ghost use mathlib.Core.Path.{_≡_};
 ghost use Prim.Native.Nat.{_≤_, _+_, _*_};

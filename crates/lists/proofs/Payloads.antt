@@ -51,10 +51,10 @@ module _ (is ns text : List ℕ) (j : Joined is ns text) where
   unfolding writeContent writeTable rowsOf
   content-is = rw (listed-size is ns text (j .same-count))
 
-  content-long : length (writeContent (names (listed is ns text))) ≡ contentsLength is ns
+  pub content-long : length (writeContent (names (listed is ns text))) ≡ contentsLength is ns
   content-long = rw content-is (length-append (shortest (length is)) (rowsOf is ns text) ∙ rw (rows-long is ns text (omega arith)))
 
-nothing-listed : (is ns text : List ℕ) → length is ≡ 0 → payload is ns text ≡ []
+pub nothing-listed : (is ns text : List ℕ) → length is ≡ 0 → payload is ns text ≡ []
 unfolding payload subsection listed keepRows unlessEmpty writeSubsections
 nothing-listed [] ns text e = refl
 nothing-listed (i ∷ is) ns text e = absurd (omega arith)
@@ -66,13 +66,13 @@ some-listed (i ∷ is) [] text h e = absurd (omega arith)
 some-listed (i ∷ is) (n ∷ ns) text h e = rw append-nil
 
 module _ {is ns text : List ℕ} {size : ℕ} (m : Measured is ns text size) where
-  payload-filled : (length is ≡ 0 → ⊥) → payload is ns text ≡ filled is ns text size
+  pub payload-filled : (length is ≡ 0 → ⊥) → payload is ns text ≡ filled is ns text size
   unfolding filled writePart
   payload-filled h =
       some-listed is ns text h (m .joined .same-count)
       ∙ rw (content-long is ns text (m .joined), m .measured, content-is is ns text (m .joined))
 
-  filled-long : length (filled is ns text size) ≡ neededFor size
+  pub filled-long : length (filled is ns text size) ≡ neededFor size
   unfolding filled
   filled-long = simp (length-append, rows-long is ns text (omega (arith, m .joined .add-up))) (omega (arith, m .measured))
 

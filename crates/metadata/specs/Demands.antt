@@ -27,7 +27,7 @@ metadata-call f at = calls-answer any-metadata-answered (f, at)
 pub hint-call : (f : FunctionIndex) (at : CodeOffset) (p : List ℕ) (r : HintAnswer) → hintAnswered r ≡ askHint f at 0 p → CallHints f at p r
 hint-call = hints-call
 
--- "Offsets strictly rising within a function": two functions may have data at one offset.
+-- "offsets within one function strictly increase": two functions may have data at one offset.
 pub each-function-anew : (r : Answer) → answered r ≡ asPlace (askMetadata anyItem (record { 0 = 2 }) (record { 0 = 5 }) 0 (hex "02 00 01 05 01 41 02 01 05 01 42")) → r ≡ Found (record { offset = record { 0 = 10 }; length = 1 })
 unfolding hex digit number groups sized lookup rows table anyItem metadata judgeMetadata itemAt askMetadata asPlace
 each-function-anew r e = same-answer r (Found (record { offset = record { 0 = 10 }; length = 1 })) e

@@ -1,6 +1,9 @@
 -- THE FRONT DOOR. What users of the library demand, as types about its C calls, each under the sentence that it comes from, with the name of its proof in Proved.antt. A call is known by its promise alone: what is said here is said of every answer that meets the promise; that the call's own answer meets it is proved of its code.
 use Prim.Native.Nat.{ℕ, suc, _+_, _≤_, _<_}
 use mathlib.Core.List.{List, [], _∷_, _++_}
+-- `cond t x y` is x where the test t holds, and y where it does not; `ltb m n` tests m < n
+use mathlib.Core.Bool.{cond}
+use lib.Dec.{ltb}
 -- `A ↔ B`: each follows from the other; `x ≢ y`: they are not equal; `A × B`: both; `⊥`: never
 use mathlib.Core.Logic.{_↔_, _≢_}
 use mathlib.Core.Option.{none, some}
@@ -47,11 +50,17 @@ pub data Verdict : WmAnswer → Type 0 where
   yes : (length : ℕ) → Verdict (wmFound 0 0 length)
   no : {a : WmAnswer} → Refusal a → Verdict a
 
--- What a question is answered: none, a place (with the id of a section), or a refusal
+-- What a question is answered: none, a place, or a refusal
 pub data Reply : WmAnswer → Type 0 where
   replyNone : Reply wmNone
-  replyFound : (id offset length : ℕ) → Reply (wmFound id offset length)
+  replyFound : (offset length : ℕ) → Reply (wmFound 0 offset length)
   replyRefused : {a : WmAnswer} → Refusal a → Reply a
+
+-- What the question for a section is answered: a place has its id, too
+pub data SectionReply : WmAnswer → Type 0 where
+  sectionNone : SectionReply wmNone
+  sectionFound : (id offset length : ℕ) → SectionReply (wmFound id offset length)
+  sectionRefused : {a : WmAnswer} → Refusal a → SectionReply a
 
 -- What a question for a hint is answered: none, unlikely, likely, or a refusal
 pub data HintReply : WmAnswer → Type 0 where
@@ -77,7 +86,7 @@ NeedsRoom writing = (old new old′ new′ : List ℕ) (a b : WmAnswer) → writ
 
 pub record Demand1 : Type 0 where
   pub walk : (bytes : List ℕ) (a : WmAnswer) → wm-walk bytes a → Verdict a
-  pub section : (position : ℕ) (bytes : List ℕ) (a : WmAnswer) → wm-section position bytes a → Reply a
+  pub section : (position : ℕ) (bytes : List ℕ) (a : WmAnswer) → wm-section position bytes a → SectionReply a
   pub custom : (name bytes : List ℕ) (a : WmAnswer) → wm-custom name bytes a → Reply a
   pub names-judge : (payload : List ℕ) (a : WmAnswer) → wm-names-judge payload a → Verdict a
   pub name : (q : Question) (payload : List ℕ) (a : WmAnswer) → wm-name q payload a → Reply a
@@ -99,7 +108,7 @@ pub record Demand1 : Type 0 where
 
 -- DEMAND 2. "Exactly what the rules accept is accepted. A lookup gives the mapped name as the very bytes of the section, or none exactly when the index has no name. Walk, hints and kept parts are what the rules make them. Names written from lists read back as those lists." Proved as `demand-2` in Proved.antt.
 
--- Found: a place inside what was lent, and the bytes that lie there are x
+-- Found: a place inside what was lent, and the bytes that lie there are x. Where the same bytes stand at two places this does not say which of them is told; the promises do, by the place at which each name was read
 abbrev pub FoundIn : List ℕ → WmAnswer → List ℕ → Type 0
 FoundIn lent a x = (a .kind ≡ 1) × (a .offset + a .length ≤ length lent) × (take (a .length) (drop (a .offset) lent) ≡ x)
 
@@ -209,6 +218,31 @@ pub record FineLists (indices lengths text : List ℕ) : Type 0 where
   pub rises : (i j a b : ℕ) → i < j → getElem? indices i ≡ some a → getElem? indices j ≡ some b → a < b
   pub texts : (k : ℕ) (x : List ℕ) → Lists k x indices lengths text → (characters : List ℕ) × Text x characters
 
+-- How long it is. A number takes one byte for each seven bits, and five at most
+abbrev pub bytesFor : ℕ → ℕ
+bytesFor n = cond (ltb n 128) 1 (cond (ltb n 16_384) 2 (cond (ltb n 2_097_152) 3 (cond (ltb n 268_435_456) 4 5)))
+
+-- each name its index, its length and its text
+abbrev pub entriesLength : (indices lengths : List ℕ) → ℕ
+entriesLength [] ns = 0
+entriesLength (i ∷ is) [] = 0
+entriesLength (i ∷ is) (n ∷ ns) = bytesFor i + bytesFor n + n + entriesLength is ns
+
+-- the contents of the subsection: the count of names, and the names
+abbrev pub contentsLength : (indices lengths : List ℕ) → ℕ
+contentsLength is ns = bytesFor (length is) + entriesLength is ns
+
+-- the payload: nothing for no names, else the subsection's id, the size of its contents, and these
+abbrev pub payloadLength : (indices lengths : List ℕ) → ℕ
+payloadLength [] ns = 0
+payloadLength (i ∷ is) ns = 1 + bytesFor (contentsLength (i ∷ is) ns) + contentsLength (i ∷ is) ns
+
+-- What fine lists are answered: 15 exactly where the subsection would exceed 4,294,967,295 bytes, else 13 exactly where the output is shorter than the payload, else they are written
+pub record FineAnswered (indices lengths old : List ℕ) (a : WmAnswer) : Type 0 where
+  pub too-large : 4_294_967_295 < contentsLength indices lengths → a ≡ wmRefused 15 0
+  pub too-short : contentsLength indices lengths ≤ 4_294_967_295 → length old < payloadLength indices lengths → a ≡ wmRefused 13 (payloadLength indices lengths)
+  pub is-written : contentsLength indices lengths ≤ 4_294_967_295 → payloadLength indices lengths ≤ length old → a ≡ wmFound 0 0 (payloadLength indices lengths)
+
 pub record WritesLists (indices lengths text written : List ℕ) (a : WmAnswer) : Type 0 where
   -- what was written is accepted
   pub is-accepted : (j : WmAnswer) → wm-names-judge written j → j .kind ≡ 1
@@ -231,9 +265,9 @@ pub record Demand2 : Type 0 where
   pub hints : AnswersHints
   pub walks : Walks
   pub through-modules : AsksThrough
-  -- lists that are written are fine, and fine lists are refused by 13 alone, for want of room, or by 15, for a subsection above 4,294,967,295 bytes
+  -- exactly the fine lists are written, but for the size of their subsection and for want of room
   pub written-fine : (indices lengths text old new : List ℕ) (a : WmAnswer) → wm-function-names-write indices lengths text old new a → a .kind ≡ 1 → FineLists indices lengths text
-  pub fine-written : (indices lengths text old new : List ℕ) (a : WmAnswer) → wm-function-names-write indices lengths text old new a → FineLists indices lengths text → a .kind ≡ 2 → a .code ≢ 13 → a ≡ wmRefused 15 0
+  pub fine-answered : (indices lengths text old new : List ℕ) (a : WmAnswer) → wm-function-names-write indices lengths text old new a → FineLists indices lengths text → FineAnswered indices lengths old a
   pub lists : (indices lengths text old new : List ℕ) (a : WmAnswer) → Indices indices → wm-function-names-write indices lengths text old new a → a .kind ≡ 1 → WritesLists indices lengths text (take (a .length) new) a
 
 -- DEMAND 3. "Canonical rewritings of two accepted payloads are equal byte by byte exactly when every allowed question gets the same answer from both. A rewriting is accepted, answers as its original, is never longer, and rewriting it again changes nothing." Proved as `demand-3` in Proved.antt.

@@ -1,4 +1,4 @@
--- Wrong judges: one that refuses everything, one that accepts everything, one that gives every refusal at one offset, and one that checks a map's first entry and waves the others through. Each judging call's promise rules them out, and so does that of its C call.
+-- Wrong judges: one that refuses everything, one that accepts everything, one that gives every refusal at one offset. Each judging call's promise rules them out, and so does that of its C call.
 use Prim.Native.Nat.{ℕ}
 use mathlib.Core.Bool.{false}
 use mathlib.Core.Path.{_≡_, refl, ap, subst, _∙_}

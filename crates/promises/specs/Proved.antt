@@ -42,7 +42,7 @@ use Rattle.grammar.specs.Laws.Metadata.{any-exact, metadata-complete}
 use Rattle.grammar.specs.Laws.Names.{names-complete}
 use Rattle.promises.specs.Laws.Judging.{found-grammar, refused-grammar}
 use Rattle.promises.specs.Laws.Listing.{lists-accepted, lists-read-back, lists-rest}
-use Rattle.promises.specs.Laws.Lists.{lists-fine, fine-lists}
+use Rattle.promises.specs.Laws.Lists.{lists-fine, fine-answered}
 use Rattle.promises.specs.Laws.Lookups.{tells-as, asked-tells, asked-refused, likely-held, unlikely-held, no-hint-held, hint-refused, name-held, contents-held, entry-held, inner-held, within-held}
 use Rattle.promises.specs.Laws.Outputs.{wrote, wrote-nothing, wrote-others, wrote-room, wrote-as-long, wrote-short, wrote-again}
 use Rattle.promises.specs.Laws.Refusing.{Numbered, FairlyJudged, names-verdict-fair, name-asked-fair, metadata-verdict-fair, metadata-asked-fair, hints-verdict-fair, hint-asked-fair, count-fair, section-at-fair, custom-payload-fair, name-through-fair, metadata-through-fair, hint-through-fair, written-fair, canonical-names-fair, canonical-metadata-fair, canonical-hints-fair, lists-fair}
@@ -51,7 +51,7 @@ use Rattle.promises.specs.Laws.Saying.{Verdict as Says, judged-said, jud
 use Rattle.promises.specs.Laws.Through.{name-through, hint-through, metadata-through, hint-data-through}
 use Rattle.promises.specs.Laws.Walking.{walked, walk-counts, section-found, section-first, section-none, section-refused, custom-tells, custom-refused}
 use Rattle.wakemiono.specs.Calls.{wm-walk, wm-names-judge, wm-name, wm-metadata-judge, wm-metadata, wm-hints-judge, wm-hint}
-use Rattle.promises.specs.Demands.{Refusal, Verdict, Reply, HintReply, Leaves, NeedsRoom, Demand1, HoldsName, HoldsData, JudgesExactly, AnswersNames, AnswersMetadata, AnswersHints, Walks, Demand2, SameAnswer, Rewrites, Demand3, refusal, yes, no, replyNone, replyFound, replyRefused, hintNone, hintUnlikely, hintLikely, hintRefused}
+use Rattle.promises.specs.Demands.{Refusal, Verdict, Reply, SectionReply, HintReply, Leaves, NeedsRoom, Demand1, HoldsName, HoldsData, JudgesExactly, AnswersNames, AnswersMetadata, AnswersHints, Walks, Demand2, SameAnswer, Rewrites, Demand3, refusal, yes, no, replyNone, replyFound, replyRefused, sectionNone, sectionFound, sectionRefused, hintNone, hintUnlikely, hintLikely, hintRefused}
 
 -- Demand 1
 refuses : (n at : ℕ) → Numbered n → Refusal (wmRefused n at)
@@ -68,13 +68,13 @@ count-verdict (refused m at) fair = no (refuses m at (fair .numbered m at refl))
 place-reply : (j : Judged (Option Part)) → FairlyJudged j → Reply (wmPlace (asPlace j))
 unfolding asPlace
 place-reply (accepted none) fair = replyNone
-place-reply (accepted (some p)) fair = replyFound 0 (p .at) (length (p .bytes))
+place-reply (accepted (some p)) fair = replyFound (p .at) (length (p .bytes))
 place-reply (refused m at) fair = replyRefused (refuses m at (fair .numbered m at refl))
 
-section-reply : (j : Judged (Option AnySection)) → FairlyJudged j → Reply (wmSection (mapJudged (mapSome sectionPlace) j))
-section-reply (accepted none) fair = replyNone
-section-reply (accepted (some s)) fair = replyFound (s .id) (s .at) (length (s .contents .bytes))
-section-reply (refused m at) fair = replyRefused (refuses m at (fair .numbered m at refl))
+section-reply : (j : Judged (Option AnySection)) → FairlyJudged j → SectionReply (wmSection (mapJudged (mapSome sectionPlace) j))
+section-reply (accepted none) fair = sectionNone
+section-reply (accepted (some s)) fair = sectionFound (s .id) (s .at) (length (s .contents .bytes))
+section-reply (refused m at) fair = sectionRefused (refuses m at (fair .numbered m at refl))
 
 hint-reply : (j : Judged (Option Hint)) → FairlyJudged j → HintReply (wmHint j)
 hint-reply (accepted none) fair = hintNone
@@ -191,7 +191,7 @@ demand-2 = record {
   walks = walks;
   through-modules = record { names = name-through; hints = λ f o. hint-through (record { 0 = f }) (record { 0 = o }); metadata = λ x n f o. metadata-through x n (record { 0 = f }) (record { 0 = o }); hint-data = λ f o. hint-data-through (record { 0 = f }) (record { 0 = o }) };
   written-fine = λ is ns text old new a w k. let fine = lists-fine is ns text old new a w k in record { counts = fine .0; adds-up = fine .1; rises = fine .2; texts = fine .3 };
-  fine-written = λ is ns text old new a w fine. fine-lists is ns text old new a w (fine .counts, fine .adds-up, fine .rises, fine .texts);
+  fine-answered = λ is ns text old new a w fine. fine-answered is ns text old new a w (fine .counts, fine .adds-up, fine .rises, fine .texts);
   lists = λ is ns text old new a l w k. record { is-accepted = lists-accepted is ns text old new a l w k; reads-back = lists-read-back is ns text old new a l w k; is-canonical = lists-rest is ns text old new a l w k };
 }
 

@@ -106,8 +106,9 @@ module _ {n : ℕ} where
   unfolding shortest
   takes-four l h = one-byte-more 3 n 3 (omega arith) (one-byte-more 2 (n / 128) 2 (omega arith) (one-byte-more 1 (n / 128 / 128) 1 (omega arith) (short 1 (n / 128 / 128 / 128) (omega arith))))
 
-  pub takes-five : 268_435_456 ≤ n → n < limit32 → 5 ≡ length (shortest n)
-  unfolding shortest
-  takes-five l h = one-byte-more 3 n 4 (omega arith) (one-byte-more 2 (n / 128) 3 (omega arith) (one-byte-more 1 (n / 128 / 128) 2 (omega arith) (one-byte-more 0 (n / 128 / 128 / 128) 1 (omega arith) (short 0 (n / 128 / 128 / 128 / 128) (omega arith)))))
+  -- five at most, however large it is
+  pub takes-five : 268_435_456 ≤ n → 5 ≡ length (shortest n)
+  unfolding shortest fewest
+  takes-five l = one-byte-more 3 n 4 (omega arith) (one-byte-more 2 (n / 128) 3 (omega arith) (one-byte-more 1 (n / 128 / 128) 2 (omega arith) (one-byte-more 0 (n / 128 / 128 / 128) 1 (omega arith) refl)))
 
 pub ruleset lengths = (takes-one, takes-two, takes-three, takes-four, takes-five, needs)

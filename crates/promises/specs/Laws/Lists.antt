@@ -3,26 +3,29 @@ use Prim.Native.Nat.{ℕ, zero, suc, _+_, _≤_, _<_}
 use mathlib.Core.Bool.{true, _&&_}
 use mathlib.Core.List.{List, [], _∷_}
 use mathlib.Core.Option.{none, some}
-use mathlib.Core.Path.{_≡_, refl, sym}
+use mathlib.Core.Path.{_≡_, refl, sym, ap, _∙_}
 use native.Mathlib.Omega.{arith}
-use borrow.Author.Tests.{leb-true, eqb-true, le-leb, eq-eqb}
+use borrow.Author.Tests.{leb-true, ltb-true, ltb-false, eqb-true, le-leb, le-ltb, lt-ltb, eq-eqb}
 use lib.Dec.{ltb, leb, eqb}
 use lib.ListN.{length, take, drop, getElem?}
-use Rattle.format.specs.Canonical.{writeContent, writeSubsections}
 use Rattle.format.specs.Holding.{Lists, firstListed, laterListed}
 use Rattle.format.specs.Laws.Lists.{on-provided, on-unless}
 use Rattle.format.specs.Laws.Options.{not-some, some-is}
-use Rattle.format.specs.Laws.Outcomes.{byTest, onBoth}
-use Rattle.format.specs.Lists.{sum, listed, unsortedAt, badTextAt, subsection, functionNames}
-use Rattle.format.specs.Names.{names}
-use Rattle.format.specs.Numbers.{limit32}
+use Rattle.format.specs.Laws.Outcomes.{accepted-is, byTest, onBoth}
+use Rattle.format.specs.Lists.{sum, unsortedAt, badTextAt, provided, functionNames}
+use Rattle.format.specs.Numbers.{limit32, shortest}
 use Rattle.format.specs.Reading.{accepted}
 use Rattle.format.specs.Text.{utf8}
+use Rattle.format.specs.declared.Reason.the-variants.{SubsectionTooLarge}
 use Rattle.grammar.specs.Grammar.{texts-exact}
 use Rattle.grammar.specs.Texts.{Text}
-use Rattle.wakemiono.specs.Boundary.{wmRefused, WmWrites}
+use Rattle.lists.specs.Steps.{rowsLength, contentsLength as measuredLength, Joined, Measured, payload}
+use Rattle.lists.proofs.Payloads.{content-long, nothing-listed, payload-filled, filled-long}
+use Rattle.writing.proofs.NumberLaws.{takes-one, takes-two, takes-three, takes-four, takes-five}
+use Rattle.wakemiono.specs.Boundary.{wmFound, WmWrites}
 use Rattle.wakemiono.specs.declared.WmAnswer.{WmAnswer}
-use Rattle.promises.specs.Laws.Outputs.{wrote, wrote-refused, refused-short}
+use Rattle.promises.specs.Demands.{bytesFor, entriesLength, contentsLength, payloadLength, FineAnswered}
+use Rattle.promises.specs.Laws.Outputs.{wrote, wrote-there, wrote-refused, short-there}
 
 -- Rising indices
 abbrev Rising : List ℕ → Type 0
@@ -83,14 +86,56 @@ module _ (is ns text old new : List ℕ) (a : WmAnswer) (w : WmWrites (functionN
       onBoth (eqb (length is) (length ns)) (eqb (sum ns) (length text)) c λ l s.
       (eqb-true (length is) (length ns) l, eqb-true (sum ns) (length text) s, rising-of 0 0 is u, λ k x m. texts-exact .valid-exactly x .0 (texts-of 0 b m))
 
-  -- fine lists are refused for their size alone, or for want of room
-  pub fine-lists : FineLists is ns text → a .kind ≡ 2 → (a .code ≡ 13 → ⊥) → a ≡ wmRefused 15 0
-  unfolding functionNames
-  fine-lists fine k other =
+-- How long what is written is, as the demands count it
+number-long : (n : ℕ) → length (shortest n) ≡ bytesFor n
+number-long n =
+    byTest (ltb n 128) (λ t. rw t (sym (takes-one (ltb-true n 128 t)))) λ t₁.
+    byTest (ltb n 16_384) (λ t. rw (t₁, t) (sym (takes-two (ltb-false n 128 t₁) (ltb-true n 16_384 t)))) λ t₂.
+    byTest (ltb n 2_097_152) (λ t. rw (t₁, t₂, t) (sym (takes-three (ltb-false n 16_384 t₂) (ltb-true n 2_097_152 t)))) λ t₃.
+    byTest (ltb n 268_435_456) (λ t. rw (t₁, t₂, t₃, t) (sym (takes-four (ltb-false n 2_097_152 t₃) (ltb-true n 268_435_456 t)))) λ t₄.
+    rw (t₁, t₂, t₃, t₄) (sym (takes-five (ltb-false n 268_435_456 t₄)))
+
+entries-long : (is ns : List ℕ) → rowsLength is ns ≡ entriesLength is ns
+unfolding rowsLength
+entries-long [] ns = refl
+entries-long (i ∷ is) [] = refl
+entries-long (i ∷ is) (n ∷ ns) = rw (number-long i, number-long n, entries-long is ns)
+
+contents-long : (is ns : List ℕ) → measuredLength is ns ≡ contentsLength is ns
+contents-long is ns = rw (number-long (length is), entries-long is ns)
+
+payload-long : (is ns text : List ℕ) {size : ℕ} → Measured is ns text size → length (payload is ns text) ≡ payloadLength is ns
+payload-long [] ns text m = ap length (nothing-listed [] ns text refl)
+payload-long (i ∷ is) ns text {size} m =
+    let same : size ≡ contentsLength (i ∷ is) ns = m .measured ∙ contents-long (i ∷ is) ns in
+    ap length (payload-filled m (λ h. omega (arith, h))) ∙ filled-long m ∙ rw (number-long size, same)
+
+module _ (is ns text old new : List ℕ) (a : WmAnswer) (w : WmWrites (functionNames is ns text) old new a) (fine : FineLists is ns text) where
+  joined : Joined is ns text
+  joined = record { same-count = fine .0; add-up = fine .1 }
+
+  -- nothing but the size is left to decide
+  by-size : functionNames is ns text ≡ provided (ltb (contentsLength is ns) limit32) SubsectionTooLarge (accepted (payload is ns text))
+  unfolding functionNames payload
+  by-size =
       let l = eq-eqb (length is) (length ns) (fine .0) in
       let s = eq-eqb (sum ns) (length text) (fine .1) in
       let u = to-rising 0 0 is (λ i a e. omega arith) (fine .2) in
       let b = to-texts 0 is ns text (fine .0) (λ k x m. texts-exact .valid-exactly x .1 (fine .3 k x m)) in
-      byTest (ltb (length (writeContent (names (listed is ns text)))) limit32)
-      (λ t. let wants : functionNames is ns text ≡ accepted (writeSubsections (subsection (listed is ns text))) = rw (l, s, u, b, t) in absurd (other (refused-short wants w k)))
-      (λ t. wrote-refused w (rw (l, s, u, b, t)))
+      rw (l, s, u, b, content-long is ns text joined, contents-long is ns)
+
+  module _ (small : contentsLength is ns < limit32) where
+    wanted : functionNames is ns text ≡ accepted (payload is ns text)
+    wanted = by-size ∙ rw (lt-ltb (contentsLength is ns) limit32 small)
+
+    long : length (payload is ns text) ≡ payloadLength is ns
+    long = payload-long is ns text (record { joined = joined; measured = sym (contents-long is ns); small = small })
+
+  pub fine-answered : FineAnswered is ns old a
+  fine-answered = record {
+    too-large = λ h. wrote-refused w (by-size ∙ rw (le-ltb (contentsLength is ns) limit32 (omega arith)));
+    too-short = λ h short. rw (long (omega arith)) at (short-there (payload is ns text) (rw (long (omega arith)) short) (rw (wanted (omega arith)) at w));
+    is-written = λ h room.
+      let v = wrote-there (payload is ns text) (rw (long (omega arith)) room) (rw (wanted (omega arith)) at w) in
+      v .is ∙ ap (λ bs. wmFound 0 0 (length bs)) (sym (accepted-is (v .wants))) ∙ ap (λ n. wmFound 0 0 n) (long (omega arith));
+  }

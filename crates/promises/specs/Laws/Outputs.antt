@@ -81,7 +81,7 @@ pub wrote-refused : {wanted : Judged (List ℕ)} {old new : List ℕ} {a : WmAns
 unfolding fitting writeAnswer
 wrote-refused w e = w .says ∙ rw e
 
-short-there : {old new : List ℕ} {a : WmAnswer} (bytes : List ℕ) → length old < length bytes → WmWrites (accepted bytes) old new a → a ≡ wmRefused 13 (length bytes)
+pub short-there : {old new : List ℕ} {a : WmAnswer} (bytes : List ℕ) → length old < length bytes → WmWrites (accepted bytes) old new a → a ≡ wmRefused 13 (length bytes)
 unfolding fitting writeAnswer
 short-there {old} bytes short w = w .says ∙ rw (lt-leb (length bytes) (length old) short)
 
@@ -99,11 +99,3 @@ module _ {wanted : Judged (List ℕ)} {old new old′ new′ : List ℕ} {a b : 
       let same = sym (accepted-is (two .wants)) in
       let is = two .is ∙ ap (λ bs. wmFound 0 0 (length bs)) same ∙ sym (one .is) in
       (is, ap (λ (c : WmAnswer). take (c .length) new′) (sym is) ∙ wrote-first two ∙ same ∙ sym (wrote-first one))
-
--- what is wanted and accepted is refused by 13 alone
-pub refused-short : {wanted : Judged (List ℕ)} {old new bytes : List ℕ} {a : WmAnswer} → wanted ≡ accepted bytes → WmWrites wanted old new a → a .kind ≡ 2 → a .code ≡ 13
-unfolding fitting writeAnswer
-refused-short {old = old} {bytes = bytes} {a = a} e w k =
-    byTest (leb (length bytes) (length old))
-    (λ t. let is : a ≡ wmFound 0 0 (length bytes) = w .says ∙ rw (e, t) in absurd (omega (arith, k, kindOf is)))
-    (λ t. let is : a ≡ wmRefused 13 (length bytes) = w .says ∙ rw (e, t) in ap (λ (a : WmAnswer). a .code) is)
