@@ -1,56 +1,99 @@
--- What a found place says: of the judgement, and of a hint.
-use Prim.Native.Nat.{ℕ, _<_}
+-- What a judgement says: of the payload, of the data where it is asked, and of a hint.
+use Prim.Native.Nat.{ℕ, _-_, _≤_, _<_}
 use mathlib.Core.List.{List, [], _∷_}
-use mathlib.Core.Option.{Option, none, some}
+use mathlib.Core.Option.{some}
 use mathlib.Core.Path.{_≡_, refl, sym, ap, _∙_}
 use native.Mathlib.Omega.{arith}
 use borrow.Author.Needs.{needs}
 use denote.Enum.Declared.{tagOf}
 use lib.ListN.{length, getD, take}
-use lib.Seq.{drop-cons}
-use Rattle.format.specs.Reading.{Reader, accepted, verdict}
+use lib.Seq.{drop-cons, length-slice}
+use Rattle.format.specs.Reading.{Reader, accepted, refused, verdict}
+use Rattle.format.specs.Refusals.{numberOf}
 use Rattle.format.specs.Parts.{Part}
 use Rattle.format.specs.Questions.{answered, asPlace}
 use Rattle.format.specs.Metadata.{dataOf, hintItem, judgeMetadata, itemAt, askMetadata, hintIn, askHint, hintAnswered}
-use Rattle.format.specs.Laws.Answers.{place-none, place-found, place-refused}
 use Rattle.format.specs.Laws.Outcomes.{mapped, refused-exactly}
 use Rattle.format.specs.Laws.Hints.{hint-is, found-hint}
 use Rattle.format.specs.Laws.Places.{lies-inside, lies-there, PartIn, hint-located}
 use Rattle.format.specs.Laws.Found.{item-lies}
-use Rattle.format.specs.declared.Answer.{Answer}
-use Rattle.format.specs.declared.Answer.the-variants.{Found, Refused}
+use Rattle.format.specs.declared.Answer.the-variants.{None, Found, Refused}
 use Rattle.format.specs.declared.CodeOffset.{CodeOffset}
 use Rattle.format.specs.declared.FunctionIndex.{FunctionIndex}
 use Rattle.format.specs.declared.Hint.{Hint}
 use Rattle.format.specs.declared.Hint.the-variants.{Unlikely, Likely}
 use Rattle.format.specs.declared.HintAnswer.the-variants.{None as NoHint, Found as AHint, Refused as NotHinted}
-use Rattle.format.specs.declared.Place.{Place}
+use Rattle.format.specs.declared.Reason.the-variants.{LeftOver}
 use Rattle.format.specs.declared.Refusal.{Refusal}
-use Rattle.format.proofs.Answer as answer-type
-use Rattle.format.proofs.Tags.{no-answer}
 use Rattle.reading.proofs.Laws.{lies-left}
-use Rattle.reading.specs.Cursors.{Inside, left}
+use Rattle.reading.specs.Cursors.{Inside, left, partOf}
 use Rattle.reading.specs.declared.Cursor.{Cursor}
 use Rattle.metadata.specs.Judgements.{judged}
 use Rattle.metadata.specs.declared.Judged.the-variants.{Accepted, Refused as NotAccepted}
+use Rattle.metadata.specs.Asking.{heldOf, JudgesFor, refusalIn}
+use Rattle.metadata.specs.declared.Held.{Held}
+use Rattle.metadata.specs.declared.Held.the-variants.{Part as Data}
+use Rattle.metadata.specs.declared.Judgement.{Judgement}
+use Rattle.metadata.specs.declared.Judgement.the-variants.{Accepted as Fine, Refused as NotFine}
+use Rattle.metadata.proofs.Held as held-type
+use Rattle.metadata.proofs.Judgement as judgement-type
+use Rattle.metadata.proofs.Tags.{as-nothing, as-fine, as-not-fine}
 
--- from the answer to the judgement
-module _ (value : Reader Part) (f : FunctionIndex) (at : CodeOffset) (o : ℕ) (bs : List ℕ) (a : Answer) (q : answered a ≡ asPlace (askMetadata value f at o bs)) where
-  pub judge-refused : (r : Refusal) → a ≡ Refused r → judged (NotAccepted r) ≡ verdict (judgeMetadata value o bs)
+-- the refusal of a judgement
+pub refusal-is : (j : Judgement) {r : Refusal} → j ≡ NotFine r → r ≡ refusalIn j
+refusal-is j e = rw e
+
+pub refusal-none : (j : Judgement) → tagOf judgement-type.the-type j ≡ 0 → record { reason = LeftOver; offset = record { 0 = 0 } } ≡ refusalIn j
+refusal-none (Fine held) h = refl
+refusal-none (NotFine r) h = absurd (omega arith)
+
+pub ruleset refusals = (refusal-is, refusal-none, needs)
+
+-- what a judgement says: of the payload, and of the place that is asked for
+module _ {value : Reader Part} {f : FunctionIndex} {at : CodeOffset} {s : List ℕ} {c : Cursor} (j : Judgement) (q : JudgesFor value f at s c j) where
+  refused-so : tagOf judgement-type.the-type j ≡ 1 → askMetadata value f at (c .at) (left s c) ≡ refused (numberOf (refusalIn j .reason)) (refusalIn j .offset .0)
+  refused-so h = sym (rw (as-not-fine j h) at (q .says))
+
+  pub judge-refused : {r : Refusal} → tagOf judgement-type.the-type j ≡ 1 → r ≡ refusalIn j → judged (NotAccepted r) ≡ verdict (judgeMetadata value (c .at) (left s c))
   unfolding askMetadata
-  judge-refused r e = sym (refused-exactly (λ _. tt) (judgeMetadata value o bs) .1 (refused-exactly (itemAt f at) (judgeMetadata value o bs) .0 (place-refused (askMetadata value f at o bs) (rw e at q))))
+  judge-refused h is = rw is (sym (refused-exactly (λ _. tt) (judgeMetadata value (c .at) (left s c)) .1 (refused-exactly (itemAt f at) (judgeMetadata value (c .at) (left s c)) .0 (refused-so h))))
 
-  accepts : (x : Option Part) → askMetadata value f at o bs ≡ accepted x → judged Accepted ≡ verdict (judgeMetadata value o bs)
+  pub judge-accepted : tagOf judgement-type.the-type j ≡ 0 → judged Accepted ≡ verdict (judgeMetadata value (c .at) (left s c))
   unfolding askMetadata
-  accepts x e = mapped (itemAt f at) (judgeMetadata value o bs) e λ t e₁ _. rw e₁
+  judge-accepted h =
+      let (held, e) = as-fine j h in
+      let says : accepted (heldOf s held) ≡ askMetadata value f at (c .at) (left s c) = rw e at (q .says) in
+      mapped (itemAt f at) (judgeMetadata value (c .at) (left s c)) (sym says) λ t e₁ _. rw e₁
 
-  pub judge-none : tagOf answer-type.the-type a ≡ 0 → judged Accepted ≡ verdict (judgeMetadata value o bs)
-  judge-none h = accepts none (place-none (askMetadata value f at o bs) (rw (no-answer a h) at q))
+  pub find-refused : {r : Refusal} → tagOf judgement-type.the-type j ≡ 1 → r ≡ refusalIn j → answered (Refused r) ≡ asPlace (askMetadata value f at (c .at) (left s c))
+  unfolding asPlace
+  find-refused h is = rw (is, refused-so h)
 
-  pub judge-found : (p : Place) → a ≡ Found p → judged Accepted ≡ verdict (judgeMetadata value o bs)
-  judge-found p e = let (x, e₁, _) = place-found (askMetadata value f at o bs) (rw e at q) in accepts (some x) e₁
+  module _ {held : Held} (e : j ≡ Fine held) where
+    holds : askMetadata value f at (c .at) (left s c) ≡ accepted (heldOf s held)
+    holds = sym (rw e at (q .says))
 
-pub ruleset judgements = (judge-refused, judge-none, judge-found, needs)
+    pub find-none : tagOf held-type.the-type held ≡ 0 → answered None ≡ asPlace (askMetadata value f at (c .at) (left s c))
+    unfolding asPlace
+    find-none h = rw (holds, as-nothing held h)
+
+    module _ {data′ : Cursor} (is : held ≡ Data data′) where
+      data-there : askMetadata value f at (c .at) (left s c) ≡ accepted (some (partOf s data′))
+      data-there = rw is at holds
+
+      data-inside : Inside s data′
+      data-inside = rw (e, is) at (q .inside)
+
+      pub data-ahead : data′ .at ≤ data′ .end
+      data-ahead = data-inside .ahead
+
+      pub find-found : answered (Found (record { offset = record { 0 = data′ .at }; length = data′ .end - data′ .at })) ≡ asPlace (askMetadata value f at (c .at) (left s c))
+      unfolding asPlace
+      find-found = rw (data-there, length-slice (data′ .at) (data′ .end) s (data-inside .within))
+
+pub ruleset judgements = (judge-refused, judge-accepted, needs)
+
+pub ruleset finds = (find-refused, find-none, data-ahead, find-found, needs)
 
 one-byte : (h : Hint) → length (dataOf h) ≡ 1
 unfolding dataOf
@@ -79,43 +122,39 @@ hint-told : (f : FunctionIndex) (at : CodeOffset) (o : ℕ) (bs : List ℕ) {x :
 unfolding askHint hintIn
 hint-told f at o bs {x} {h} e q = rw e (ap accepted (rw q (hint-is h)))
 
--- the data byte of a hint that was found
-module _ {s : List ℕ} {c : Cursor} (i : Inside s c) (f : FunctionIndex) (at : CodeOffset) (a : Answer) (q : answered a ≡ asPlace (askMetadata hintItem f at (c .at) (left s c))) where
-  pub hint-refused : (r : Refusal) → a ≡ Refused r → hintAnswered (NotHinted r) ≡ askHint f at (c .at) (left s c)
+-- a hint's judgement, and the data byte of a hint that was found
+module _ {f : FunctionIndex} {at : CodeOffset} {s : List ℕ} {c : Cursor} (i : Inside s c) (j : Judgement) (q : JudgesFor hintItem f at s c j) where
+  pub hint-refused : {r : Refusal} → tagOf judgement-type.the-type j ≡ 1 → r ≡ refusalIn j → hintAnswered (NotHinted r) ≡ askHint f at (c .at) (left s c)
   unfolding askHint
-  hint-refused r e = sym (refused-exactly hintIn (askMetadata hintItem f at (c .at) (left s c)) .1 (place-refused (askMetadata hintItem f at (c .at) (left s c)) (rw e at q)))
+  hint-refused h is = rw is (sym (refused-exactly hintIn (askMetadata hintItem f at (c .at) (left s c)) .1 (refused-so j q h)))
 
-  pub hint-none : tagOf answer-type.the-type a ≡ 0 → hintAnswered NoHint ≡ askHint f at (c .at) (left s c)
-  unfolding askHint hintIn
-  hint-none h = rw (place-none (askMetadata hintItem f at (c .at) (left s c)) (rw (no-answer a h) at q))
+  module _ {held : Held} (e : j ≡ Fine held) where
+    pub hint-none : tagOf held-type.the-type held ≡ 0 → hintAnswered NoHint ≡ askHint f at (c .at) (left s c)
+    unfolding askHint hintIn
+    hint-none h = rw (holds j q e, as-nothing held h)
 
-  -- one byte, which says which hint
-  record HintThere (p : Place) : Type 0 where
-    hint : Hint
-    told : askHint f at (c .at) (left s c) ≡ accepted (some hint)
-    inside : p .offset .0 < length s
-    byte : getD s (p .offset .0) 0 ∷ [] ≡ dataOf hint
+    module _ {data′ : Cursor} (is : held ≡ Data data′) where
+      -- one byte, which says which hint
+      record HintThere : Type 0 where
+        hint : Hint
+        told : askHint f at (c .at) (left s c) ≡ accepted (some hint)
+        inside : data′ .at < length s
+        byte : getD s (data′ .at) 0 ∷ [] ≡ dataOf hint
 
-  hint-there : (p : Place) → a ≡ Found p → HintThere p
-  unfolding askHint hintIn
-  hint-there p e =
-      let (x, e₁, is) = place-found (askMetadata hintItem f at (c .at) (left s c)) (rw e at q) in
-      let (h, holds) = found-hint f at (c .at) (left s c) e₁ in
-      let byte = byte-is s x h (item-lies hint-located f at s (c .at) (left s c) (lies-left i) e₁) holds in
-      rw (← is) (record {
-        hint = h;
-        told = hint-told f at (c .at) (left s c) e₁ holds;
-        inside = byte .0;
-        byte = byte .1;
-      })
+      hint-there : HintThere
+      hint-there =
+          let there = data-there j q e is in
+          let (h, holds) = found-hint f at (c .at) (left s c) there in
+          let byte = byte-is s (partOf s data′) h (item-lies hint-located f at s (c .at) (left s c) (lies-left i) there) holds in
+          record { hint = h; told = hint-told f at (c .at) (left s c) there holds; inside = byte .0; byte = byte .1 }
 
-  pub data-inside : (p : Place) → a ≡ Found p → p .offset .0 < length s
-  data-inside p e = hint-there p e .inside
+      pub byte-inside : data′ .at < length s
+      byte-inside = hint-there .inside
 
-  pub hint-likely : (p : Place) → a ≡ Found p → getD s (p .offset .0) 0 ≡ 1 → hintAnswered (AHint Likely) ≡ askHint f at (c .at) (left s c)
-  hint-likely p e b = let t = hint-there p e in ap (λ h. accepted (some h)) (is-likely (t .hint) (t .byte) b) ∙ sym (t .told)
+      pub hint-likely : getD s (data′ .at) 0 ≡ 1 → hintAnswered (AHint Likely) ≡ askHint f at (c .at) (left s c)
+      hint-likely b = let t = hint-there in ap (λ h. accepted (some h)) (is-likely (t .hint) (t .byte) b) ∙ sym (t .told)
 
-  pub hint-unlikely : (p : Place) → a ≡ Found p → (getD s (p .offset .0) 0 ≡ 1 → ⊥) → hintAnswered (AHint Unlikely) ≡ askHint f at (c .at) (left s c)
-  hint-unlikely p e b = let t = hint-there p e in ap (λ h. accepted (some h)) (is-unlikely (t .hint) (t .byte) b) ∙ sym (t .told)
+      pub hint-unlikely : (getD s (data′ .at) 0 ≡ 1 → ⊥) → hintAnswered (AHint Unlikely) ≡ askHint f at (c .at) (left s c)
+      hint-unlikely b = let t = hint-there in ap (λ h. accepted (some h)) (is-unlikely (t .hint) (t .byte) b) ∙ sym (t .told)
 
-pub ruleset hints = (hint-refused, hint-none, data-inside, hint-likely, hint-unlikely, needs)
+pub ruleset hints = (hint-refused, hint-none, byte-inside, hint-likely, hint-unlikely, needs)

@@ -1,20 +1,20 @@
--- What a search of both lists says of the payload that they must fill.
-use Prim.Native.Nat.{ℕ, suc, _-_, _≤_, _<_}
+-- What a search of both lists says of the payload that they must fill: its judgement.
+use Prim.Native.Nat.{ℕ, suc, _≤_, _<_}
 use mathlib.Core.List.{List, [], _∷_}
 use mathlib.Core.Option.{Option}
 use mathlib.Core.Path.{_≡_, sym, ap}
 use native.Mathlib.Omega.{arith}
 use borrow.Author.Needs.{needs}
-use lib.ListN.{length, getD}
-use lib.Seq.{slice, slice-cons, slice-empty, length-slice}
+use borrow.Author.Tests.{ltb-true, ltb-false, le-ltb, lt-ltb}
+use lib.Dec.{ltb}
+use lib.ListN.{getD}
+use lib.Seq.{slice, slice-cons, slice-empty}
 use Rattle.format.specs.Reading.{got, stop, Reader, accepted, refused}
 use Rattle.format.specs.Options.{thenSome}
 use Rattle.format.specs.Parts.{Part}
 use Rattle.format.specs.Tables.{table, lookup}
-use Rattle.format.specs.Questions.{answered, asPlace}
 use Rattle.format.specs.Metadata.{metadata, judgeMetadata, itemAt, askMetadata}
-use Rattle.format.specs.Laws.Outcomes.{not-got, got-value, got-next, got-rest, byOutcome, stop-refused}
-use Rattle.format.specs.declared.Answer.the-variants.{None, Found, Refused}
+use Rattle.format.specs.Laws.Outcomes.{not-got, got-value, got-next, got-rest, byOutcome, byTest, stop-refused}
 use Rattle.format.specs.declared.CodeOffset.{CodeOffset}
 use Rattle.format.specs.declared.FunctionIndex.{FunctionIndex}
 use Rattle.format.specs.declared.Reason.the-variants.{LeftOver}
@@ -23,8 +23,13 @@ use Rattle.reading.specs.Cursors.{Inside, left}
 use Rattle.reading.specs.declared.Cursor.{Cursor}
 use Rattle.tables.specs.Seeking.{soughtWithin, Seeks}
 use Rattle.tables.specs.declared.Seek.{Seek}
-use Rattle.tables.specs.declared.Seek.the-variants.{None as NoPart, Found as APart, Refused as NoSeek}
+use Rattle.tables.specs.declared.Seek.the-variants.{None as NoPart, Found as SeekPart, Refused as NoSeek}
 use Rattle.tables.proofs.Laws.{refused-means, none-means, none-inside, found-means, found-inside, found-part}
+use Rattle.metadata.specs.Asking.{filledWith, heldOf, heldInside, JudgesFor}
+use Rattle.metadata.specs.declared.Held.{Held}
+use Rattle.metadata.specs.declared.Held.the-variants.{Nothing, Part as APart}
+use Rattle.metadata.specs.declared.Judgement.{Judgement}
+use Rattle.metadata.specs.declared.Judgement.the-variants.{Accepted, Refused}
 
 -- by what the search came to
 module _ (value : Reader Part) (f : FunctionIndex) (at : CodeOffset) (o : ℕ) (bs : List ℕ) where
@@ -55,31 +60,31 @@ nothing-left {s} {c} i h = let e : c .at ≡ c .end = omega (arith, i .ahead) in
 something-left : {s : List ℕ} {c : Cursor} → Inside s c → c .at < c .end → left s c ≡ getD s (c .at) 0 ∷ slice (suc (c .at)) (c .end) s
 something-left {s} {c} i h = slice-cons (c .at) (c .end) s 0 h (i .within)
 
--- what the call answers
+-- nothing behind the lists, or something
+module _ (held : Held) {next : Cursor} where
+  pub fills : next .end ≤ next .at → Accepted held ≡ filledWith held next
+  fills h = rw (le-ltb (next .at) (next .end) h)
+
+  pub leaves-over : next .at < next .end → Refused (record { reason = LeftOver; offset = record { 0 = next .at } }) ≡ filledWith held next
+  leaves-over h = rw (lt-ltb (next .at) (next .end) h)
+
+pub ruleset fillings = (fills, leaves-over, needs)
+
+-- what the judgement comes to
 module _ {s : List ℕ} {c : Cursor} (value : Reader Part) (f : FunctionIndex) (at : CodeOffset) {x : Seek} (i : Inside s c) (k : Seeks (soughtWithin value (f .0) (at .0)) s c x) where
-  pub find-refused : {r : Refusal} → x ≡ NoSeek r → answered (Refused r) ≡ asPlace (askMetadata value f at (c .at) (left s c))
-  unfolding asPlace
-  find-refused e = rw (sought-stops value f at (c .at) (left s c) (refused-means k e))
+  pub judged-refused : {r : Refusal} → x ≡ NoSeek r → JudgesFor value f at s c (Refused r)
+  judged-refused e = record { says = sym (sought-stops value f at (c .at) (left s c) (refused-means k e)); inside = tt }
 
-  module _ {next : Cursor} (e : x ≡ NoPart next) where
-    pub find-none : next .end ≤ next .at → answered None ≡ asPlace (askMetadata value f at (c .at) (left s c))
-    unfolding asPlace
-    find-none h = rw (sought-fills value f at (c .at) (left s c) (rw (nothing-left (none-inside i k e) h) at (none-means k e)))
+  by-filling : {y : Judgement} (held : Held) {next : Cursor} → heldInside s held → Inside s next → soughtWithin value (f .0) (at .0) (c .at) (left s c) ≡ got (heldOf s held) (next .at) (left s next) → y ≡ filledWith held next → JudgesFor value f at s c y
+  by-filling held {next} there j means is =
+      byTest (ltb (next .at) (next .end))
+      (λ t. let over = something-left j (ltb-true (next .at) (next .end) t) in rw (is, t) (record { says = sym (sought-leaves value f at (c .at) (left s c) (rw over at means)); inside = tt }))
+      (λ t. let none = nothing-left j (ltb-false (next .at) (next .end) t) in rw (is, t) (record { says = sym (sought-fills value f at (c .at) (left s c) (rw none at means)); inside = there }))
 
-    pub none-left-over : next .at < next .end → answered (Refused (record { reason = LeftOver; offset = record { 0 = next .at } })) ≡ asPlace (askMetadata value f at (c .at) (left s c))
-    unfolding asPlace
-    none-left-over h = rw (sought-leaves value f at (c .at) (left s c) (rw (something-left (none-inside i k e) h) at (none-means k e)))
+  pub judged-none : {y : Judgement} {next : Cursor} → x ≡ NoPart next → y ≡ filledWith Nothing next → JudgesFor value f at s c y
+  judged-none e is = by-filling Nothing tt (none-inside i k e) (none-means k e) is
 
-  module _ {part next : Cursor} (e : x ≡ APart part next) where
-    pub part-ahead : part .at ≤ part .end
-    part-ahead = found-part i k e .ahead
+  pub judged-found : {y : Judgement} {part next : Cursor} → x ≡ SeekPart part next → y ≡ filledWith (APart part) next → JudgesFor value f at s c y
+  judged-found {part = part} e is = by-filling (APart part) (found-part i k e) (found-inside i k e) (found-means k e) is
 
-    pub find-found : next .end ≤ next .at → answered (Found (record { offset = record { 0 = part .at }; length = part .end - part .at })) ≡ asPlace (askMetadata value f at (c .at) (left s c))
-    unfolding asPlace
-    find-found h = rw (sought-fills value f at (c .at) (left s c) (rw (nothing-left (found-inside i k e) h) at (found-means k e)), length-slice (part .at) (part .end) s (found-part i k e .within))
-
-    pub found-left-over : next .at < next .end → answered (Refused (record { reason = LeftOver; offset = record { 0 = next .at } })) ≡ asPlace (askMetadata value f at (c .at) (left s c))
-    unfolding asPlace
-    found-left-over h = rw (sought-leaves value f at (c .at) (left s c) (rw (something-left (found-inside i k e) h) at (found-means k e)))
-
-pub ruleset finds = (find-refused, find-none, none-left-over, part-ahead, find-found, found-left-over, needs)
+pub ruleset judgings = (judged-refused, judged-none, judged-found, needs)

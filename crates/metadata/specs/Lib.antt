@@ -1,2 +1,3 @@
 pub mod Judgements
+pub mod Asking
 pub mod Demands

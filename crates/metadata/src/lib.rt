@@ -5,6 +5,7 @@ ghost use Rattle.format.specs.Metadata.{anyItem, hintItem, askMetadata, judgeMe
 ghost use Rattle.format.specs.Questions.{answered, asPlace, asBytes, startOf};
 ghost use Rattle.format.specs.Reading.{verdict};
 ghost use Rattle.metadata.specs.Judgements.{judged};
+ghost use Rattle.metadata.specs.Asking.{filledWith, JudgesFor, refusalIn};
 ghost use Rattle.reading.specs.Cursors.{Inside, left};
 ghost use Rattle.tables.specs.Seeking.{readerOf};
 use format::Answer;
@@ -29,34 +30,72 @@ pub enum Judged {
 // The data byte of a branch that is likely taken.
 const LIKELY: u8 = 1;
 
+// The part that a payload has where it is asked.
+enum Held {
+    Nothing,
+    Part(Cursor),
+}
+
+// What judging a payload whole comes to: what it has where it is asked, or its refusal.
+enum Judgement {
+    Accepted(Held),
+    Refused(Refusal),
+}
+
+// The lists fill the payload: what was held is what it has.
+fn filled(held: Held, next: Cursor) -> Judgement
+    ensures { λ r. ⌜ r ≡ filledWith held next ⌝ }
+{
+    if next.at < next.end {
+        return Judgement::Refused(Refusal {
+            reason: Reason::LeftOver,
+            offset: Offset(next.at),
+        });
+    }
+    Judgement::Accepted(held)
+}
+
+// Judges a payload that lies in `s` where the cursor says, and holds on to the data at an offset of a function: one pass does both.
+fn judge_for(s: &[u8], c: Cursor, item: Item, f: FunctionIndex, at: CodeOffset) -> Judgement
+    requires { ⌜ Inside (now s) c ⌝ }
+    ensures { λ r. ⌜ JudgesFor (readerOf item) f at (now (s .entry)) c r ⌝ }
+{
+    match tables::tables(c, s, item, f.0, at.0) {
+        Seek::Refused(r) => Judgement::Refused(r),
+        Seek::None(next) => filled(Held::Nothing, next),
+        Seek::Found(part, next) => filled(Held::Part(part), next),
+    }
+}
+
+// The refusal of a judgement that is not accepted.
+fn refusal_of(judgement: Judgement) -> Refusal
+    ensures { λ r. ⌜ r ≡ refusalIn judgement ⌝ }
+{
+    match judgement {
+        Judgement::Refused(r) => r,
+        // never asked for
+        Judgement::Accepted(_) => Refusal {
+            reason: Reason::LeftOver,
+            offset: Offset(0),
+        },
+    }
+}
+
 // The data at an offset of a function, in a payload that lies in `s` where the cursor says.
 pub fn find_in(s: &[u8], c: Cursor, item: Item, f: FunctionIndex, at: CodeOffset) -> Answer
     requires { ⌜ Inside (now s) c ⌝ }
     ensures { λ r. ⌜ answered r ≡ asPlace (askMetadata (readerOf item) f at (c .at) (left (now (s .entry)) c)) ⌝ }
 {
-    match tables::tables(c, s, item, f.0, at.0) {
-        Seek::Refused(r) => Answer::Refused(r),
-        Seek::None(next) => {
-            if next.at < next.end {
-                return Answer::Refused(Refusal {
-                    reason: Reason::LeftOver,
-                    offset: Offset(next.at),
-                });
-            }
-            Answer::None
-        }
-        Seek::Found(part, next) => {
-            if next.end <= next.at {
-                return Answer::Found(Place {
-                    offset: Offset(part.at),
-                    length: part.end - part.at,
-                });
-            }
-            Answer::Refused(Refusal {
-                reason: Reason::LeftOver,
-                offset: Offset(next.at),
-            })
-        }
+    let judgement = judge_for(s, c, item, f, at);
+    let Judgement::Accepted(held) = judgement else {
+        return Answer::Refused(refusal_of(judgement));
+    };
+    match held {
+        Held::Nothing => Answer::None,
+        Held::Part(data) => Answer::Found(Place {
+            offset: Offset(data.at),
+            length: data.end - data.at,
+        }),
     }
 }
 
@@ -65,12 +104,12 @@ pub fn judge_in(s: &[u8], c: Cursor, item: Item) -> Judged
     requires { ⌜ Inside (now s) c ⌝ }
     ensures { λ r. ⌜ judged r ≡ verdict (judgeMetadata (readerOf item) (c .at) (left (now (s .entry)) c)) ⌝ }
 {
-    // The list is judged whole, whatever is looked for.
-    match find_in(s, c, item, FunctionIndex(0), CodeOffset(0)) {
-        Answer::Refused(r) => Judged::Refused(r),
-        Answer::None => Judged::Accepted,
-        Answer::Found(_) => Judged::Accepted,
-    }
+    // What it holds is of no interest: a payload is judged whole, whatever is asked.
+    let judgement = judge_for(s, c, item, FunctionIndex(0), CodeOffset(0));
+    let Judgement::Accepted(_) = judgement else {
+        return Judged::Refused(refusal_of(judgement));
+    };
+    Judged::Accepted
 }
 
 // The hint at an offset of a function, in a payload that lies in `s` where the cursor says.
@@ -78,12 +117,14 @@ pub fn hint_in(s: &[u8], c: Cursor, f: FunctionIndex, at: CodeOffset) -> HintAns
     requires { ⌜ Inside (now s) c ⌝ }
     ensures { λ r. ⌜ hintAnswered r ≡ askHint f at (c .at) (left (now (s .entry)) c) ⌝ }
 {
-    match find_in(s, c, Item::Hint, f, at) {
-        Answer::Refused(r) => HintAnswer::Refused(r),
-        Answer::None => HintAnswer::None,
-        Answer::Found(place) => {
-            let data = place.offset;
-            let byte = data.0;
+    let judgement = judge_for(s, c, Item::Hint, f, at);
+    let Judgement::Accepted(held) = judgement else {
+        return HintAnswer::Refused(refusal_of(judgement));
+    };
+    match held {
+        Held::Nothing => HintAnswer::None,
+        Held::Part(data) => {
+            let byte = data.at;
             if s[byte] == LIKELY {
                 return HintAnswer::Found(Hint::Likely);
             }

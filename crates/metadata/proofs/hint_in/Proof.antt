@@ -2,23 +2,29 @@ use Rattle.metadata.proofs.AnswerLaws.{hints}
 use Rattle.metadata.proofs.hint_in.Statement.{statement}
 use Rattle.metadata.proofs.hint_in.Tie as tie
 
-find-in-requires : tie.Need-find-in-requires
-find-in-requires c κs = search hints
+judge-for-requires : tie.Need-judge-for-requires
+judge-for-requires c κs = search hints
 
-enum-known-r : tie.Need-enum-known-r
-enum-known-r c = search hints
+enum-known-judgement : tie.Need-enum-known-judgement
+enum-known-judgement c = search hints
 
 enum-told : tie.Need-enum-told
 enum-told c = search hints
 
-enum-known-place : tie.Need-enum-known-place
-enum-known-place c = search hints
-
-shared-slice-read-if1 : tie.Need-shared-slice-read-if1
-shared-slice-read-if1 c = search hints
+refusal-of-requires : tie.Need-refusal-of-requires
+refusal-of-requires c κs = search hints
 
 returns : tie.Need-returns
 returns c = search hints
+
+enum-told-2 : tie.Need-enum-told-2
+enum-told-2 c = search hints
+
+enum-known-held : tie.Need-enum-known-held
+enum-known-held c = search hints
+
+shared-slice-read-if1 : tie.Need-shared-slice-read-if1
+shared-slice-read-if1 c = search hints
 
 returns-2 : tie.Need-returns-2
 returns-2 c = search hints
@@ -33,12 +39,14 @@ pub hint-in-spec : {M : Type 1} → statement M
 hint-in-spec =
     tie.close
     (tie.spec
-    find-in-requires
-    enum-known-r
+    judge-for-requires
+    enum-known-judgement
     enum-told
-    enum-known-place
-    shared-slice-read-if1
+    refusal-of-requires
     returns
+    enum-told-2
+    enum-known-held
+    shared-slice-read-if1
     returns-2
     returns-3
     returns-4)

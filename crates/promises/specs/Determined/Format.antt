@@ -5,5 +5,5 @@ use Rattle.format.specs.Determined.{Determines, equal-determined}
 use Rattle.format.specs.Refusals.{numberOf}
 use Rattle.format.specs.declared.Reason.{Reason}
 
-pub reason-number-determined : (reason : Reason) → Determines (λ (r : ℕ). r ≡ numberOf reason)
-reason-number-determined reason = equal-determined _
+pub reason-number-determined : (self : Reason) → Determines (λ (r : ℕ). r ≡ numberOf self)
+reason-number-determined self = equal-determined _

@@ -19,14 +19,14 @@ use Rattle.reading.specs.declared.PartRead.{PartRead}
 pub wide-determined : (x : ℕ) → Determines (λ (r : ℕ). r ≡ x)
 wide-determined x = equal-determined _
 
-pub number-determined : (c : Cursor) (s : List ℕ) → Determines (λ (r : NumberRead). NumberReads s c r)
-number-determined c s = number-same
+pub number-determined : (self : Cursor) (s : List ℕ) → Determines (λ (r : NumberRead). NumberReads s self r)
+number-determined self s = number-same
 
-pub sized-determined : (c : Cursor) (s : List ℕ) → Determines (λ (r : PartRead). PartReads sized s c r)
-sized-determined c s = part-same
+pub sized-determined : (self : Cursor) (s : List ℕ) → Determines (λ (r : PartRead). PartReads sized s self r)
+sized-determined self s = part-same
 
-pub name-determined : (c : Cursor) (s : List ℕ) → Determines (λ (r : PartRead). PartReads name s c r)
-name-determined c s = part-same
+pub name-determined : (self : Cursor) (s : List ℕ) → Determines (λ (r : PartRead). PartReads name s self r)
+name-determined self s = part-same
 
 -- reading::taking
 pub taken-determined : (p : List ℕ) (lent-at : ℕ × ℕ) (answer : Answer) → Determines (λ (r : Handed). Takes p lent-at answer (r .0) (r .1))

@@ -63,8 +63,8 @@ see-determined seen id called = see-same
 pub begin-determined : (m : List ℕ) → Determines (λ (r : Began). Begins m r)
 begin-determined m = begin-same
 
-pub step-determined : (w : Walk) (m : List ℕ) → Determines (λ (r : Step). Steps m w r)
-step-determined w m = step-same
+pub step-determined : (self : Walk) (m : List ℕ) → Determines (λ (r : Step). Steps m self r)
+step-determined self m = step-same
 
 -- walk::survey
 pub survey-determined : (m : List ℕ) (position : ℕ) (front rest : List ℕ) → Determines (λ (r : Surveyed). Surveys m position (front ++ rest) r)

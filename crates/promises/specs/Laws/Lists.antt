@@ -136,6 +136,6 @@ module _ (is ns text old new : List ℕ) (a : WmAnswer) (w : WmWrites (functionN
     too-large = λ h. wrote-refused w (by-size ∙ rw (le-ltb (contentsLength is ns) limit32 (omega arith)));
     too-short = λ h short. rw (long (omega arith)) at (short-there (payload is ns text) (rw (long (omega arith)) short) (rw (wanted (omega arith)) at w));
     is-written = λ h room.
-      let v = wrote-there (payload is ns text) (rw (long (omega arith)) room) (rw (wanted (omega arith)) at w) in
-      v .is ∙ ap (λ bs. wmFound 0 0 (length bs)) (sym (accepted-is (v .wants))) ∙ ap (λ n. wmFound 0 0 n) (long (omega arith));
+        let v = wrote-there (payload is ns text) (rw (long (omega arith)) room) (rw (wanted (omega arith)) at w) in
+        v .is ∙ ap (λ bs. wmFound 0 0 (length bs)) (sym (accepted-is (v .wants))) ∙ ap (λ n. wmFound 0 0 n) (long (omega arith));
   }
