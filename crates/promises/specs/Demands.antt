@@ -4,7 +4,7 @@ use mathlib.Core.List.{List, [], _∷_, _++_}
 -- `cond t x y` is x where the test t holds, and y where it does not; `ltb m n` tests m < n
 use mathlib.Core.Bool.{cond}
 use lib.Dec.{ltb}
--- `A ↔ B`: each follows from the other; `x ≢ y`: they are not equal; `A × B`: both; `⊥`: never
+-- `A ↔ B`: each follows from the other; `x ≢ y`: they are not equal; `A × B`: both, and `(x : A) × B`: some x with B; `⊥`: never
 use mathlib.Core.Logic.{_↔_, _≢_}
 use mathlib.Core.Option.{none, some}
 use mathlib.Core.Path.{_≡_}
