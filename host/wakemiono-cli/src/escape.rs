@@ -30,6 +30,12 @@ pub fn word(word: &OsStr) -> String {
     escaped(word.as_encoded_bytes())
 }
 
+/// The same between quotes, for a sentence, where an empty word could not be seen and one with
+/// spaces would read as several.
+pub fn quoted(word: &OsStr) -> String {
+    format!("'{}'", self::word(word).replace('\'', r"\'"))
+}
+
 #[cfg(test)]
 mod tests {
     use super::*;
@@ -38,6 +44,12 @@ mod tests {
     fn what_is_not_printable_is_escaped() {
         assert_eq!(escaped(b"a\tb\\c\xFFd"), r"a\tb\\c\xFFd");
         assert_eq!(escaped("größe\u{202E}".as_bytes()), r"größe\u{202e}");
+    }
+
+    #[test]
+    fn words_are_quoted() {
+        assert_eq!(quoted(OsStr::new("")), "''");
+        assert_eq!(quoted(OsStr::new("it's\n")), r"'it\'s\n'");
     }
 
     #[test]

@@ -102,6 +102,8 @@ without a name section has an empty canonical payload.
 
   -o OUT   write the canonical payload to the file OUT, over what is there; - is standard output
 
+OUT is not FILE itself. It is replaced as a whole, and stays as it was where that fails.
+
 Example: wakemiono canon app.wasm
   before 23
   after 21

@@ -15,6 +15,7 @@ mod help;
 mod input;
 mod json;
 mod options;
+mod output;
 mod parallel;
 mod payloads;
 mod question;

@@ -1,16 +1,19 @@
 //! `canon`: the canonical form of a module's name payload.
 
 use std::ffi::OsStr;
-use std::fs;
 
-use crate::escape;
 use crate::input::{Input, STANDARD_STREAM};
 use crate::json::Json;
+use crate::output;
 use crate::payloads;
 use crate::report::{Failure, Report, Status};
 
 /// Writes the canonical payload where an output is given, and says what it saves otherwise.
-pub fn run(input: &Input, out: Option<&OsStr>, json: bool) -> Result<Report, Failure> {
+pub fn run(file: &OsStr, out: Option<&OsStr>, json: bool) -> Result<Report, Failure> {
+    if let Some(out) = out {
+        output::check_apart(file, out)?;
+    }
+    let input = &Input::read(file)?;
     let payload = input.accepted(payloads::names(input.module()))?;
     let before = payload.map(|payload| payload.as_bytes().len());
     let canonical = payloads::canonical_names(payload)?;
@@ -22,7 +25,7 @@ pub fn run(input: &Input, out: Option<&OsStr>, json: bool) -> Result<Report, Fai
         return Ok(Report::good(canonical).saying(note));
     }
     if let Some(out) = out {
-        write(out, &canonical)?;
+        output::write(out, &canonical)?;
     }
     let sizes = Sizes {
         before: before.unwrap_or(0),
@@ -38,15 +41,6 @@ pub fn run(input: &Input, out: Option<&OsStr>, json: bool) -> Result<Report, Fai
         sizes.lines()
     };
     Ok(Report::good(lines).saying(note))
-}
-
-fn write(out: &OsStr, canonical: &[u8]) -> Result<(), Failure> {
-    fs::write(out, canonical).map_err(|error| {
-        let out = escape::word(out);
-        Failure::Misuse(format!(
-            "{out} cannot be written ({error}): give another file behind -o."
-        ))
-    })
 }
 
 struct Sizes {

@@ -20,7 +20,7 @@ pub fn run(command: &Command, json: bool) -> Result<Report, Failure> {
         Command::Names(file, kind) => names::run(&Input::read(file)?, *kind, json),
         Command::Name(file, question) => name::run(&Input::read(file)?, *question, json),
         Command::Hints(file) => hints::run(&Input::read(file)?, json),
-        Command::Canon(file, out) => canon::run(&Input::read(file)?, out.as_deref(), json),
+        Command::Canon(file, out) => canon::run(file, out.as_deref(), json),
         Command::Same(a, b) => same::run(&Input::read(a)?, &Input::read(b)?, json),
         Command::Judge(file) => Ok(judge::run(&Input::read(file)?, json)),
     }
