@@ -40,7 +40,7 @@ impl Refused {
         )
     }
 
-    /// What is wrong and where, with the bytes around it.
+    /// What is wrong and where, with the bytes around it, and what to do.
     pub fn words(&self) -> String {
         format!("{}: {}", self.label, self.verdict())
     }
@@ -54,6 +54,9 @@ impl Refused {
             words.push_str(row);
             words.push('\n');
         }
+        words.push_str("  what to do: ");
+        words.push_str(refusal.reason().advice());
+        words.push('\n');
         words
     }
 
@@ -71,6 +74,7 @@ impl Refused {
             ("offset", Json::Number(offset)),
             ("offset_hex", Json::text(format!("{offset:#X}"))),
             ("sentence", Json::text(self.refusal.to_string())),
+            ("advice", Json::text(self.refusal.reason().advice())),
             ("bytes_from", Json::size(self.bytes_from)),
             ("bytes", Json::bytes(&self.bytes)),
         ])

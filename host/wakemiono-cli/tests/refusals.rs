@@ -10,6 +10,7 @@ const NO_SUCH_SECTION_WORDS: &str = "\
 wakemiono: standard input: refused, number 5: a section id is above 12: it stands at byte 0x8 (8)
   00000000  00 61 73 6D 01 00 00 00 0D 00                    |.asm......|
                                     ^^
+  what to do: a section of a later version of WebAssembly: ask the producer for one without it
 ";
 
 #[test]
@@ -39,6 +40,8 @@ fn in_json() {
     let json = "{\"file\":\"-\",\"refusal\":{\"number\":5,\
         \"reason\":\"a section id is above 12\",\"offset\":8,\"offset_hex\":\"0x8\",\
         \"sentence\":\"a section id is above 12: it stands at byte 0x8 (8)\",\
+        \"advice\":\"a section of a later version of WebAssembly: ask the producer for one without \
+        it\",\
         \"bytes_from\":0,\"bytes\":[0,97,115,109,1,0,0,0,13,0]}}";
     for arguments in [
         &["list", "-", "--json"][..],
@@ -62,7 +65,9 @@ fn with_offsets_from_the_start_of_the_module() {
          one before: it starts at byte 0x15 (21)\n\
          \x20 00000000  00 61 73 6D 01 00 00 00 00 0E 04 6E 61 6D 65 01  |.asm.......name.|\n\
          \x20 00000010  07 02 03 01 62 03 01 61                          |....b..a|\n\
-         \x20                          ^^\n"
+         \x20                          ^^\n\
+         \x20 what to do: a map is not sorted or names an index twice; from lists, sort them and \
+         name each index once\n"
     );
     let refused = fed(&["hints", "-"], &hinted(b"\x01\x02\x01\x05\x01\x02"));
     refused.ends(1, "");
@@ -78,7 +83,9 @@ fn at_the_very_end() {
         "starts at byte 0x11 (17)\n\
          \x20 00000000  00 61 73 6D 01 00 00 00 00 07 04 6E 61 6D 65 01  |.asm.......name.|\n\
          \x20 00000010  00                                               |.|\n\
-         \x20              ^^\n"
+         \x20              ^^\n\
+         \x20 what to do: the file is cut short or a length is wrong: take it from its producer \
+         again\n"
     ));
 }
 
@@ -107,6 +114,8 @@ fn judge_says_which_part() {
         "module refused, number 5: a section id is above 12: it stands at byte 0x8 (8)\n\
          \x20 00000000  00 61 73 6D 01 00 00 00 0D 00                    |.asm......|\n\
          \x20                                   ^^\n\
+         \x20 what to do: a section of a later version of WebAssembly: ask the producer for one \
+         without it\n\
          name not asked\nhints not asked\n",
     );
     let judged = fed(&["judge", "-"], &named(b"\x01\x02\x00\x00"));

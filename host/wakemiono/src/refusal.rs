@@ -62,7 +62,7 @@ impl Reason {
     ///
     /// assert!(Reason::ALL.iter().zip(1..).all(|(reason, number)| reason.number() == number));
     /// ```
-    pub const ALL: [Reason; 15] = [
+    pub const ALL: &'static [Reason] = &[
         Reason::Preamble,
         Reason::RunsPast,
         Reason::NumberTooLarge,
@@ -102,9 +102,55 @@ impl Reason {
     /// ```
     #[must_use]
     pub fn from_number(number: u32) -> Option<Reason> {
-        Reason::ALL
-            .into_iter()
-            .find(|reason| reason.number() == number)
+        let mut all = Reason::ALL.iter().copied();
+        all.find(|reason| reason.number() == number)
+    }
+
+    /// What to do about it, in a few words for whoever has the module or calls the library. What is
+    /// wrong is what the reason displays.
+    ///
+    /// ```
+    /// use wakemiono::Reason;
+    ///
+    /// assert_eq!(Reason::SecondSection.advice(), "two tools added the section: remove one");
+    /// ```
+    #[must_use]
+    pub const fn advice(self) -> &'static str {
+        match self {
+            Reason::Preamble => "it is no WebAssembly module of version 1: check what was uploaded",
+            Reason::RunsPast => {
+                "the file is cut short or a length is wrong: take it from its producer again"
+            }
+            Reason::NumberTooLarge => "the number does not fit 32 bits: a fault of the producer",
+            Reason::NotText => {
+                "a name was written in another encoding: a fault of the producer; from lists, \
+                 mend the name that starts there"
+            }
+            Reason::SectionId => {
+                "a section of a later version of WebAssembly: ask the producer for one without it"
+            }
+            Reason::SectionOrder => {
+                "a tool put sections together wrongly: take the module from before that tool"
+            }
+            Reason::SecondSection => "two tools added the section: remove one",
+            Reason::SectionTooLate => "a tool added a section at the wrong place: move it",
+            Reason::SubsectionOrder => "a fault in the name section: strip it, or write it anew",
+            Reason::LeftOver => {
+                "a size is too large, or something was added: a fault of the producer"
+            }
+            Reason::NotRising => {
+                "a map is not sorted or names an index twice; from lists, sort them and name each \
+                 index once"
+            }
+            Reason::NotAHint => "no branch hint: a fault of the producer",
+            Reason::OutputTooShort => {
+                "the offset is the needed length: call again with that much room"
+            }
+            Reason::ListsDisagree => {
+                "as many lengths as indices, and lengths that add up to the text"
+            }
+            Reason::SubsectionTooLong => "too many names for one section: write fewer",
+        }
     }
 }
 
@@ -117,7 +163,7 @@ impl Reason {
 /// ```
 impl fmt::Display for Reason {
     fn fmt(&self, f: &mut fmt::Formatter<'_>) -> fmt::Result {
-        f.write_str(match self {
+        f.pad(match self {
             Reason::Preamble => "the preamble 00 61 73 6D 01 00 00 00 is missing or different",
             Reason::RunsPast => "a number, name or sized part runs past the part that encloses it",
             Reason::NumberTooLarge => "the fifth byte of a number is above 0x0F",

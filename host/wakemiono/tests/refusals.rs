@@ -3,6 +3,8 @@
 mod common;
 
 use std::error::Error;
+use std::fs;
+use std::path::Path;
 
 use common::{custom, module, section, HINTS_NAME};
 use wakemiono::{
@@ -150,9 +152,27 @@ fn their_numbers_are_1_to_15() {
     let numbers: Vec<u32> = Reason::ALL.iter().map(|reason| reason.number()).collect();
     assert_eq!(numbers, (1..=15).collect::<Vec<u32>>());
     for reason in Reason::ALL {
-        assert_eq!(Reason::from_number(reason.number()), Some(reason));
+        assert_eq!(Reason::from_number(reason.number()), Some(*reason));
     }
     for none in [0, 16, u32::MAX] {
         assert_eq!(Reason::from_number(none), None);
     }
+}
+
+#[test]
+fn the_readme_gives_the_same_advice() {
+    let readme = Path::new(env!("CARGO_MANIFEST_DIR")).join("../../README.md");
+    let readme = fs::read_to_string(readme).expect("the repository has a README.md");
+    let rows = readme.lines().filter_map(|line| {
+        let (number, cells) = line.strip_prefix("| ")?.split_once(" | ")?;
+        let (_, advice) = cells.strip_suffix(" |")?.split_once(" | ")?;
+        Some((number.parse().ok()?, advice))
+    });
+    // Its table has a row more, for the program that lists, which no call of the library gives.
+    let rows: Vec<(u32, &str)> = rows.take(Reason::ALL.len()).collect();
+    let advice: Vec<(u32, &str)> = Reason::ALL
+        .iter()
+        .map(|reason| (reason.number(), reason.advice()))
+        .collect();
+    assert_eq!(rows, advice);
 }
