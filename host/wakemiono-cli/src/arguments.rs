@@ -6,7 +6,7 @@ use std::ffi::{OsStr, OsString};
 
 use crate::escape;
 use crate::input::STANDARD_STREAM;
-use crate::options::{Given, Takes};
+use crate::options::{self, Given, Takes};
 use crate::question::{Kind, Question};
 
 /// What the program is to do.
@@ -138,11 +138,11 @@ fn is_help(word: &OsString) -> bool {
 fn topic(word: &OsStr) -> Result<Topic, String> {
     let found = Topic::ALL.into_iter().find(|topic| word == topic.word());
     found.ok_or_else(|| {
-        let word = escape::word(word);
-        if word.starts_with('-') {
-            no_command(&format!("the command comes before the option {word}"))
+        let quoted = escape::quoted(word);
+        if options::is_option(word) {
+            no_command(&format!("the command comes before the option {quoted}"))
         } else {
-            no_command(&format!("there is no command {word}"))
+            no_command(&format!("there is no command {quoted}"))
         }
     })
 }
@@ -176,7 +176,7 @@ fn one_file(given: &Given) -> Result<OsString, String> {
         [] => Err("no file is given: name one, or give - for standard input".to_owned()),
         [_, second, ..] => Err(format!(
             "one file is asked at a time, and {} is a second one: leave it out",
-            escape::word(second)
+            escape::quoted(second)
         )),
     }
 }
@@ -207,7 +207,7 @@ fn kind(given: &Given) -> Result<Option<Kind>, String> {
         let words: Vec<_> = Kind::ALL.into_iter().map(Kind::word).collect();
         format!(
             "there is no kind {}: give one of {}",
-            escape::word(word),
+            escape::quoted(word),
             words.join(", ")
         )
     })

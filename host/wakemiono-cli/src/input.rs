@@ -34,7 +34,7 @@ impl Input {
                 file: file.to_owned(),
                 bytes,
             }),
-            Err(error) => Err(Failure::Misuse(unreadable(&label(file), &error))),
+            Err(error) => Err(Failure::Misuse(unreadable(&quoted_label(file), &error))),
         }
     }
 
@@ -72,6 +72,15 @@ fn label(file: &OsStr) -> String {
     }
 }
 
+/// What people call it in a sentence, where a path stands between quotes.
+fn quoted_label(file: &OsStr) -> String {
+    if file == STANDARD_STREAM {
+        label(file)
+    } else {
+        escape::quoted(file)
+    }
+}
+
 fn read_all(mut from: impl Read) -> io::Result<Vec<u8>> {
     let mut bytes = Vec::new();
     from.read_to_end(&mut bytes)?;
@@ -88,5 +97,30 @@ fn unreadable(label: &str, error: &io::Error) -> String {
             format!("{label} may not be read: ask for the right to read it.")
         }
         _ => format!("{label} cannot be read ({error}): give a file that holds a module."),
+    }
+}
+
+#[cfg(test)]
+mod tests {
+    use super::*;
+
+    fn said(file: &str, kind: ErrorKind) -> String {
+        unreadable(&quoted_label(OsStr::new(file)), &kind.into())
+    }
+
+    #[test]
+    fn what_cannot_be_read_is_said_with_what_to_do() {
+        assert_eq!(
+            said("a.wasm", ErrorKind::PermissionDenied),
+            "'a.wasm' may not be read: ask for the right to read it."
+        );
+        assert_eq!(
+            said("", ErrorKind::NotFound),
+            "there is no file '': check the path, or give - for standard input."
+        );
+        assert_eq!(
+            said("-", ErrorKind::TimedOut),
+            "standard input cannot be read (timed out): give a file that holds a module."
+        );
     }
 }

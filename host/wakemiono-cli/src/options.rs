@@ -62,8 +62,8 @@ impl Given {
     }
 }
 
-/// A single `-` is standard input and no option.
-fn is_option(word: &OsStr) -> bool {
+/// Whether a word is meant as an option. A single `-` is standard input and none.
+pub fn is_option(word: &OsStr) -> bool {
     word.as_encoded_bytes().starts_with(b"-") && word != STANDARD_STREAM
 }
 
@@ -77,7 +77,7 @@ fn option<'a>(
         let known = [takes.flags, takes.valued].concat().join(", ");
         format!(
             "there is no option {}: give one of {known}",
-            escape::word(word)
+            escape::quoted(word)
         )
     };
     let in_list = |list: &[&'static str], name: &str| list.iter().copied().find(|it| *it == name);
@@ -133,11 +133,11 @@ mod tests {
         let said = |line: &str| sorted(line).unwrap_err();
         assert_eq!(
             said("a --jsn"),
-            "there is no option --jsn: give one of --json, --kind, -o"
+            "there is no option '--jsn': give one of --json, --kind, -o"
         );
         assert_eq!(
             said("a --json=yes"),
-            "there is no option --json=yes: give one of --json, --kind, -o"
+            "there is no option '--json=yes': give one of --json, --kind, -o"
         );
         assert_eq!(
             said("a --json --json"),

@@ -79,22 +79,22 @@ impl Report {
         Report::ending(Status::Misuse, "").saying(format!("wakemiono: {sentence}\n"))
     }
 
-    /// Prints the report, and answers how the program ends.
+    /// Prints the report, and answers how the program ends. The words are said whatever becomes of
+    /// standard output.
     pub fn deliver(self) -> ExitCode {
-        match print(&self.out) {
-            Ok(()) => {}
-            // The reader has seen enough, as in `wakemiono names FILE | head`.
-            Err(error) if error.kind() == ErrorKind::BrokenPipe => return self.status.code(),
-            Err(error) => {
+        let printed = print(&self.out);
+        say(&self.said);
+        match printed {
+            // Where a pipe is broken, its reader has seen enough, as in `wakemiono names FILE | head`.
+            Err(error) if error.kind() != ErrorKind::BrokenPipe => {
                 say(&format!(
                     "wakemiono: standard output cannot be written ({error}): \
                      check where it is sent to and whether there is room.\n"
                 ));
-                return Status::Misuse.code();
+                Status::Misuse.code()
             }
+            _ => self.status.code(),
         }
-        say(&self.said);
-        self.status.code()
     }
 }
 

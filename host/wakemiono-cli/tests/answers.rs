@@ -68,6 +68,9 @@ fn names_that_are_not_there() {
     let none = fed(&["names", "-"], BARE);
     none.ends(0, "");
     assert_eq!(none.said, "wakemiono: the module has no name section.\n");
+    let none = fed(&["names", "-"], &named(b""));
+    none.ends(0, "");
+    assert_eq!(none.said, "wakemiono: the name section has no names.\n");
     let none = fed(&["names", "-", "--kind", "tag"], MODULE);
     none.ends(0, "");
     assert_eq!(
@@ -234,6 +237,13 @@ fn canon_without_a_name_section() {
     said.ends(0, "before 0\nafter 0\nsaves 0 (0.0 %)\n");
     let note = "wakemiono: the module has no name section; its canonical payload is empty.\n";
     assert_eq!(said.said, note);
+    let out = file("canon-bare.out", b"not empty");
+    for target in [out.as_str(), "-"] {
+        let said = fed(&["canon", "-", "-o", target], BARE);
+        said.ends(0, "");
+        assert_eq!(said.said, note);
+    }
+    assert_eq!(fs::read(&out).unwrap(), b"");
 }
 
 #[test]

@@ -3,7 +3,7 @@
 mod common;
 
 use std::fs::{self, File};
-use std::io::{Read, Write};
+use std::io::Write;
 use std::process::Stdio;
 
 use common::{fed, file, path, program, run, BARE, MODULE};
@@ -50,8 +50,8 @@ const LIST_OF_COMMANDS: &str =
 #[test]
 fn no_such_command() {
     run(&[]).is_misuse(&format!("no command is given: {LIST_OF_COMMANDS}"));
-    run(&["lst", "f"]).is_misuse(&format!("there is no command lst: {LIST_OF_COMMANDS}"));
-    let early = format!("the command comes before the option --json: {LIST_OF_COMMANDS}");
+    run(&["lst", "f"]).is_misuse(&format!("there is no command 'lst': {LIST_OF_COMMANDS}"));
+    let early = format!("the command comes before the option '--json': {LIST_OF_COMMANDS}");
     run(&["--json", "list"]).is_misuse(&early);
 }
 
@@ -60,13 +60,13 @@ fn no_such_option() {
     for command in COMMANDS {
         let misused = run(&[command, "-", "--al\u{7}l"]);
         misused.ends(2, "");
-        let sentence = "wakemiono: there is no option --al\\u{7}l: give one of --json";
+        let sentence = "wakemiono: there is no option '--al\\u{7}l': give one of --json";
         assert!(misused.said.starts_with(sentence), "{}", misused.said);
         let see = format!("; see `wakemiono {command} --help`.\n");
         assert!(misused.said.ends_with(&see), "{}", misused.said);
     }
     run(&["list", "f", "--kind", "tag"])
-        .is_misuse("there is no option --kind: give one of --json; see `wakemiono list --help`.");
+        .is_misuse("there is no option '--kind': give one of --json; see `wakemiono list --help`.");
 }
 
 #[test]
@@ -75,13 +75,19 @@ fn files_that_are_not_given_or_too_many() {
         "no file is given: name one, or give - for standard input; see `wakemiono list --help`.",
     );
     run(&["judge", "a", "b"]).is_misuse(
-        "one file is asked at a time, and b is a second one: leave it out; \
+        "one file is asked at a time, and 'b' is a second one: leave it out; \
          see `wakemiono judge --help`.",
     );
     let see = "see `wakemiono same --help`.";
-    run(&["same", "a"]).is_misuse(&format!(
-        "two files are compared, and one is given: name two; {see}"
-    ));
+    for (files, given) in [
+        (&[][..], "none is"),
+        (&["a"], "one is"),
+        (&["a", "b", "c"], "3 are"),
+    ] {
+        run(&[&["same"], files].concat()).is_misuse(&format!(
+            "two files are compared, and {given} given: name two; {see}"
+        ));
+    }
     run(&["same", "-", "-"]).is_misuse(&format!(
         "standard input can be read only once: give a file for one of the two; {see}"
     ));
@@ -116,12 +122,12 @@ fn questions_that_are_none() {
     );
     asked(
         &["--function", "4294967296"],
-        "--function is given 4294967296: give an index from 0 to 4294967295, in decimal or \
+        "--function is given '4294967296': give an index from 0 to 4294967295, in decimal or \
          behind 0x",
     );
     asked(
         &["--kept", "256"],
-        "--kept is given 256: give an id from 0 to 255, in decimal or behind 0x",
+        "--kept is given '256': give an id from 0 to 255, in decimal or behind 0x",
     );
     asked(&["--tag"], "--tag needs a value: write it behind --tag");
 }
@@ -129,7 +135,7 @@ fn questions_that_are_none() {
 #[test]
 fn no_such_kind() {
     run(&["names", "f", "--kind", "functions"]).is_misuse(
-        "there is no kind functions: give one of module, function, type, tag, local, field, kept; \
+        "there is no kind 'functions': give one of module, function, type, tag, local, field, kept; \
          see `wakemiono names --help`.",
     );
 }
@@ -138,11 +144,13 @@ fn no_such_kind() {
 fn files_that_cannot_be_read() {
     let missing = path("there-is-no-such-file");
     let sentence =
-        format!("there is no file {missing}: check the path, or give - for standard input.");
+        format!("there is no file '{missing}': check the path, or give - for standard input.");
     for command in ["list", "names", "hints", "canon", "judge"] {
         run(&[command, &missing]).is_misuse(&sentence);
     }
     run(&["name", &missing, "--module", "--json"]).is_misuse(&sentence);
+    run(&["list", ""])
+        .is_misuse("there is no file '': check the path, or give - for standard input.");
     fed(&["same", "-", &missing], BARE).is_misuse(&sentence);
     let folder = path("");
     let read = run(&["list", &folder]);
@@ -177,7 +185,7 @@ fn a_file_whose_name_is_not_text() {
     assert_eq!(output.status.code(), Some(2));
     let said = String::from_utf8(output.stderr).unwrap();
     assert!(
-        said.contains("there is no file no\\\\\\xFF\\u{1b}: "),
+        said.contains("there is no file 'no\\\\\\xFF\\u{1b}': "),
         "{said}"
     );
 }
@@ -211,35 +219,57 @@ fn outputs_that_cannot_be_written() {
     );
 }
 
-#[test]
-fn a_broken_pipe_ends_quietly() {
-    let mut command = program(&["names", "-"]);
+/// How the program ends and what it says where the reader of its output is gone.
+fn unread(arguments: &[&str], input: &[u8]) -> (Option<i32>, String) {
+    let mut command = program(arguments);
     command.stdin(Stdio::piped());
     command.stdout(Stdio::piped()).stderr(Stdio::piped());
     let mut child = command.spawn().unwrap();
-    // The reader is gone before the program has anything to print.
+    // Before it has read its input, the program has nothing to print.
     drop(child.stdout.take());
-    child.stdin.take().unwrap().write_all(MODULE).unwrap();
-    let status = child.wait().unwrap();
-    let mut said = String::new();
-    child
-        .stderr
-        .take()
-        .unwrap()
-        .read_to_string(&mut said)
-        .unwrap();
-    assert_eq!((status.code(), said.as_str()), (Some(0), ""));
+    child.stdin.take().unwrap().write_all(input).unwrap();
+    let ended = child.wait_with_output().unwrap();
+    (
+        ended.status.code(),
+        String::from_utf8(ended.stderr).unwrap(),
+    )
+}
+
+#[test]
+fn a_broken_pipe_ends_quietly() {
+    assert_eq!(unread(&["names", "-"], MODULE), (Some(0), String::new()));
+}
+
+#[test]
+fn a_broken_pipe_leaves_the_words() {
+    let (status, said) = unread(&["list", "-"], b"no module");
+    assert_eq!(status, Some(1));
+    let sentence = "wakemiono: standard input: refused, number 1: ";
+    assert!(said.starts_with(sentence), "{said}");
 }
 
 #[test]
 #[cfg(target_os = "linux")]
 fn a_full_disk_is_said() {
-    let Ok(full) = File::options().write(true).open("/dev/full") else {
-        return; // not every container has it
+    let full = || File::options().write(true).open("/dev/full");
+    let run = |file: &str| {
+        let mut command = program(&["list", file]);
+        command.stdout(full().expect("Linux has /dev/full"));
+        let output = command.output().unwrap();
+        (
+            output.status.code(),
+            String::from_utf8(output.stderr).unwrap(),
+        )
     };
-    let module = file("full-disk.wasm", MODULE);
-    let output = program(&["list", &module]).stdout(full).output().unwrap();
-    assert_eq!(output.status.code(), Some(2));
-    let said = String::from_utf8(output.stderr).unwrap();
-    assert!(said.contains("standard output cannot be written"), "{said}");
+    let (status, said) = run(&file("full-disk.wasm", MODULE));
+    assert_eq!(status, Some(2));
+    let start = "wakemiono: standard output cannot be written (";
+    assert!(said.starts_with(start), "{said}");
+    let advice = "): check where it is sent to and whether there is room.\n";
+    assert!(said.ends_with(advice), "{said}");
+    // What else there is to say is not lost.
+    let (status, said) = run(&file("full-disk-refused.wasm", b"no module"));
+    assert_eq!(status, Some(2));
+    assert!(said.contains(": refused, number 1: "), "{said}");
+    assert!(said.ends_with(advice), "{said}");
 }

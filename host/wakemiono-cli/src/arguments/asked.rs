@@ -78,7 +78,7 @@ fn number<N: TryFrom<u64>>(given: &Given, option: &str, wanted: &str) -> Result<
     read.map(Some).ok_or_else(|| {
         format!(
             "{option} is given {}: give {wanted}, in decimal or behind 0x",
-            escape::word(word)
+            escape::quoted(word)
         )
     })
 }

@@ -21,7 +21,13 @@ pub fn run(input: &Input, kind: Option<Kind>, json: bool) -> Result<Report, Fail
     if json {
         return Ok(Report::json(Status::Good, &document(input, &rows)));
     }
-    Ok(Report::good(rows.iter().map(line).collect::<String>()).saying(note(has_section, &rows)))
+    Ok(
+        Report::good(rows.iter().map(line).collect::<String>()).saying(note(
+            has_section,
+            kind,
+            &rows,
+        )),
+    )
 }
 
 /// Asks the library through the module for each entry that the canonical payload holds.
@@ -46,11 +52,12 @@ fn line((question, answer): &Row<'_>) -> String {
 }
 
 /// Why there are no lines, for a person who sees none.
-fn note(has_section: bool, rows: &[Row<'_>]) -> &'static str {
-    match (has_section, rows.is_empty()) {
+fn note(has_section: bool, kind: Option<Kind>, rows: &[Row<'_>]) -> &'static str {
+    match (has_section, kind) {
+        _ if !rows.is_empty() => "",
         (false, _) => "wakemiono: the module has no name section.\n",
-        (true, true) => "wakemiono: the name section has no such names.\n",
-        (true, false) => "",
+        (true, None) => "wakemiono: the name section has no names.\n",
+        (true, Some(_)) => "wakemiono: the name section has no such names.\n",
     }
 }
 
