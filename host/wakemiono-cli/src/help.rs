@@ -15,11 +15,14 @@ Usage: wakemiono COMMAND FILE [OPTIONS]
   same A B      whether two modules have the same names
   judge FILE    whether the module, its names and its hints are accepted
 
-FILE may be - for standard input. Each command takes --json, for one JSON value on one line.
-`wakemiono COMMAND --help` says more of one command; --version says the version.
+FILE may be - for standard input. `wakemiono COMMAND --help` says more of one command; --version
+says the version.
 
 The exit status is 0 where there is an answer, even none; 1 for a refusal, or where two modules
-are not the same; 2 where the program cannot do what it is asked.
+are not the same; 2 where the program cannot do what it is asked, and says why on standard error.
+
+Each command takes --json, for one JSON value on one line where the status is 0 or 1, and nothing
+on standard output where it is 2. The README.md of this program has the shape of the values.
 
 Example: wakemiono list app.wasm
 ";

@@ -2,9 +2,7 @@
 
 mod common;
 
-use common::{fed, file, hinted, named, MODULE};
-
-const NO_SUCH_SECTION: &[u8] = b"\0asm\x01\0\0\0\x0D\x00";
+use common::{fed, file, hinted, named, MODULE, NO_SUCH_SECTION};
 
 const NO_SUCH_SECTION_WORDS: &str = "\
 wakemiono: standard input: refused, number 5: a section id is above 12: it stands at byte 0x8 (8)

@@ -6,9 +6,7 @@ use std::fs::{self, File};
 use std::io::Write;
 use std::process::Stdio;
 
-use common::{fed, file, path, program, run, BARE, MODULE};
-
-const COMMANDS: [&str; 7] = ["list", "names", "name", "hints", "canon", "same", "judge"];
+use common::{fed, file, path, program, run, BARE, COMMANDS, MODULE};
 
 #[test]
 fn help_has_every_command_and_an_example() {

@@ -16,6 +16,12 @@ pub const MODULE: &[u8] = b"\0asm\x01\0\0\0\x00\x1A\x04name\
 /// A module without sections.
 pub const BARE: &[u8] = b"\0asm\x01\0\0\0";
 
+/// A module that is refused, for a section of a later version.
+pub const NO_SUCH_SECTION: &[u8] = b"\0asm\x01\0\0\0\x0D\x00";
+
+/// The words of all commands.
+pub const COMMANDS: [&str; 7] = ["list", "names", "name", "hints", "canon", "same", "judge"];
+
 /// A name payload with every kind of name.
 pub const EVERY_KIND: &[u8] = b"\x00\x02\x01m\x01\x04\x01\x00\x01a\x02\x06\x01\x03\x01\x00\x01x\
     \x03\x01\xFF\x04\x04\x01\x02\x01t\x0A\x06\x01\x02\x01\x01\x01f\x0B\x04\x01\x00\x01e";
