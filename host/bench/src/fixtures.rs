@@ -4,11 +4,9 @@ use std::fs;
 use std::path::Path;
 
 use comparison::fixtures::modules;
-use comparison::library::{custom, names_judge};
+use comparison::library::{custom, names_judge, FOUND};
 
 use crate::payload::{Kind, Payload};
-
-const FOUND: u32 = 1;
 
 pub fn payloads() -> Vec<Payload> {
     modules().iter().filter_map(|path| accepted(path)).collect()

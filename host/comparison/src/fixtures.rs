@@ -5,12 +5,17 @@ use std::path::{Path, PathBuf};
 
 /// Their modules, in the order of their names, which is not that of the folder.
 pub fn modules() -> Vec<PathBuf> {
+    files("wasm")
+}
+
+/// All files of a kind, which is what their names end in, in the order of their names.
+pub fn files(kind: &str) -> Vec<PathBuf> {
     let folder = Path::new(env!("CARGO_MANIFEST_DIR")).join("../fixtures");
-    let mut modules: Vec<PathBuf> = fs::read_dir(folder)
+    let mut files: Vec<PathBuf> = fs::read_dir(folder)
         .expect("host/fixtures can be read")
         .map(|entry| entry.expect("an entry can be read").path())
-        .filter(|path| path.extension().is_some_and(|kind| kind == "wasm"))
+        .filter(|path| path.extension().is_some_and(|ending| ending == kind))
         .collect();
-    modules.sort();
-    modules
+    files.sort();
+    files
 }

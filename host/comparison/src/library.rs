@@ -8,11 +8,22 @@ use wakemiono as _;
 #[derive(Clone, Copy, Debug, PartialEq, Eq)]
 #[repr(C)]
 pub struct Told {
+    /// Which of the five kinds of answer this is.
     pub kind: u32,
+    /// The number of a refusal; for a section, its id.
     pub code: u32,
+    /// Where what was found, or the fault, lies in what was lent.
     pub offset: u64,
+    /// How many bytes were found or written; for the walk, how many sections there are.
     pub length: u64,
 }
+
+/// The kind of an answer without what was asked for.
+pub const NONE: u32 = 0;
+/// The kind of an answer with what was found, judged or written.
+pub const FOUND: u32 = 1;
+/// The kind of a refusal.
+pub const REFUSED: u32 = 2;
 
 impl From<second_reader::Answer> for Told {
     fn from(answer: second_reader::Answer) -> Told {

@@ -1,8 +1,17 @@
 //! One call put to both readers, what they answer and leave compared, and counted.
 
 use crate::guarded::Guarded;
-use crate::library::{self, Told};
+use crate::library::{self, Told, FOUND, REFUSED};
 use second_reader::Answer;
+
+/// The name of the section with names.
+pub const NAMES: &[u8] = b"name";
+
+/// The name of the section with branch hints.
+pub const HINTS: &[u8] = b"metadata.code.branch_hint";
+
+/// How the names of sections with code metadata start.
+const METADATA: &[u8] = b"metadata.code.";
 
 /// More than any input or output of the tests takes.
 const ROOM: usize = 1 << 20;
@@ -126,13 +135,7 @@ impl Tally {
             ask!(self, m, section, position);
         }
         ask!(self, m, section, u64::MAX);
-        for name in [
-            &b"name"[..],
-            b"metadata.code.branch_hint",
-            b"metadata.code.x",
-            b"x",
-            b"",
-        ] {
+        for name in [NAMES, HINTS, b"metadata.code.x", b"x", b""] {
             ask!(self, m, custom, name);
         }
         ask!(self, m, module_name_in);
@@ -154,6 +157,42 @@ impl Tally {
                 }
             }
         }
+    }
+
+    /// How a custom section of a module is judged, put through the module and on its own, with the offset from the
+    /// start of the module; none without the section.
+    pub fn judgement(&mut self, m: &[u8], section: &[u8]) -> Option<Told> {
+        let place = ask!(self, m, custom, section);
+        if place.kind != FOUND {
+            return None;
+        }
+        let payload = &m[place.offset as usize..][..place.length as usize];
+        let (through, mut alone) = match section {
+            NAMES => (
+                ask!(self, m, module_name_in),
+                ask!(self, payload, names_judge),
+            ),
+            HINTS => (
+                ask!(self, m, hint_in, 0, 0),
+                ask!(self, payload, hints_judge),
+            ),
+            _ => {
+                let format = section
+                    .strip_prefix(METADATA)
+                    .expect("a section with a judgement");
+                (
+                    ask!(self, m, metadata_in, format, 0, 0),
+                    ask!(self, payload, metadata_judge),
+                )
+            }
+        };
+        if alone.kind == REFUSED {
+            alone.offset += place.offset;
+            assert_eq!(through, alone, "a refusal in {m:02X?}");
+        } else {
+            assert_ne!(through.kind, REFUSED, "only through its module: {m:02X?}");
+        }
+        Some(alone)
     }
 
     fn rewrite(

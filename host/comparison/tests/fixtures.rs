@@ -1,13 +1,27 @@
 //! Modules of several producers: their listings, and every call compared on them and on their payloads.
 
-use comparison::fixtures::modules;
-use comparison::library::{self, custom, section, walk, Told};
-use comparison::tally::Tally;
+use comparison::fixtures::{files, modules};
+use comparison::library::{self, custom, section, walk, Told, FOUND, REFUSED};
+use comparison::tally::{Tally, HINTS, NAMES};
 use std::fmt::Write;
 use std::fs;
+use std::path::Path;
 
-const FOUND: u32 = 1;
-const REFUSED: u32 = 2;
+/// How many fixtures are committed, so that none is lost unseen: a module, and its listing.
+const MODULES: usize = 74;
+/// Those that the walk accepts, which have judgements of their payloads.
+const WITH_PAYLOADS: usize = 46;
+/// Their lines.
+const JUDGEMENTS: usize = 96;
+/// Those with an accepted payload that has something to ask for.
+const WITH_ANSWERS: usize = 19;
+/// The questions to them.
+const QUESTIONS: usize = 1_055;
+
+/// The module that a file of expectations is about.
+fn module_of(expectations: &Path) -> Vec<u8> {
+    fs::read(expectations.with_extension("wasm")).expect("each expectation has its module")
+}
 
 fn payload_line(label: &str, payload: Told) -> String {
     match payload.kind {
@@ -27,23 +41,63 @@ fn listing(module: &[u8]) -> String {
         let s = section(module, position);
         writeln!(text, "{} {} {}", s.code, s.offset, s.length).expect("a string takes all");
     }
-    text + &payload_line("name", custom(module, b"name"))
-        + &payload_line("hints", custom(module, b"metadata.code.branch_hint"))
+    text + &payload_line("name", custom(module, NAMES))
+        + &payload_line("hints", custom(module, HINTS))
 }
 
 #[test]
 fn listings() {
-    let modules = modules();
-    assert!(
-        modules.len() >= 20,
-        "only {} fixtures were found",
-        modules.len()
-    );
-    for path in modules {
-        let expected = fs::read_to_string(path.with_extension("listing"))
-            .expect("each fixture has its listing");
+    let listings = files("listing");
+    assert_eq!((modules().len(), listings.len()), (MODULES, MODULES));
+    for path in listings {
+        let expected = fs::read_to_string(&path).expect("a listing can be read");
+        assert_eq!(listing(&module_of(&path)), expected, "{}", path.display());
+    }
+}
+
+/// The judgement of a payload, as the third reading words it.
+fn judgement(told: Option<Told>) -> String {
+    match told {
+        None => "none".to_owned(),
+        Some(refusal) if refusal.kind == REFUSED => {
+            format!("refused {} {}", refusal.code, refusal.offset)
+        }
+        Some(_) => "accepted".to_owned(),
+    }
+}
+
+#[test]
+fn payloads() {
+    let mut tally = Tally::default();
+    let mut judgements = 0;
+    let payloads = files("payloads");
+    assert_eq!(payloads.len(), WITH_PAYLOADS);
+    for path in payloads {
+        let module = module_of(&path);
+        let expected = fs::read_to_string(&path).expect("judgements can be read");
+        for line in expected.lines() {
+            let (word, expected) = line.split_once(' ').expect("a word and its judgement");
+            let section = match word {
+                "hints" => HINTS,
+                name => name.as_bytes(),
+            };
+            let judged = judgement(tally.judgement(&module, section));
+            assert_eq!(judged, expected, "{word} in {}", path.display());
+            judgements += 1;
+        }
+    }
+    assert_eq!(judgements, JUDGEMENTS);
+    println!("compared {} calls", tally.calls);
+}
+
+/// Those that the walk refuses have no payloads to judge.
+#[test]
+fn accepted_modules_have_judgements() {
+    for path in modules() {
         let module = fs::read(&path).expect("a fixture can be read");
-        assert_eq!(listing(&module), expected, "{}", path.display());
+        let accepted = walk(&module).kind == FOUND;
+        let judged = path.with_extension("payloads").is_file();
+        assert_eq!(judged, accepted, "{}", path.display());
     }
 }
 
@@ -53,13 +107,13 @@ fn calls() {
     for path in modules() {
         let module = fs::read(path).expect("a fixture can be read");
         tally.module(&module);
-        for (name, of_names) in [(&b"name"[..], true), (b"metadata.code.branch_hint", false)] {
+        for name in [NAMES, HINTS] {
             let found = custom(&module, name);
             if found.kind != FOUND {
                 continue;
             }
             let payload = &module[found.offset as usize..][..found.length as usize];
-            if of_names {
+            if name == NAMES {
                 tally.names(payload);
             } else {
                 tally.metadata(payload);
@@ -93,24 +147,21 @@ fn asked(module: &[u8], words: &[&str]) -> Told {
 #[test]
 fn answers() {
     let mut asked_for = 0;
-    for path in modules() {
-        let Ok(answers) = fs::read_to_string(path.with_extension("answers")) else {
-            continue;
-        };
-        let module = fs::read(&path).expect("a fixture can be read");
-        for line in answers.lines() {
+    let answers = files("answers");
+    assert_eq!(answers.len(), WITH_ANSWERS);
+    for path in answers {
+        let module = module_of(&path);
+        let expected = fs::read_to_string(&path).expect("answers can be read");
+        for line in expected.lines() {
             let words: Vec<&str> = line.split(' ').collect();
             let (question, place) = words.split_at(words.len() - 2);
             let told = asked(&module, question);
-            let found = [told.kind as u64, told.offset, told.length];
-            let expected = [
-                1,
-                place[0].parse().expect("an offset"),
-                place[1].parse().expect("a length"),
-            ];
+            let place = [place[0], place[1]].map(|word| word.parse().expect("a number"));
+            let expected = (FOUND, place);
+            let found = (told.kind, [told.offset, told.length]);
             assert_eq!(found, expected, "{line} in {}", path.display());
             asked_for += 1;
         }
     }
-    assert!(asked_for > 1_000, "only {asked_for} questions were asked");
+    assert_eq!(asked_for, QUESTIONS);
 }
