@@ -10,6 +10,8 @@
 //!   them. A call stores into the output and nowhere else, and stores bytes, of which any is a
 //!   `u8`.
 
+use crate::FunctionIndex;
+
 /// The answer of every call, by value: `wm_answer` of the header.
 #[repr(C)]
 #[derive(Clone, Copy, Debug, PartialEq, Eq)]
@@ -240,16 +242,17 @@ pub(crate) fn hints_canonical(payload: &[u8], out: &mut [u8]) -> Answer {
 }
 
 pub(crate) fn function_names_write(
-    indices: &[u32],
+    indices: &[FunctionIndex],
     lengths: &[u32],
     text: &[u8],
     out: &mut [u8],
 ) -> Answer {
     // SAFETY: pointers and lengths of three live slices, lent, with numbers aligned as `u32` is,
-    // and of one `&mut` slice, the output. Lists that disagree are refused by the call.
+    // and of one `&mut` slice, the output. A `FunctionIndex` is laid out as its `u32`, being
+    // `repr(transparent)`. Lists that disagree are refused by the call.
     unsafe {
         wm_function_names_write(
-            indices.as_ptr(),
+            indices.as_ptr().cast::<u32>(),
             indices.len(),
             lengths.as_ptr(),
             lengths.len(),

@@ -9,11 +9,22 @@ use crate::{ffi, FunctionIndex, Reason, Refusal};
 /// of all names joined. The payload is canonical; that of empty lists is empty.
 ///
 /// ```
+/// use wakemiono::{function_names_into, FunctionIndex};
+///
 /// let mut out = [0xEE; 12];
-/// let length = wakemiono::function_names_into(&[0, 3], &[1, 2], b"abc", &mut out)?;
+/// let functions = [FunctionIndex(0), FunctionIndex(3)];
+/// let length = function_names_into(&functions, &[1, 2], b"abc", &mut out)?;
 /// assert_eq!(out[..length], [0x01, 0x08, 0x02, 0x00, 0x01, 0x61, 0x03, 0x02, 0x62, 0x63]);
 /// assert_eq!(out[length..], [0xEE, 0xEE]);
 /// # Ok::<(), wakemiono::Refusal>(())
+/// ```
+///
+/// The lists are not taken for each other:
+///
+/// ```compile_fail,E0308
+/// use wakemiono::{function_names_into, FunctionIndex};
+///
+/// function_names_into(&[1, 2], &[FunctionIndex(0), FunctionIndex(3)], b"abc", &mut [0; 12]);
 /// ```
 ///
 /// # Errors
@@ -23,12 +34,12 @@ use crate::{ffi, FunctionIndex, Reason, Refusal};
 /// [`OutputTooShort`](Reason::OutputTooShort) with the needed length. A refusal leaves the output
 /// as it was.
 pub fn function_names_into(
-    indices: &[u32],
+    functions: &[FunctionIndex],
     lengths: &[u32],
     text: &[u8],
     out: &mut [u8],
 ) -> Result<usize, Refusal> {
-    ffi::function_names_write(indices, lengths, text, out).written_from_lists(out.len())
+    ffi::function_names_write(functions, lengths, text, out).written_from_lists(out.len())
 }
 
 /// The name payload that gives each listed function its name and names nothing else. The functions
@@ -58,20 +69,20 @@ pub fn function_names_into(
 pub fn function_names(
     pairs: impl IntoIterator<Item = (FunctionIndex, impl AsRef<[u8]>)>,
 ) -> Result<Vec<u8>, Refusal> {
-    let (mut indices, mut lengths, mut text) = (Vec::new(), Vec::new(), Vec::new());
+    let (mut functions, mut lengths, mut text) = (Vec::new(), Vec::new(), Vec::new());
     for (function, name) in pairs {
         let name = name.as_ref();
-        indices.push(function.0);
+        functions.push(function);
         lengths.push(listed_length(name.len())?);
         text.extend_from_slice(name);
     }
-    let needed = match function_names_into(&indices, &lengths, &text, &mut []) {
+    let needed = match function_names_into(&functions, &lengths, &text, &mut []) {
         Err(refusal) if refusal.reason() == Reason::OutputTooShort => refusal.offset(),
         answer => return answer.map(|_| Vec::new()),
     };
     let needed = usize::try_from(needed).expect("a length of what is in memory is a usize");
     crate::to_vec(needed, |out| {
-        function_names_into(&indices, &lengths, &text, out)
+        function_names_into(&functions, &lengths, &text, out)
     })
 }
 

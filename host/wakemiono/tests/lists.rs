@@ -52,7 +52,8 @@ fn names_come_from_any_iterator() {
 #[test]
 fn refusals_come_in_their_order() {
     let write = |indices: &[u32], lengths: &[u32], text: &[u8]| {
-        refused(function_names_into(indices, lengths, text, &mut []))
+        let functions: Vec<FunctionIndex> = indices.iter().copied().map(FunctionIndex).collect();
+        refused(function_names_into(&functions, lengths, text, &mut []))
     };
     assert_eq!(write(&[1, 1], &[1], b"\xFF"), (14, 0));
     assert_eq!(write(&[0, 1], &[u32::MAX, 3], b"ab"), (14, 0));
@@ -67,6 +68,6 @@ fn refusals_come_in_their_order() {
 #[ignore = "reads 4 GiB, several times"]
 fn a_subsection_that_would_be_too_long_is_refused() {
     let text = vec![0; usize::try_from(u32::MAX).unwrap()];
-    let answer = function_names_into(&[0], &[u32::MAX], &text, &mut []);
+    let answer = function_names_into(&[FunctionIndex(0)], &[u32::MAX], &text, &mut []);
     assert_eq!(refused(answer), (15, 0));
 }

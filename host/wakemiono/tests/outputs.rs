@@ -3,7 +3,7 @@
 mod common;
 
 use common::{refused, P};
-use wakemiono::{function_names_into, Hints, Metadata, NamePayload, Refusal};
+use wakemiono::{function_names_into, FunctionIndex, Hints, Metadata, NamePayload, Refusal};
 
 const GUARD: usize = 16;
 const UNTOUCHED: u8 = 0xA5;
@@ -77,7 +77,7 @@ fn metadata_and_hints_are_rewritten_between_guards() {
 fn lists_are_written_between_guards() {
     let payload = [0x01, 0x08, 0x02, 0x00, 0x01, 0x61, 0x03, 0x02, 0x62, 0x63];
     writes(&payload, |out| {
-        function_names_into(&[0, 3], &[1, 2], b"abc", out)
+        function_names_into(&[0, 3].map(FunctionIndex), &[1, 2], b"abc", out)
     });
     writes(&[], |out| function_names_into(&[], &[], &[], out));
 }
@@ -91,12 +91,14 @@ fn a_refusal_writes_nothing() {
     refuses((12, 4), |out| {
         Hints::new(&[0x01, 0x02, 0x01, 0x05, 0x01, 0x02]).canonical_into(out)
     });
-    refuses((14, 0), |out| function_names_into(&[0], &[1], b"ab", out));
+    refuses((14, 0), |out| {
+        function_names_into(&[0].map(FunctionIndex), &[1], b"ab", out)
+    });
     refuses((11, 1), |out| {
-        function_names_into(&[3, 3], &[1, 1], b"ab", out)
+        function_names_into(&[3, 3].map(FunctionIndex), &[1, 1], b"ab", out)
     });
     refuses((4, 0), |out| {
-        function_names_into(&[0, 1], &[1, 1], "é".as_bytes(), out)
+        function_names_into(&[0, 1].map(FunctionIndex), &[1, 1], "é".as_bytes(), out)
     });
 }
 

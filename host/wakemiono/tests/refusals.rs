@@ -116,7 +116,7 @@ fn of_outputs() {
 #[test]
 fn of_lists() {
     says(
-        function_names_into(&[0], &[], b"", &mut []),
+        function_names_into(&[FunctionIndex(0)], &[], b"", &mut []),
         Reason::ListsDisagree,
         "the lists disagree: their counts differ, or the lengths do not add up to the text",
     );
