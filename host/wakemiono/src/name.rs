@@ -124,6 +124,20 @@ impl AsRef<[u8]> for Name<'_> {
 
 const QUOTES: [char; 2] = ['"', '\''];
 
+impl Name<'_> {
+    /// The name on one line: text as it is spelled, and bytes that are not UTF-8 as `\xFF`.
+    fn shown(&self, spell: impl Fn(&mut String, &str)) -> String {
+        let mut shown = String::new();
+        for chunk in self.0.utf8_chunks() {
+            spell(&mut shown, chunk.valid());
+            for byte in chunk.invalid() {
+                shown.push_str(&format!("\\x{byte:02X}"));
+            }
+        }
+        shown
+    }
+}
+
 /// The name on one line, for people: a backslash and what is not printable are escaped, and bytes
 /// that are not UTF-8 are shown as `\xFF`. Different names are shown differently.
 ///
@@ -131,20 +145,17 @@ const QUOTES: [char; 2] = ['"', '\''];
 /// use wakemiono::Name;
 ///
 /// assert_eq!(Name::from(&b"<\"T\"> \n \xFF"[..]).to_string(), r#"<"T"> \n \xFF"#);
+/// assert_eq!(format!("{:>6}|", Name::from(&b"main"[..])), "  main|");
 /// ```
 impl fmt::Display for Name<'_> {
     fn fmt(&self, f: &mut fmt::Formatter<'_>) -> fmt::Result {
-        for chunk in self.0.utf8_chunks() {
-            for run in chunk.valid().split_inclusive(QUOTES) {
-                let text = run.strip_suffix(QUOTES).unwrap_or(run);
-                write!(f, "{}{}", text.escape_debug(), &run[text.len()..])?;
+        f.pad(&self.shown(|shown, text| {
+            for run in text.split_inclusive(QUOTES) {
+                let unquoted = run.strip_suffix(QUOTES).unwrap_or(run);
+                shown.extend(unquoted.escape_debug());
+                shown.push_str(&run[unquoted.len()..]);
             }
-            chunk
-                .invalid()
-                .iter()
-                .try_for_each(|byte| write!(f, "\\x{byte:02X}"))?;
-        }
-        Ok(())
+        }))
     }
 }
 
@@ -157,14 +168,7 @@ impl fmt::Display for Name<'_> {
 /// ```
 impl fmt::Debug for Name<'_> {
     fn fmt(&self, f: &mut fmt::Formatter<'_>) -> fmt::Result {
-        f.write_str("Name(\"")?;
-        for chunk in self.0.utf8_chunks() {
-            write!(f, "{}", chunk.valid().escape_debug())?;
-            chunk
-                .invalid()
-                .iter()
-                .try_for_each(|byte| write!(f, "\\x{byte:02X}"))?;
-        }
-        f.write_str("\")")
+        let shown = self.shown(|shown, text| shown.extend(text.escape_debug()));
+        write!(f, "Name(\"{shown}\")")
     }
 }

@@ -5,7 +5,7 @@ mod common;
 use std::collections::HashMap;
 
 use common::{custom, module, P};
-use wakemiono::{offset_in, FunctionIndex, Module, Name, NamePayload};
+use wakemiono::{offset_in, FunctionIndex, Module, Name, NamePayload, Reason};
 
 #[test]
 fn a_name_outlives_what_was_asked_and_not_the_bytes() {
@@ -77,6 +77,15 @@ fn what_is_not_printable_is_escaped() {
         assert_eq!(debug, format!("Name(\"{escaped}\")"));
         assert!(display.chars().all(|shown| !shown.is_control()));
     }
+}
+
+#[test]
+fn columns_are_as_wide_as_what_is_shown() {
+    let name = Name::from(&b"a\n\xFF"[..]);
+    assert_eq!(format!("{name:>9}|{name:<9}|"), r"  a\n\xFF|a\n\xFF  |");
+    assert_eq!(format!("{name:.3}|"), r"a\n|");
+    let reason = Reason::NotText;
+    assert_eq!(format!("{reason:-^21}"), "--text is not UTF-8--");
 }
 
 #[test]
