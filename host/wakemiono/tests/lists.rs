@@ -63,9 +63,8 @@ fn refusals_come_in_their_order() {
     assert_eq!(write(&[0], &[1], b"a"), (13, 6));
 }
 
-/// Zeros that are only read take no memory of their own.
+/// It lends 4 GiB; zeros that are only read take no memory of their own.
 #[test]
-#[ignore = "reads 4 GiB, several times"]
 fn a_subsection_that_would_be_too_long_is_refused() {
     let text = vec![0; usize::try_from(u32::MAX).unwrap()];
     let answer = function_names_into(&[FunctionIndex(0)], &[u32::MAX], &text, &mut []);
