@@ -2,13 +2,19 @@
 
 const PREAMBLE: &[u8; 8] = b"\0asm\x01\0\0\0";
 
+/// How many bits of a number stand in each of its bytes.
+const BITS_IN_A_BYTE: usize = 7;
+
+/// The bit that says that the number goes on in the next byte.
+const GOES_ON: u8 = 1 << BITS_IN_A_BYTE;
+
 /// A number in its fewest bytes.
 pub fn number(value: usize) -> Vec<u8> {
     let mut bytes = vec![];
     let mut rest = value;
-    while rest >= 0x80 {
-        bytes.push(rest as u8 | 0x80);
-        rest >>= 7;
+    while rest >= usize::from(GOES_ON) {
+        bytes.push(rest as u8 | GOES_ON);
+        rest >>= BITS_IN_A_BYTE;
     }
     bytes.push(rest as u8);
     bytes

@@ -6,19 +6,28 @@ use crate::tally::KEYS;
 /// Text of each length that a character can have, and none.
 const TEXTS: [&str; 7] = ["", "a", "main", "é", "漢", "🦀x", "core::fmt::write"];
 
+/// The most bytes that a number takes.
+const LONGEST_NUMBER: usize = 5;
+
+/// How many bits of a number stand in each of its bytes.
+const BITS_IN_A_BYTE: u32 = 7;
+
+/// The bit that says that the number goes on in the next byte.
+const GOES_ON: u8 = 1 << BITS_IN_A_BYTE;
+
 /// A number in its fewest bytes, or padded.
 pub fn number(r: &mut Random, value: u32) -> Vec<u8> {
     let mut bytes = vec![];
     let mut rest = value;
-    while rest >= 128 {
-        bytes.push(rest as u8 | 0x80);
-        rest >>= 7;
+    while rest >= u32::from(GOES_ON) {
+        bytes.push(rest as u8 | GOES_ON);
+        rest >>= BITS_IN_A_BYTE;
     }
     bytes.push(rest as u8);
     if r.once_in(6) {
-        let more = r.below(6 - bytes.len());
+        let more = r.below(LONGEST_NUMBER - bytes.len() + 1);
         for _ in 0..more {
-            *bytes.last_mut().expect("a number has bytes") |= 0x80;
+            *bytes.last_mut().expect("a number has bytes") |= GOES_ON;
             bytes.push(0);
         }
     }

@@ -25,6 +25,7 @@ mod canonical;
 mod lists;
 mod metadata;
 mod names;
+mod number;
 mod reading;
 mod through;
 mod walk;

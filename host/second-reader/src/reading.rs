@@ -3,6 +3,7 @@
 use std::str;
 
 use crate::answer::{Reason, Refusal};
+use crate::number::{BITS, BITS_IN_A_BYTE, GOES_ON, GREATEST_FIFTH, LONGEST};
 
 /// The unread rest of one part of what was lent.
 ///
@@ -50,7 +51,7 @@ impl<'a> Part<'a> {
     pub fn number(&mut self) -> Result<u32, Refusal> {
         // Nearly all numbers in real payloads are one byte long.
         match self.lent.get(self.at) {
-            Some(&byte) if byte < 0x80 => {
+            Some(&byte) if byte < GOES_ON => {
                 self.at += 1;
                 Ok(u32::from(byte))
             }
@@ -61,12 +62,12 @@ impl<'a> Part<'a> {
     /// A number of any width. Its fifth byte, where there is one, is its last.
     fn long_number(&mut self) -> Result<u32, Refusal> {
         let mut value = 0;
-        for (width, &byte) in (1..=5).zip(self.bytes()) {
-            if width == 5 && byte > 0x0F {
+        for (width, &byte) in (1..=LONGEST).zip(self.bytes()) {
+            if width == LONGEST && byte > GREATEST_FIFTH {
                 return Err(Reason::NumberTooLarge.at(self.at));
             }
-            value |= u32::from(byte & 0x7F) << (7 * (width - 1));
-            if byte < 0x80 {
+            value |= u32::from(byte & BITS) << (BITS_IN_A_BYTE * (width - 1));
+            if byte < GOES_ON {
                 self.at += width;
                 return Ok(value);
             }

@@ -1,6 +1,7 @@
 //! Measuring and writing by the same steps, so that what is measured is what is written.
 
 use crate::answer::{Reason, Refusal};
+use crate::number::{least_of, BITS_IN_A_BYTE, GOES_ON};
 
 /// Takes what is to be written: counts it, or writes it.
 pub(crate) trait Sink {
@@ -20,12 +21,16 @@ pub(crate) trait Sink {
 
 /// The fewest bytes that hold a number.
 pub(crate) fn number_length(value: u32) -> u64 {
+    const OF_TWO: u32 = least_of(2);
+    const OF_THREE: u32 = least_of(3);
+    const OF_FOUR: u32 = least_of(4);
+    const OF_FIVE: u32 = least_of(5);
     match value {
-        0..=0x7F => 1,
-        0x80..=0x3FFF => 2,
-        0x4000..=0x1F_FFFF => 3,
-        0x20_0000..=0xFFF_FFFF => 4,
-        0x1000_0000.. => 5,
+        0..OF_TWO => 1,
+        OF_TWO..OF_THREE => 2,
+        OF_THREE..OF_FOUR => 3,
+        OF_FOUR..OF_FIVE => 4,
+        OF_FIVE.. => 5,
     }
 }
 
@@ -72,9 +77,9 @@ impl<'a> Writer<'a> {
 impl Sink for Writer<'_> {
     fn number(&mut self, value: u32) {
         let mut rest = value;
-        while rest >= 0x80 {
-            self.byte(rest as u8 | 0x80);
-            rest >>= 7;
+        while rest >= u32::from(GOES_ON) {
+            self.byte(rest as u8 | GOES_ON);
+            rest >>= BITS_IN_A_BYTE;
         }
         self.byte(rest as u8);
     }

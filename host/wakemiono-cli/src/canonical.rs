@@ -7,7 +7,19 @@
 
 use wakemiono::{CodeOffset, FieldIndex, FunctionIndex, LocalIndex, TagIndex, TypeIndex};
 
-use crate::question::Question;
+use crate::question::{subsection, Question};
+
+/// The most bytes that a number takes.
+const LONGEST_NUMBER: u32 = 5;
+
+/// How many bits of a number stand in each of its bytes, the lowest ones in the first.
+const BITS_IN_A_BYTE: u32 = 7;
+
+/// Those bits.
+const BITS: u8 = 0x7F;
+
+/// The bit that says that the number goes on in the next byte.
+const GOES_ON: u8 = 0x80;
 
 /// A question, and the answer as the canonical payload holds it.
 #[derive(Clone, Copy, Debug, PartialEq, Eq)]
@@ -60,10 +72,10 @@ impl<'a> Reader<'a> {
 
     fn number(&mut self) -> Option<u32> {
         let mut value = 0;
-        for shift in (0..35).step_by(7) {
+        for position in 0..LONGEST_NUMBER {
             let byte = self.byte()?;
-            value |= u64::from(byte & 0x7F) << shift;
-            if byte & 0x80 == 0 {
+            value |= u64::from(byte & BITS) << (BITS_IN_A_BYTE * position);
+            if byte & GOES_ON == 0 {
                 return u32::try_from(value).ok();
             }
         }
@@ -79,19 +91,21 @@ impl<'a> Reader<'a> {
 
     fn subsection(&mut self, id: u8, entries: &mut Vec<Entry<'a>>) -> Option<()> {
         match id {
-            0 => entries.push(Entry {
+            subsection::MODULE => entries.push(Entry {
                 question: Question::Module,
                 bytes: self.sized()?,
             }),
-            1 => self.map(entries, |index| Question::Function(FunctionIndex(index)))?,
-            2 => self.maps(entries, |function, local| {
+            subsection::FUNCTIONS => {
+                self.map(entries, |index| Question::Function(FunctionIndex(index)))?
+            }
+            subsection::LOCALS => self.maps(entries, |function, local| {
                 Question::Local(FunctionIndex(function), LocalIndex(local))
             })?,
-            4 => self.map(entries, |index| Question::Type(TypeIndex(index)))?,
-            10 => self.maps(entries, |type_, field| {
+            subsection::TYPES => self.map(entries, |index| Question::Type(TypeIndex(index)))?,
+            subsection::FIELDS => self.maps(entries, |type_, field| {
                 Question::Field(TypeIndex(type_), FieldIndex(field))
             })?,
-            11 => self.map(entries, |index| Question::Tag(TagIndex(index)))?,
+            subsection::TAGS => self.map(entries, |index| Question::Tag(TagIndex(index)))?,
             kept => entries.push(Entry {
                 question: Question::Kept(kept),
                 bytes: std::mem::take(&mut self.0),

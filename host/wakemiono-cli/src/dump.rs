@@ -2,7 +2,11 @@
 
 use std::ops::Range;
 
+/// How many bytes a row has.
 const ROW: usize = 16;
+
+/// How wide a byte is in a row: a space and two digits.
+const CELL: usize = 3;
 
 /// The bytes of the row with the place and of the rows right before and after it; none where the
 /// place is behind the end.
@@ -40,7 +44,15 @@ pub fn rows(bytes: &[u8], place: u64) -> Vec<String> {
 fn row(start: usize, bytes: &[u8]) -> String {
     let hex: String = bytes.iter().map(|byte| format!(" {byte:02X}")).collect();
     let text: String = bytes.iter().map(|byte| printable(*byte)).collect();
-    format!("{start:08X} {hex:<48}  |{text}|")
+    format!(
+        "{} {hex:<width$}  |{text}|",
+        offset(start),
+        width = CELL * ROW
+    )
+}
+
+fn offset(start: usize) -> String {
+    format!("{start:08X}")
 }
 
 fn printable(byte: u8) -> char {
@@ -52,8 +64,9 @@ fn printable(byte: u8) -> char {
 }
 
 fn marker(start: usize, place: usize) -> String {
-    // As wide as what stands before the place in its row.
-    let before = format!("{start:08X} ").len() + 3 * (place - start) + 1;
+    // As wide as what stands before the place in its row: the offset, the bytes before, and two
+    // spaces.
+    let before = offset(start).len() + CELL * (place - start) + "  ".len();
     format!("{:before$}^^", "")
 }
 

@@ -9,6 +9,22 @@ use wakemiono::{
 use crate::escape;
 use crate::json::Json;
 
+/// The ids of the subsections with names; those with any other id are kept as they are.
+pub mod subsection {
+    /// The module's name.
+    pub const MODULE: u8 = 0;
+    /// The names of functions.
+    pub const FUNCTIONS: u8 = 1;
+    /// The names of locals.
+    pub const LOCALS: u8 = 2;
+    /// The names of types.
+    pub const TYPES: u8 = 4;
+    /// The names of fields.
+    pub const FIELDS: u8 = 10;
+    /// The names of tags.
+    pub const TAGS: u8 = 11;
+}
+
 /// What a name belongs to.
 #[derive(Clone, Copy, Debug, PartialEq, Eq)]
 pub enum Kind {
@@ -121,12 +137,12 @@ impl Question {
     /// Its place in the order of payloads: the subsection's id, and then the indices.
     pub fn order(&self) -> (u8, Vec<u32>) {
         let subsection = match *self {
-            Question::Module => 0,
-            Question::Function(_) => 1,
-            Question::Local(..) => 2,
-            Question::Type(_) => 4,
-            Question::Field(..) => 10,
-            Question::Tag(_) => 11,
+            Question::Module => subsection::MODULE,
+            Question::Function(_) => subsection::FUNCTIONS,
+            Question::Local(..) => subsection::LOCALS,
+            Question::Type(_) => subsection::TYPES,
+            Question::Field(..) => subsection::FIELDS,
+            Question::Tag(_) => subsection::TAGS,
             Question::Kept(id) => id,
         };
         (subsection, self.indices())

@@ -426,14 +426,26 @@ impl fmt::Debug for Sections<'_> {
     }
 }
 
+/// The most bytes that a number takes.
+const LONGEST_NUMBER: usize = 5;
+
+/// How many bits of a number stand in each of its bytes, the lowest ones in the first.
+const BITS_IN_A_BYTE: usize = 7;
+
+/// Those bits.
+const BITS: u8 = 0x7F;
+
+/// The bit that says that the number goes on in the next byte.
+const GOES_ON: u8 = 0x80;
+
 /// The size number that starts here in an accepted module, and how many bytes it takes.
 fn size(bytes: &[u8]) -> (u64, usize) {
     let mut value = 0;
     let mut taken = 0;
-    for byte in bytes.iter().take(5) {
-        value |= u64::from(byte & 0x7F) << (7 * taken);
+    for byte in bytes.iter().take(LONGEST_NUMBER) {
+        value |= u64::from(byte & BITS) << (BITS_IN_A_BYTE * taken);
         taken += 1;
-        if byte & 0x80 == 0 {
+        if byte & GOES_ON == 0 {
             break;
         }
     }
