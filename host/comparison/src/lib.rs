@@ -3,6 +3,8 @@
 //! A slice is lent at the very end of mapped memory, so that a read past it cannot pass; what was lent is compared
 //! before and after; an output has guard bytes before it and nothing mapped behind it.
 
+#![deny(missing_docs)]
+
 pub mod fixtures;
 pub mod guarded;
 pub mod library;

@@ -45,6 +45,7 @@ macro_rules! questions {
             }
         }
         $(
+            #[doc = concat!("`", stringify!($symbol), "` of the header, on a slice.")]
             pub fn $call(lent: &[u8] $(, $argument: $of)*) -> Told {
                 // SAFETY: pointer and length are those of a live slice, which the call only reads.
                 unsafe { declared::$symbol(lent.as_ptr(), lent.len() $(, $argument)*) }
@@ -87,6 +88,7 @@ macro_rules! rewritings {
             }
         }
         $(
+            #[doc = concat!("`", stringify!($symbol), "` of the header, on slices.")]
             pub fn $call(lent: &[u8], out: &mut [u8]) -> Told {
                 // SAFETY: both are live slices that do not overlap; the call stores into the output alone.
                 unsafe { rewriting::$symbol(lent.as_ptr(), lent.len(), out.as_mut_ptr(), out.len()) }
@@ -123,11 +125,13 @@ extern "C" {
     ) -> Told;
 }
 
+/// `wm_custom` of the header, on slices.
 pub fn custom(module: &[u8], name: &[u8]) -> Told {
     // SAFETY: both are live slices, which the call only reads.
     unsafe { wm_custom(module.as_ptr(), module.len(), name.as_ptr(), name.len()) }
 }
 
+/// `wm_metadata_in` of the header, on slices.
 pub fn metadata_in(module: &[u8], format: &[u8], function: u32, offset: u32) -> Told {
     // SAFETY: both are live slices, which the call only reads.
     unsafe {
@@ -142,6 +146,7 @@ pub fn metadata_in(module: &[u8], format: &[u8], function: u32, offset: u32) -> 
     }
 }
 
+/// `wm_function_names_write` of the header, on slices.
 pub fn function_names_write(indices: &[u32], lengths: &[u32], text: &[u8], out: &mut [u8]) -> Told {
     // SAFETY: all are live slices, the output overlaps none of the others, and the call stores into it alone.
     unsafe {

@@ -1,5 +1,7 @@
 //! One call put to both readers, what they answer and leave compared, and counted.
 
+use std::fmt;
+
 use crate::guarded::Guarded;
 use crate::library::{self, Told, FOUND, REFUSED};
 use second_reader::Answer;
@@ -23,6 +25,18 @@ const GUARD_BYTE: u8 = 0xA5;
 /// What an output holds before a call.
 const UNTOUCHED: u8 = 0xEE;
 
+/// By how much an output is longer than it ever needs to be.
+const SPARE: usize = 7;
+
+/// More than the index and the length of a name take, and more than is written before the first name.
+const MOST_BESIDE_TEXT: usize = 16;
+
+/// Of so many sections each is asked for; of more, the first.
+const SECTIONS_ASKED: u64 = 12;
+
+/// How many positions behind them are asked for too.
+const POSITIONS_BEHIND: u64 = 2;
+
 /// Indices and offsets that are asked for; the made payloads use them too.
 pub const KEYS: [u32; 8] = [0, 1, 2, 3, 127, 128, 300, u32::MAX];
 
@@ -34,6 +48,7 @@ pub const IDS: [u8; 12] = [0, 1, 2, 3, 4, 5, 7, 9, 10, 11, 12, 255];
 
 /// Counts the calls that agreed, and holds the memory that is lent.
 pub struct Tally {
+    /// How many calls agreed.
     pub calls: u64,
     lent: Guarded,
     also_lent: Guarded,
@@ -131,7 +146,7 @@ impl Tally {
     /// Every question to a module.
     pub fn module(&mut self, m: &[u8]) {
         let sections = ask!(self, m, walk).length;
-        for position in 0..sections.min(12) + 2 {
+        for position in 0..sections.min(SECTIONS_ASKED) + POSITIONS_BEHIND {
             ask!(self, m, section, position);
         }
         ask!(self, m, section, u64::MAX);
@@ -208,25 +223,16 @@ impl Tally {
             needed.saturating_sub(1),
             needed,
             bytes.len(),
-            bytes.len() + 7,
+            bytes.len() + SPARE,
         ] {
             let lent = self.lent.lend(bytes);
-            let framed = self.output.last(GUARD + room);
-            framed.fill(UNTOUCHED);
-            framed[..GUARD].fill(GUARD_BYTE);
+            let framed = framed(&mut self.output, room);
             let told = library(lent, &mut framed[GUARD..]);
             let mut expected = vec![UNTOUCHED; room];
             let answer = Told::from(reader(bytes, &mut expected));
-            assert_eq!(told, answer, "{call} of {bytes:02X?} into {room}");
-            assert_eq!(
-                &framed[GUARD..],
-                expected,
-                "the output of {call} of {bytes:02X?} into {room}"
-            );
-            assert!(
-                framed[..GUARD].iter().all(|b| *b == GUARD_BYTE),
-                "{call} wrote before its output"
-            );
+            let put = format_args!("{call} of {bytes:02X?} into {room}");
+            assert_eq!(told, answer, "{put}");
+            assert_left(framed, &expected, put);
             assert_eq!(lent, bytes, "{call} changed what was lent");
             self.calls += 1;
         }
@@ -234,47 +240,58 @@ impl Tally {
 
     /// Function names from lists, with outputs of several lengths; what was written is read back by both.
     pub fn lists(&mut self, indices: &[u32], lengths: &[u32], text: &[u8]) {
-        let most = 16 * indices.len() + text.len() + 16;
+        let most = MOST_BESIDE_TEXT * (indices.len() + 1) + text.len();
         let needed = second_reader::function_names_write(indices, lengths, text, &mut vec![0; most])
             .length as usize;
         for room in [0, needed.saturating_sub(1), needed, most] {
-            let lent = self.lent.lend_numbers(indices);
-            let also_lent = self.also_lent.lend_numbers(lengths);
-            let joined = self.text.lend(text);
-            let framed = self.output.last(GUARD + room);
-            framed.fill(UNTOUCHED);
-            framed[..GUARD].fill(GUARD_BYTE);
-            let told = library::function_names_write(lent, also_lent, joined, &mut framed[GUARD..]);
-            let mut expected = vec![UNTOUCHED; room];
-            let answer = Told::from(second_reader::function_names_write(
-                indices,
-                lengths,
-                text,
-                &mut expected,
-            ));
-            assert_eq!(
-                told, answer,
-                "{indices:?} {lengths:?} {text:02X?} into {room}"
-            );
-            assert_eq!(
-                &framed[GUARD..],
-                expected,
-                "the output of {indices:?} {lengths:?} {text:02X?} into {room}"
-            );
-            assert!(
-                framed[..GUARD].iter().all(|b| *b == GUARD_BYTE),
-                "written before the output"
-            );
-            assert_eq!(
-                (lent, also_lent, joined),
-                (indices, lengths, text),
-                "what was lent changed"
-            );
-            self.calls += 1;
-            if answer.kind == second_reader::Kind::Found as u32 {
-                let written = expected[..answer.length as usize].to_vec();
+            if let Some(written) = self.lists_into(indices, lengths, text, room) {
                 self.names(&written);
             }
         }
     }
+
+    /// Function names from lists, with one output, and what was written into it.
+    fn lists_into(
+        &mut self,
+        indices: &[u32],
+        lengths: &[u32],
+        text: &[u8],
+        room: usize,
+    ) -> Option<Vec<u8>> {
+        let lent = self.lent.lend_numbers(indices);
+        let also_lent = self.also_lent.lend_numbers(lengths);
+        let joined = self.text.lend(text);
+        let framed = framed(&mut self.output, room);
+        let told = library::function_names_write(lent, also_lent, joined, &mut framed[GUARD..]);
+        let mut expected = vec![UNTOUCHED; room];
+        let read = second_reader::function_names_write(indices, lengths, text, &mut expected);
+        let put = format_args!("{indices:?} {lengths:?} {text:02X?} into {room}");
+        assert_eq!(told, Told::from(read), "{put}");
+        assert_left(framed, &expected, put);
+        assert_eq!(
+            (lent, also_lent, joined),
+            (indices, lengths, text),
+            "what was lent changed"
+        );
+        self.calls += 1;
+        (told.kind == FOUND).then(|| expected[..told.length as usize].to_vec())
+    }
+}
+
+/// An output of a length, untouched, with guard bytes before it and nothing mapped behind it.
+fn framed(output: &mut Guarded, room: usize) -> &mut [u8] {
+    let framed = output.last(GUARD + room);
+    framed.fill(UNTOUCHED);
+    framed[..GUARD].fill(GUARD_BYTE);
+    framed
+}
+
+/// The output holds what is expected, and the guard bytes are as they were.
+fn assert_left(framed: &[u8], expected: &[u8], put: fmt::Arguments<'_>) {
+    let (guard, output) = framed.split_at(GUARD);
+    assert_eq!(output, expected, "the output of {put}");
+    assert!(
+        guard.iter().all(|byte| *byte == GUARD_BYTE),
+        "written before the output of {put}"
+    );
 }

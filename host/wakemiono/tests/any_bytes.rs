@@ -6,7 +6,7 @@ mod common;
 
 use common::{custom, module, HINTS_NAME, P, SMALL};
 use wakemiono::{
-    offset_in, CodeOffset, FieldIndex, FunctionIndex, Hints, LocalIndex, Metadata, Module,
+    offset_in, CodeOffset, FieldIndex, FunctionIndex, Hints, LocalIndex, Metadata, Module, Name,
     NamePayload, Refusal, TagIndex, TypeIndex,
 };
 
@@ -87,86 +87,83 @@ fn metadata_agree(bytes: &[u8]) {
     }
 }
 
+/// A refusal's number, and its offset counted from the start of the module.
+type Place = (u32, u64);
+
+fn place(refusal: Refusal) -> Place {
+    (refusal.number(), refusal.offset())
+}
+
+/// The same of a refusal whose offset counts from the start of a payload in the module.
+fn place_in_payload(module: &Module<'_>, payload: &[u8], refusal: Refusal) -> Place {
+    let start = offset_in(module.as_bytes(), payload).expect("the payload lies in the module");
+    (refusal.number(), refusal.offset() + start as u64)
+}
+
 /// What is asked through a module is what is asked of its payload, counted from the module's start.
 fn module_agrees(bytes: &[u8]) {
     let module = Module::new(bytes);
-    let walked = module.section_count();
-    let sections = module.sections();
-    assert_eq!(
-        sections
-            .as_ref()
-            .map(|all| all.len() as u64)
-            .map_err(|refusal| *refusal),
-        walked
-    );
-    if let Ok(sections) = sections {
-        for (position, section) in (0..).zip(sections) {
-            assert_eq!(module.section(position), Ok(Some(section)));
-        }
-    }
-    let names = module.names();
-    assert_eq!(
-        names.as_ref().map(drop).map_err(|refusal| *refusal),
-        walked.map(drop)
-    );
-    let shifted = |refusal: Refusal, payload: &[u8]| {
-        let start = offset_in(bytes, payload).expect("the payload lies in the module");
-        (refusal.number(), refusal.offset() + start as u64)
-    };
-    let places = |refusal: Refusal| (refusal.number(), refusal.offset());
+    sections_agree(&module);
     for one in 0..4 {
-        let (function, local) = (FunctionIndex(one), LocalIndex(0));
-        let (type_, field) = (TypeIndex(one), FieldIndex(0));
-        let through = [
-            module.module_name(),
-            module.function_name(function),
-            module.type_name(type_),
-            module.tag_name(TagIndex(one)),
-            module.local_name(function, local),
-            module.field_name(type_, field),
-            module
-                .kept(one as u8)
-                .map(|kept| kept.map(wakemiono::Name::from)),
-        ];
-        let apart = names.map(|names| {
-            names.map(|names| {
-                [
-                    names.module_name(),
-                    names.function_name(function),
-                    names.type_name(type_),
-                    names.tag_name(TagIndex(one)),
-                    names.local_name(function, local),
-                    names.field_name(type_, field),
-                    names
-                        .kept(one as u8)
-                        .map(|kept| kept.map(wakemiono::Name::from)),
-                ]
-                .map(|answer| answer.map_err(|refusal| shifted(refusal, names.as_bytes())))
-            })
-        });
-        let expected = match apart {
-            Err(refusal) => [Err(places(refusal)); 7],
-            Ok(None) => [Ok(None); 7],
-            Ok(Some(answers)) => answers,
-        };
-        assert_eq!(through.map(|answer| answer.map_err(places)), expected);
+        names_agree_through(&module, one);
+        hints_agree_through(&module, FunctionIndex(one));
+    }
+}
 
-        for at in (0..6).map(CodeOffset) {
-            let through = module.hint(function, at).map_err(places);
-            let data = module.metadata("branch_hint", function, at).map_err(places);
-            let expected = match module.hints() {
-                Err(refusal) => Err(places(refusal)),
-                Ok(None) => Ok(None),
-                Ok(Some(hints)) => hints
-                    .hint(function, at)
-                    .map_err(|refusal| shifted(refusal, hints.as_bytes())),
-            };
-            assert_eq!(through, expected);
-            assert_eq!(
-                data.map(|data| data.map(|data| data[0])),
-                expected.map(|hint| hint.map(|hint| hint as u8))
-            );
-        }
+/// All calls that walk give the same refusal, and the steps of `sections` are those of `section`.
+fn sections_agree(module: &Module<'_>) {
+    let walked = module.section_count();
+    assert_eq!(module.names().map(drop), walked.map(drop));
+    let sections = module.sections();
+    assert_eq!(sections.clone().map(|all| all.len() as u64), walked);
+    for (position, section) in (0..).zip(sections.into_iter().flatten()) {
+        assert_eq!(module.section(position), Ok(Some(section)));
+    }
+}
+
+/// One question of each kind about names.
+macro_rules! asked_of {
+    ($names:expr, $index:expr) => {
+        [
+            $names.module_name(),
+            $names.function_name(FunctionIndex($index)),
+            $names.type_name(TypeIndex($index)),
+            $names.tag_name(TagIndex($index)),
+            $names.local_name(FunctionIndex($index), LocalIndex(0)),
+            $names.field_name(TypeIndex($index), FieldIndex(0)),
+            $names.kept($index as u8).map(|kept| kept.map(Name::from)),
+        ]
+    };
+}
+
+fn names_agree_through(module: &Module<'_>, index: u32) {
+    let through = asked_of!(module, index).map(|answer| answer.map_err(place));
+    let apart = match module.names() {
+        Err(refusal) => through.map(|_| Err(place(refusal))),
+        Ok(None) => through.map(|_| Ok(None)),
+        Ok(Some(names)) => asked_of!(names, index).map(|answer| {
+            answer.map_err(|refusal| place_in_payload(module, names.as_bytes(), refusal))
+        }),
+    };
+    assert_eq!(through, apart);
+}
+
+fn hints_agree_through(module: &Module<'_>, function: FunctionIndex) {
+    for at in (0..6).map(CodeOffset) {
+        let through = module.hint(function, at).map_err(place);
+        let apart = match module.hints() {
+            Err(refusal) => Err(place(refusal)),
+            Ok(None) => Ok(None),
+            Ok(Some(hints)) => hints
+                .hint(function, at)
+                .map_err(|refusal| place_in_payload(module, hints.as_bytes(), refusal)),
+        };
+        assert_eq!(through, apart);
+        let data = module.metadata("branch_hint", function, at).map_err(place);
+        assert_eq!(
+            data.map(|data| data.map(|data| data[0])),
+            apart.map(|hint| hint.map(|hint| hint as u8))
+        );
     }
 }
 
