@@ -22,7 +22,7 @@ The exit status is 0 where there is an answer, even none; 1 for a refusal, or wh
 are not the same; 2 where the program cannot do what it is asked, and says why on standard error.
 
 Each command takes --json, for one JSON value on one line where the status is 0 or 1, and nothing
-on standard output where it is 2. The README.md of this program has the shape of the values.
+on standard output where it is 2. The README.md beside its source has the shape of the values.
 
 Example: wakemiono list app.wasm
 ";

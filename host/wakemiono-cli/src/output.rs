@@ -1,4 +1,6 @@
 //! The file behind `-o`: never the one that is read, and written whole or not at all.
+//!
+//! Files are told apart as unix does, since the library is linked nowhere else.
 
 use std::ffi::OsStr;
 use std::fs::{self, File, Permissions};

@@ -182,4 +182,8 @@ fn a_device_is_written_as_it_is() {
     assert!(failed.said.starts_with(start), "{}", failed.said);
     // Nothing can be promised of what a device has taken.
     assert!(!failed.said.contains("as it was"), "{}", failed.said);
+    // A device may be both ends: nothing in it is lost.
+    let read = run(&["canon", "/dev/null", "-o", "/dev/null"]);
+    read.ends(1, "");
+    assert!(read.said.contains("refused, number 1: "), "{}", read.said);
 }
