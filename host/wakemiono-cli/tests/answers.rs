@@ -4,7 +4,7 @@ mod common;
 
 use std::fs;
 
-use common::{fed, file, hinted, named, path, run, BARE, EVERY_KIND, MODULE};
+use common::{fed, file, hinted, long_named, named, path, run, BARE, EVERY_KIND, MODULE};
 
 #[test]
 fn list_prints_the_listing_of_the_documents() {
@@ -86,9 +86,7 @@ fn many_names_are_listed_in_their_order() {
     let names = (0..500).map(|index| format!("f{index}"));
     let pairs = (0..).map(wakemiono::FunctionIndex).zip(names.clone());
     let payload = wakemiono::function_names(pairs).unwrap();
-    let size = |length: usize| [(length & 0x7F) as u8 | 0x80, (length >> 7) as u8];
-    let module = [BARE, &[0], &size(5 + payload.len()), b"\x04name", &payload].concat();
-    let listed = fed(&["names", "-"], &module);
+    let listed = fed(&["names", "-"], &long_named(&payload));
     assert_eq!(listed.status, 0);
     let last_words = listed
         .out()

@@ -4,11 +4,12 @@
 mod common;
 
 use std::fs::{self, File};
-use std::os::unix::fs::{symlink, MetadataExt, PermissionsExt};
+use std::os::unix::fs::{symlink, FileTypeExt, MetadataExt, PermissionsExt};
 use std::path::{Path, PathBuf};
 use std::process::{Command, Output};
+use std::thread;
 
-use common::{fed, named, path, program, run, MODULE};
+use common::{fed, long_named, named, path, program, run, MODULE};
 
 /// The canonical payload of the documents' module, which is the one that it has.
 const PAYLOAD: &[u8] = MODULE.split_at(15).1;
@@ -172,18 +173,61 @@ fn the_file_of_standard_output_is_written_in_turn() {
     assert_eq!(fs::read(&out).unwrap(), expected);
 }
 
+/// A named pipe, which stands here for everything that is no file. A device of the system would do
+/// too, but a program that took its place, run by an administrator, would take it from everyone.
+fn pipe_in(folder: &Path) -> PathBuf {
+    let pipe = folder.join("pipe");
+    let made = Command::new("mkfifo").arg(&pipe).status().unwrap();
+    assert!(made.success());
+    pipe
+}
+
 #[test]
-#[cfg(target_os = "linux")]
-fn a_device_is_written_as_it_is() {
-    fed(&["canon", "-", "-o", "/dev/null"], MODULE).prints("");
-    let failed = fed(&["canon", "-", "-o", "/dev/full"], MODULE);
+fn a_pipe_is_written_as_it_is() {
+    let folder = folder("output-pipe");
+    let pipe = pipe_in(&folder);
+    let reader = {
+        let pipe = pipe.clone();
+        thread::spawn(move || fs::read(pipe).unwrap())
+    };
+    fed(&["canon", "-", "-o", text(&pipe)], MODULE).prints("");
+    assert_eq!(reader.join().unwrap(), PAYLOAD);
+    assert!(fs::metadata(&pipe).unwrap().file_type().is_fifo());
+    assert_eq!(names_in(&folder), ["pipe"]);
+}
+
+#[test]
+fn nothing_is_promised_of_what_a_pipe_has_taken() {
+    // So that it cannot be written before the reader is gone.
+    const MORE_THAN_A_PIPE_HOLDS: usize = 1 << 20;
+    let pipe = pipe_in(&folder("output-broken-pipe"));
+    let reader = {
+        let pipe = pipe.clone();
+        thread::spawn(move || drop(File::open(pipe).unwrap()))
+    };
+    let name = [(
+        wakemiono::FunctionIndex(0),
+        "x".repeat(MORE_THAN_A_PIPE_HOLDS),
+    )];
+    let module = long_named(&wakemiono::function_names(name).unwrap());
+    let failed = fed(&["canon", "-", "-o", text(&pipe)], &module);
     failed.ends(2, "");
-    let start = "wakemiono: '/dev/full' cannot be written (";
-    assert!(failed.said.starts_with(start), "{}", failed.said);
-    // Nothing can be promised of what a device has taken.
+    reader.join().unwrap();
+    let start = format!("wakemiono: '{}' cannot be written (", text(&pipe));
+    assert!(failed.said.starts_with(&start), "{}", failed.said);
     assert!(!failed.said.contains("as it was"), "{}", failed.said);
-    // A device may be both ends: nothing in it is lost.
-    let read = run(&["canon", "/dev/null", "-o", "/dev/null"]);
+}
+
+#[test]
+fn a_pipe_may_be_both_ends() {
+    let pipe = pipe_in(&folder("output-both"));
+    let writer = {
+        let pipe = pipe.clone();
+        thread::spawn(move || fs::write(pipe, "no module").unwrap())
+    };
+    // Nothing is lost by that, and so it is the module that is judged.
+    let read = run(&["canon", text(&pipe), "-o", text(&pipe)]);
     read.ends(1, "");
     assert!(read.said.contains("refused, number 1: "), "{}", read.said);
+    writer.join().unwrap();
 }

@@ -39,6 +39,20 @@ pub fn named(payload: &[u8]) -> Vec<u8> {
     custom("name", payload)
 }
 
+/// A module with a name section of any length, whose size is padded to the most bytes.
+pub fn long_named(payload: &[u8]) -> Vec<u8> {
+    const SIZE_BYTES: usize = 5;
+    const BITS_IN_A_BYTE: usize = 7;
+    const GOES_ON: u8 = 1 << BITS_IN_A_BYTE;
+    let contents = [b"\x04name", payload].concat();
+    let mut size = [0; SIZE_BYTES];
+    for (place, byte) in size.iter_mut().enumerate() {
+        *byte = (contents.len() >> (BITS_IN_A_BYTE * place)) as u8 | GOES_ON;
+    }
+    size[SIZE_BYTES - 1] &= !GOES_ON;
+    [BARE, &[0], &size, &contents].concat()
+}
+
 /// A module with branch hints.
 pub fn hinted(payload: &[u8]) -> Vec<u8> {
     custom("metadata.code.branch_hint", payload)
