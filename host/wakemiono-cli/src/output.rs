@@ -33,7 +33,8 @@ pub fn check_apart(input: &OsStr, out: &OsStr) -> Result<(), Failure> {
     )))
 }
 
-/// Writes bytes to a file over what is there. Where that fails, the file is as it was.
+/// Writes bytes over what is there. Where that fails, a file is as it was, while a device or a pipe
+/// may have taken some of them.
 pub fn write(out: &OsStr, bytes: &[u8]) -> Result<(), Failure> {
     let path = Path::new(out);
     let target = Target::of(path);
