@@ -30,12 +30,13 @@ use Rattle.reading.specs.Cursors.{Inside, left, partOf}
 use Rattle.reading.specs.declared.Cursor.{Cursor}
 use Rattle.metadata.specs.Judgements.{judged}
 use Rattle.metadata.specs.declared.Judged.the-variants.{Accepted, Refused as NotAccepted}
-use Rattle.metadata.specs.Asking.{heldOf, JudgesFor, refusalIn}
-use Rattle.metadata.specs.declared.Held.{Held}
-use Rattle.metadata.specs.declared.Held.the-variants.{Part as Data}
+use Rattle.tables.specs.Steps.{heldOf}
+use Rattle.metadata.specs.Asking.{JudgesFor, refusalIn}
+use Rattle.tables.specs.declared.Held.{Held}
+use Rattle.tables.specs.declared.Held.the-variants.{Part as Data}
 use Rattle.metadata.specs.declared.Judgement.{Judgement}
 use Rattle.metadata.specs.declared.Judgement.the-variants.{Accepted as Fine, Refused as NotFine}
-use Rattle.metadata.proofs.Held as held-type
+use Rattle.tables.proofs.Held as held-type
 use Rattle.metadata.proofs.Judgement as judgement-type
 use Rattle.metadata.proofs.Tags.{as-nothing, as-fine, as-not-fine}
 

@@ -25,9 +25,10 @@ use Rattle.tables.specs.Seeking.{soughtWithin, Seeks}
 use Rattle.tables.specs.declared.Seek.{Seek}
 use Rattle.tables.specs.declared.Seek.the-variants.{None as NoPart, Found as SeekPart, Refused as NoSeek}
 use Rattle.tables.proofs.Laws.{refused-means, none-means, none-inside, found-means, found-inside, found-part}
-use Rattle.metadata.specs.Asking.{filledWith, heldOf, heldInside, JudgesFor}
-use Rattle.metadata.specs.declared.Held.{Held}
-use Rattle.metadata.specs.declared.Held.the-variants.{Nothing, Part as APart}
+use Rattle.tables.specs.Steps.{heldOf}
+use Rattle.metadata.specs.Asking.{filledWith, heldInside, JudgesFor}
+use Rattle.tables.specs.declared.Held.{Held}
+use Rattle.tables.specs.declared.Held.the-variants.{Nothing, Part as APart}
 use Rattle.metadata.specs.declared.Judgement.{Judgement}
 use Rattle.metadata.specs.declared.Judgement.the-variants.{Accepted, Refused}
 

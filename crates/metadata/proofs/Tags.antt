@@ -5,11 +5,11 @@ use denote.Enum.Declared.{tagOf}
 use Rattle.metadata.specs.declared.Judged.{Judged}
 use Rattle.metadata.specs.declared.Judged.the-variants.{Accepted, Refused}
 use Rattle.metadata.specs.Asking.{refusalIn}
-use Rattle.metadata.specs.declared.Held.{Held}
-use Rattle.metadata.specs.declared.Held.the-variants.{Nothing, Part}
+use Rattle.tables.specs.declared.Held.{Held}
+use Rattle.tables.specs.declared.Held.the-variants.{Nothing, Part}
 use Rattle.metadata.specs.declared.Judgement.{Judgement}
 use Rattle.metadata.specs.declared.Judgement.the-variants.{Accepted as Fine, Refused as NotFine}
-use Rattle.metadata.proofs.Held as held-type
+use Rattle.tables.proofs.Held as held-type
 use Rattle.metadata.proofs.Judged as judged-type
 use Rattle.metadata.proofs.Judgement as judgement-type
 

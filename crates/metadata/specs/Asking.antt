@@ -2,7 +2,7 @@
 use Prim.Native.Nat.{ℕ}
 use mathlib.Core.Bool.{cond}
 use mathlib.Core.List.{List}
-use mathlib.Core.Option.{Option, none, some}
+use mathlib.Core.Option.{Option}
 use mathlib.Core.Path.{_≡_}
 use lib.Dec.{ltb}
 use Rattle.format.specs.Refusals.{numberOf}
@@ -13,10 +13,11 @@ use Rattle.format.specs.declared.CodeOffset.{CodeOffset}
 use Rattle.format.specs.declared.FunctionIndex.{FunctionIndex}
 use Rattle.format.specs.declared.Reason.the-variants.{LeftOver}
 use Rattle.format.specs.declared.Refusal.{Refusal}
-use Rattle.reading.specs.Cursors.{Inside, left, partOf}
+use Rattle.reading.specs.Cursors.{Inside, left}
 use Rattle.reading.specs.declared.Cursor.{Cursor}
-use Rattle.metadata.specs.declared.Held.{Held}
-use Rattle.metadata.specs.declared.Held.the-variants.{Nothing, Part as APart}
+use Rattle.tables.specs.Steps.{heldOf}
+use Rattle.tables.specs.declared.Held.{Held}
+use Rattle.tables.specs.declared.Held.the-variants.{Nothing, Part as APart}
 use Rattle.metadata.specs.declared.Judgement.{Judgement}
 use Rattle.metadata.specs.declared.Judgement.the-variants.{Accepted, Refused}
 
@@ -24,11 +25,7 @@ use Rattle.metadata.specs.declared.Judgement.the-variants.{Accepted, Ref
 abbrev pub filledWith : Held → Cursor → Judgement
 filledWith held next = cond (ltb (next .at) (next .end)) (Refused (record { reason = LeftOver; offset = record { 0 = next .at } })) (Accepted held)
 
--- what is held, as a part of what was lent
-abbrev pub heldOf : List ℕ → Held → Option Part
-heldOf s Nothing = none
-heldOf s (APart d) = some (partOf s d)
-
+-- what is held lies in what was lent
 abbrev pub heldInside : List ℕ → Held → Type 0
 heldInside s Nothing = Unit {0}
 heldInside s (APart d) = Inside s d

@@ -19,6 +19,7 @@ use format::Reason;
 use format::Refusal;
 use reading::Cursor;
 use reading::taking::taken;
+use tables::Held;
 use tables::Item;
 use tables::Seek;
 
@@ -29,12 +30,6 @@ pub enum Judged {
 
 // The data byte of a branch that is likely taken.
 const LIKELY: u8 = 1;
-
-// The part that a payload has where it is asked.
-enum Held {
-    Nothing,
-    Part(Cursor),
-}
 
 // What judging a payload whole comes to: what it has where it is asked, or its refusal.
 enum Judgement {

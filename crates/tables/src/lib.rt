@@ -41,8 +41,8 @@ pub enum Seek {
     Refused(Refusal),
 }
 
-// The part that was found so far, or that one row answers with.
-enum Held {
+// The part that was found so far, or that one row or a whole list answers with.
+pub enum Held {
     Nothing,
     Part(Cursor),
 }
