@@ -190,8 +190,8 @@ demand-2 = record {
   hints = hints-answered;
   walks = walks;
   through-modules = record { names = name-through; hints = λ f o. hint-through (record { 0 = f }) (record { 0 = o }); metadata = λ x n f o. metadata-through x n (record { 0 = f }) (record { 0 = o }); hint-data = λ f o. hint-data-through (record { 0 = f }) (record { 0 = o }) };
-  written-fine = λ is ns text old new a w k. let fine = lists-fine is ns text old new a w k in record { counts = fine .0; adds-up = fine .1; rises = fine .2; texts = fine .3 };
-  fine-answered = λ is ns text old new a w fine. fine-answered is ns text old new a w (fine .counts, fine .adds-up, fine .rises, fine .texts);
+  written-fine = lists-fine;
+  fine-answered = fine-answered;
   lists = λ is ns text old new a l w k. record { is-accepted = lists-accepted is ns text old new a l w k; reads-back = lists-read-back is ns text old new a l w k; is-canonical = lists-rest is ns text old new a l w k };
 }
 

@@ -18,13 +18,12 @@ use Rattle.format.specs.Reading.{accepted}
 use Rattle.format.specs.Text.{utf8}
 use Rattle.format.specs.declared.Reason.the-variants.{SubsectionTooLarge}
 use Rattle.grammar.specs.Grammar.{texts-exact}
-use Rattle.grammar.specs.Texts.{Text}
 use Rattle.lists.specs.Steps.{rowsLength, contentsLength as measuredLength, Joined, Measured, payload}
 use Rattle.lists.proofs.Payloads.{content-long, nothing-listed, payload-filled, filled-long}
 use Rattle.writing.proofs.NumberLaws.{takes-one, takes-two, takes-three, takes-four, takes-five}
 use Rattle.wakemiono.specs.Boundary.{wmFound, WmWrites}
 use Rattle.wakemiono.specs.declared.WmAnswer.{WmAnswer}
-use Rattle.promises.specs.Demands.{bytesFor, entriesLength, contentsLength, payloadLength, FineAnswered}
+use Rattle.promises.specs.Demands.{FineLists, bytesFor, entriesLength, contentsLength, payloadLength, FineAnswered}
 use Rattle.promises.specs.Laws.Outputs.{wrote, wrote-there, wrote-refused, short-there}
 
 -- Rising indices
@@ -73,10 +72,6 @@ to-texts start is [] text l h = refl
 to-texts start [] (n ∷ ns) text l h = absurd (omega (arith, l))
 to-texts start (i ∷ is) (n ∷ ns) text l h = rw (h i (take n text) (firstListed refl)) (to-texts (start + n) is ns (drop n text) (omega (arith, l)) (λ k x m. h k x (laterListed m)))
 
--- as many lengths as indices, which add up to the text; indices that rise; names that are text
-abbrev FineLists : (is ns text : List ℕ) → Type 0
-FineLists is ns text = (length is ≡ length ns) × (sum ns ≡ length text) × Rising is × ((k : ℕ) (x : List ℕ) → Lists k x is ns text → (characters : List ℕ) × Text x characters)
-
 module _ (is ns text old new : List ℕ) (a : WmAnswer) (w : WmWrites (functionNames is ns text) old new a) where
   pub lists-fine : a .kind ≡ 1 → FineLists is ns text
   unfolding functionNames
@@ -84,7 +79,12 @@ module _ (is ns text old new : List ℕ) (a : WmAnswer) (w : WmWrites (functionN
       on-provided (eqb (length is) (length ns) && eqb (sum ns) (length text)) _ _ (wrote (functionNames is ns text) w k .wants) λ c e₁.
       on-unless (unsortedAt 0 0 is) _ _ e₁ λ u e₂. on-unless (badTextAt 0 ns text) _ _ e₂ λ b e₃.
       onBoth (eqb (length is) (length ns)) (eqb (sum ns) (length text)) c λ l s.
-      (eqb-true (length is) (length ns) l, eqb-true (sum ns) (length text) s, rising-of 0 0 is u, λ k x m. texts-exact .valid-exactly x .0 (texts-of 0 b m))
+      record {
+        counts = eqb-true (length is) (length ns) l;
+        adds-up = eqb-true (sum ns) (length text) s;
+        rises = rising-of 0 0 is u;
+        texts = λ k x m. texts-exact .valid-exactly x .0 (texts-of 0 b m);
+      }
 
 -- How long what is written is, as the demands count it
 number-long : (n : ℕ) → length (shortest n) ≡ bytesFor n
@@ -112,16 +112,16 @@ payload-long (i ∷ is) ns text {size} m =
 
 module _ (is ns text old new : List ℕ) (a : WmAnswer) (w : WmWrites (functionNames is ns text) old new a) (fine : FineLists is ns text) where
   joined : Joined is ns text
-  joined = record { same-count = fine .0; add-up = fine .1 }
+  joined = record { same-count = fine .counts; add-up = fine .adds-up }
 
   -- nothing but the size is left to decide
   by-size : functionNames is ns text ≡ provided (ltb (contentsLength is ns) limit32) SubsectionTooLarge (accepted (payload is ns text))
   unfolding functionNames payload
   by-size =
-      let l = eq-eqb (length is) (length ns) (fine .0) in
-      let s = eq-eqb (sum ns) (length text) (fine .1) in
-      let u = to-rising 0 0 is (λ i a e. omega arith) (fine .2) in
-      let b = to-texts 0 is ns text (fine .0) (λ k x m. texts-exact .valid-exactly x .1 (fine .3 k x m)) in
+      let l = eq-eqb (length is) (length ns) (fine .counts) in
+      let s = eq-eqb (sum ns) (length text) (fine .adds-up) in
+      let u = to-rising 0 0 is (λ i a e. omega arith) (fine .rises) in
+      let b = to-texts 0 is ns text (fine .counts) (λ k x m. texts-exact .valid-exactly x .1 (fine .texts k x m)) in
       rw (l, s, u, b, content-long is ns text joined, contents-long is ns)
 
   module _ (small : contentsLength is ns < limit32) where
