@@ -8,7 +8,7 @@ use Rattle.format.specs.Numbers.{shortest}
 use Rattle.format.specs.Options.{thenSome}
 use Rattle.format.specs.Parts.{Part}
 use Rattle.format.specs.Tables.{Table, nil, row, size, mapTable}
-use Rattle.format.specs.Names.{Kind, Content, single, names, namesBy, whole, knownKind, judgeNames}
+use Rattle.format.specs.Names.{Kind, Content, single, names, namesBy, whole, judgeNames}
 use Rattle.format.specs.Metadata.{anyItem, hintItem, judgeMetadata}
 
 -- Each number in its fewest bytes
@@ -63,11 +63,8 @@ writeSubsections (row id c t) = id ∷ (writePart (writeContent c) ++ writeSubse
 unfoldable pub rewriteNames : Table (Content Part) → List ℕ
 rewriteNames t = writeSubsections (keepRows trim (mapTable bare t))
 
-unfoldable pub canonical : (ℕ → Kind) → List ℕ → Judged (List ℕ)
-canonical kindOf bs = mapJudged rewriteNames (judgeNames kindOf 0 bs)
-
-unfoldable pub canonicalNames : List ℕ → Judged (List ℕ)
-canonicalNames bs = canonical knownKind bs
+unfoldable pub canonicalNames : (ℕ → Kind) → List ℕ → Judged (List ℕ)
+canonicalNames kindOf bs = mapJudged rewriteNames (judgeNames kindOf 0 bs)
 
 -- The rewriting of a metadata payload, over any item; with nothing left it is the one byte 00
 abbrev pub bareItems : Table (Table Part) → Table (Table (List ℕ))

@@ -12,9 +12,11 @@ use Rattle.format.specs.Parts.{sized, name, remaining}
 use Rattle.format.specs.Tables.{lookup, size, mapTable, rows, table}
 use Rattle.format.specs.Walk.{Section, preamble, begins, greatestId, isCustom, isCode, isData, rank, custom, isCalled, nameSection, hintSection, nothing, seeing, idRules, nameRules, section, sections, framing, walk, sectionCount, sectionAt, payloadOf, payloadIn, customPayload}
 use Rattle.format.specs.Names.{known, knownKind, contents, subsections, payload, judgeNames}
-use Rattle.format.specs.Questions.{Question, moduleName, tagName, keptContents, answer, asked, idOf, queryOf, askAt, ask}
+use Rattle.format.specs.Questions.{answer, asked, idOf, queryOf, askAt, ask}
+use Rattle.format.specs.declared.Question.{Question}
+use Rattle.format.specs.declared.Question.the-variants.{ModuleName, TagName, KeptContents}
 use Rattle.format.specs.Metadata.{hintOf, anyItem, hintItem, metadata, judgeMetadata, itemAt, askMetadata, hintIn, askHint}
-use Rattle.format.specs.Canonical.{writePart, writeRows, writeTable, unlessEmpty, keepRows, bare, writeContent, writeSubsections, rewriteNames, canonical, canonicalNames, rewriteMetadata, canonicalOf, canonicalMetadata, canonicalHints}
+use Rattle.format.specs.Canonical.{writePart, writeRows, writeTable, unlessEmpty, keepRows, bare, writeContent, writeSubsections, rewriteNames, canonicalNames, rewriteMetadata, canonicalOf, canonicalMetadata, canonicalHints}
 use Rattle.format.specs.Outputs.{fitting, writeAnswer, outputAfter}
 use Rattle.format.specs.Lists.{sum, listed, unsortedAt, badTextAt, subsection, functionNames}
 use Rattle.format.specs.Through.{through, askThrough, metadataSection, itemOf, askMetadataThrough, askHintThrough}
@@ -25,7 +27,7 @@ nameIs : String → Result
 nameIs s = ofOutcome (λ p _. place (some p)) (name 0 (hex s))
 
 tag : ℕ → Question
-tag k = tagName (record { 0 = k })
+tag k = TagName (record { 0 = k })
 
 metadataIs : ℕ → ℕ → String → Result
 metadataIs f at s = of place (askMetadata anyItem (record { 0 = f }) (record { 0 = at }) 0 (hex s))
@@ -38,10 +40,10 @@ hintsCanonicalIs s = of bytes (canonicalHints (hex s))
 
 -- what fits an output of some bytes, and the output afterwards
 canonicalInto : List ℕ → String → List ℕ
-canonicalInto old s = outputAfter (canonicalNames (hex s)) old
+canonicalInto old s = outputAfter (canonicalNames knownKind (hex s)) old
 
 canonicalAnswers : ℕ → String → Result
-canonicalAnswers room s = of (λ n. value n 0) (writeAnswer room (canonicalNames (hex s)))
+canonicalAnswers room s = of (λ n. value n 0) (writeAnswer room (canonicalNames knownKind (hex s)))
 
 writtenIs : List ℕ → List ℕ → String → Result
 writtenIs indices lengths text = of bytes (functionNames indices lengths (hex text))
@@ -88,8 +90,8 @@ payloads =
     answerIs (tag 7) "0B 03 01 07 00" gives found 5 0 ∷
     answerIs (tag 7) "01 03 01 07 00" gives isNone ∷
     -- a known id as kept gets none from an accepted payload, the refusal from a refused one
-    answerIs (keptContents 1) P gives isNone ∷
-    answerIs (keptContents 1) "01 00" gives refusal 2 2 ∷
+    answerIs (KeptContents 1) P gives isNone ∷
+    answerIs (KeptContents 1) "01 00" gives refusal 2 2 ∷
     -- an answer waits for the whole payload's judgement
     answerIs (function 0) "01 07 02 00 01 61 00 01 62" gives refusal 11 6 ∷
     -- an item of size 0 is an item, and stays; a hint's size may be padded; 2 comes before 12
@@ -121,7 +123,7 @@ payloads =
     []
 
 pub payloads-hold : map computed payloads ≡ map stated payloads
-unfolding payloads computed stated nameIs numberIs namesAre answerIs canonicalIs hintIs metadataIs metadataCanonicalIs hintsCanonicalIs canonicalInto canonicalAnswers writtenIs function localIn tag P hex digit ofOutcome of place likelihood number groups shortest fewest utf8 continues following wellFormed sized name remaining lookup size mapTable rows table known knownKind contents subsections payload judgeNames answer asked idOf queryOf askAt ask hintOf anyItem hintItem metadata judgeMetadata itemAt askMetadata hintIn askHint writePart writeRows writeTable unlessEmpty keepRows bare writeContent writeSubsections rewriteNames canonical canonicalNames rewriteMetadata canonicalOf canonicalMetadata canonicalHints fitting writeAnswer outputAfter sum listed unsortedAt badTextAt subsection functionNames
+unfolding payloads computed stated nameIs numberIs namesAre answerIs canonicalIs hintIs metadataIs metadataCanonicalIs hintsCanonicalIs canonicalInto canonicalAnswers writtenIs function localIn tag P hex digit ofOutcome of place likelihood number groups shortest fewest utf8 continues following wellFormed sized name remaining lookup size mapTable rows table known knownKind contents subsections payload judgeNames answer asked askAt ask hintOf anyItem hintItem metadata judgeMetadata itemAt askMetadata hintIn askHint writePart writeRows writeTable unlessEmpty keepRows bare writeContent writeSubsections rewriteNames canonicalNames rewriteMetadata canonicalOf canonicalMetadata canonicalHints fitting writeAnswer outputAfter sum listed unsortedAt badTextAt subsection functionNames
 payloads-hold = refl
 
 -- Modules
@@ -151,7 +153,7 @@ payloadIs : String → List ℕ → Result
 payloadIs called ss = payloadUnder (ascii called) ss
 
 answerThrough : Question → List ℕ → Result
-answerThrough q ss = of place (askThrough q (preamble ++ ss))
+answerThrough q ss = of place (askThrough knownKind q (preamble ++ ss))
 
 metadataThrough : String → ℕ → ℕ → List ℕ → Result
 metadataThrough format f at ss = of place (askMetadataThrough (ascii format) (record { 0 = f }) (record { 0 = at }) (preamble ++ ss))
@@ -200,7 +202,7 @@ modules =
     answerThrough (function 3) (customSection "name" "01 00" ++ ordinary 13 "") gives refusal 5 17 ∷
     answerThrough (function 3) (customSection "name" "01 00") gives refusal 2 17 ∷
     -- only the payload asked is judged; generic metadata called branch_hint is judged by the rules of hints; an empty T
-    answerThrough moduleName (theHints "02" ++ customSection "name" "00 01 00") gives found 47 0 ∷
+    answerThrough ModuleName (theHints "02" ++ customSection "name" "00 01 00") gives found 47 0 ∷
     metadataThrough "branch_hint" 2 5 (theHints "01 02 01 05 01 02") gives refusal 12 40 ∷
     metadataThrough "branch_hint" 2 5 (theHints "01 02 01 05 01 01") gives found 41 1 ∷
     metadataThrough "" 2 5 (customSection "metadata.code." "01 02 01 05 01 02") gives found 30 1 ∷
@@ -212,7 +214,7 @@ modules =
     []
 
 pub modules-hold : map computed modules ≡ map stated modules
-unfolding modules computed stated ordinary customSection theHints walkIs sectionIs payloadUnder payloadIs answerThrough metadataThrough hintThrough function localIn tag P hex digit of place likelihood ascii same number groups shortest fewest utf8 continues following wellFormed sized name remaining lookup rows table preamble begins greatestId isCustom isCode isData rank custom isCalled nameSection hintSection nothing seeing idRules nameRules section sections framing walk sectionCount sectionAt payloadOf payloadIn customPayload known knownKind contents subsections payload judgeNames answer asked idOf queryOf askAt ask hintOf anyItem hintItem metadata judgeMetadata itemAt askMetadata hintIn askHint writePart through askThrough metadataSection itemOf askMetadataThrough askHintThrough
+unfolding modules computed stated ordinary customSection theHints walkIs sectionIs payloadUnder payloadIs answerThrough metadataThrough hintThrough function localIn tag P hex digit of place likelihood ascii same number groups shortest fewest utf8 continues following wellFormed sized name remaining lookup rows table preamble begins greatestId isCustom isCode isData rank custom isCalled nameSection hintSection nothing seeing idRules nameRules section sections framing walk sectionCount sectionAt payloadOf payloadIn customPayload known knownKind contents subsections payload judgeNames answer asked askAt ask hintOf anyItem hintItem metadata judgeMetadata itemAt askMetadata hintIn askHint writePart through askThrough metadataSection itemOf askMetadataThrough askHintThrough
 modules-hold = refl
 
 -- The listing

@@ -11,13 +11,16 @@ use Rattle.format.specs.Reading.{got, Reader, Judged, accepted, refused,
 use Rattle.format.specs.Numbers.{number, shortest, limit32}
 use Rattle.format.specs.Parts.{Part}
 use Rattle.format.specs.Tables.{mapTable}
-use Rattle.format.specs.Names.{Kind, knownKind, judgeNames}
-use Rattle.format.specs.Questions.{Query, answer, Allowed, asked, Question, functionName, idOf, queryOf, InRange, askAt, ask, asTold}
+use Rattle.format.specs.Names.{Kind, nameMap, knownKind, judgeNames}
+use Rattle.format.specs.Questions.{answer, Allowed, asked, idOf, queryOf, InRange, askAt, ask, asTold}
+use Rattle.format.specs.declared.Question.{Question}
+use Rattle.format.specs.declared.Question.the-variants.{FunctionName}
+use Rattle.format.specs.declared.Query.{Query}
 use Rattle.format.specs.Holding.{HasWithin, Holds, Lists, Covers}
 use Rattle.format.specs.Walk.{preamble, Section, walk, nameSection, hintSection, customPayload}
 use Rattle.format.specs.Metadata.{dataOf, anyItem, hintItem, judgeMetadata, itemAt, askMetadata, hintIn, askHint}
 use Rattle.format.specs.Through.{through, askThrough, metadataSection, itemOf, askMetadataThrough, askHintThrough}
-use Rattle.format.specs.Canonical.{bare, bareItems, rewriteNames, canonical, canonicalNames, rewriteMetadata, canonicalOf, canonicalMetadata, canonicalHints, writePart}
+use Rattle.format.specs.Canonical.{bare, bareItems, rewriteNames, canonicalNames, rewriteMetadata, canonicalOf, canonicalMetadata, canonicalHints, writePart}
 use Rattle.format.specs.Lists.{Indices, functionNames}
 use Rattle.format.specs.Laws.Outcomes.{accepted-exactly, refused-exactly}
 use Rattle.format.specs.Laws.Codecs.{Codec, number-sound, number-back, any-codec, hint-codec}
@@ -27,8 +30,8 @@ use Rattle.format.specs.Laws.Places.{PartIn, Located, any-located, hint-
 use Rattle.format.specs.Laws.Found.{name-lies, item-lies, name-lies-through, item-lies-through, through-map}
 use Rattle.format.specs.Laws.Holding.{none-exactly, within-exactly, answer-exactly}
 use Rattle.format.specs.Laws.Answers.{told-none}
-use Rattle.format.specs.Laws.Questions.{question-allowed, allowed-posed, posed-told}
-use Rattle.format.specs.Laws.CanonicalNames.{told-is, canonical-is, canonical-accepted, canonical-stays, rewriting-canonical, rewriting-told, rewriting-shorter, same-rewriting}
+use Rattle.format.specs.Laws.Questions.{AllPosed, allowed-posed, posed-told}
+use Rattle.format.specs.Laws.CanonicalNames.{told-is, canonical-is, canonical-accepted, canonical-stays, rewriting-canonical, rewriting-told, rewriting-shorter, same-answers, same-rewriting}
 use Rattle.format.specs.Laws.CanonicalMetadata.{items-whole, item-told, items-canonical-is, items-accepted, items-told, items-again, items-shorter, same-items}
 use Rattle.format.specs.Laws.Hints.{hint-exactly, no-hint-exactly, same-hints, hints-told}
 use Rattle.format.specs.Laws.Lists.{written, listed-told, other-told, lists-stay}
@@ -90,11 +93,11 @@ module _ {Q : Type 0} (section : Q → List ℕ) (question : Q → ℕ → List 
     pub then-asked : (q : Q) (m : List ℕ) {p : Part} → customPayload (section q) m ≡ accepted (some p) → answer q m ≡ question q (p .at) (p .bytes)
 
 -- Demand 2 for lists. "The payload written is canonical: each listed index then gives its own text, every other question gets none."
-module _ (is ns text bs : List ℕ) where
+module _ (kindOf : ℕ → Kind) (is ns text bs : List ℕ) where
   pub record WritesLists : Type 0 where
-    pub is-canonical : canonicalNames bs ≡ accepted bs
-    pub own-text : (k : FunctionIndex) (x : List ℕ) → Lists (k .0) x is ns text → asTold (ask (functionName k) bs) ≡ accepted (some x)
-    pub others-none : (q : Question) → ((k : FunctionIndex) (x : List ℕ) → q ≡ functionName k → Lists (k .0) x is ns text → ⊥) → asTold (ask q bs) ≡ accepted none
+    pub is-canonical : canonicalNames kindOf bs ≡ accepted bs
+    pub own-text : (k : FunctionIndex) (x : List ℕ) → Lists (k .0) x is ns text → asTold (ask kindOf (FunctionName k) bs) ≡ accepted (some x)
+    pub others-none : (q : Question) → ((k : FunctionIndex) (x : List ℕ) → q ≡ FunctionName k → Lists (k .0) x is ns text → ⊥) → asTold (ask kindOf q bs) ≡ accepted none
 
 -- THE PROOFS
 
@@ -125,7 +128,7 @@ module _ (kindOf : ℕ → Kind) where
     refuses = λ q p n at. refused-exactly (answer (q .0) (q .1)) (judgeNames kindOf 0 p);
   }
 
-  pub names-rewritten : Rewrites {Q = ℕ × Query} (judgeNames kindOf 0) (canonical kindOf) (λ q p. asTold (asked kindOf (q .0) (q .1) 0 p)) (λ q. Allowed kindOf (q .0) (q .1))
+  pub names-rewritten : Rewrites {Q = ℕ × Query} (judgeNames kindOf 0) (canonicalNames kindOf) (λ q p. asTold (asked kindOf (q .0) (q .1) 0 p)) (λ q. Allowed kindOf (q .0) (q .1))
   names-rewritten = record {
     same-exactly = λ bx by a b. let h = same-rewriting kindOf bx by a b in (λ e q l. h .0 e (q .0) (q .1) l, λ k. h .1 (λ id q l. k (id, q) l));
     accepts = λ a. (rewriteNames (a .value), canonical-is kindOf a);
@@ -139,31 +142,38 @@ module _ (kindOf : ℕ → Kind) where
         });
   }
 
--- Names, as the document's questions ask for them
-pub document-names-answered : Answers (judgeNames knownKind 0) ask (λ t q x. Holds (idOf q) (queryOf q) (mapTable bare t) x)
-unfolding ask askAt
-document-names-answered = let any = names-answered knownKind in record {
-  very-bytes = λ q p e. any .very-bytes (idOf q, queryOf q) p e;
-  found = λ a q x. any .found a (idOf q, queryOf q) x;
-  none-found = λ a q. any .none-found a (idOf q, queryOf q);
-  refuses = λ q p n at. any .refuses (idOf q, queryOf q) p n at;
-}
+  -- as the document's questions ask for them
+  pub questions-answered : Answers (judgeNames kindOf 0) (ask kindOf) (λ t q x. Holds (idOf q) (queryOf q) (mapTable bare t) x)
+  unfolding ask askAt
+  questions-answered = record {
+    very-bytes = λ q p e. names-answered .very-bytes (idOf q, queryOf q) p e;
+    found = λ a q x. names-answered .found a (idOf q, queryOf q) x;
+    none-found = λ a q. names-answered .none-found a (idOf q, queryOf q);
+    refuses = λ q p n at. names-answered .refuses (idOf q, queryOf q) p n at;
+  }
 
-pub document-names-rewritten : Rewrites (judgeNames knownKind 0) canonicalNames (λ q p. asTold (ask q p)) InRange
-unfolding ask askAt canonicalNames
-document-names-rewritten = let any = names-rewritten knownKind in record {
-  same-exactly = λ {x} {y} bx by a b. let h = any .same-exactly bx by a b in (
-    λ e q l. h .0 e (idOf q, queryOf q) (question-allowed q l),
-    λ k. h .1 (λ q l. posed-told (allowed-posed l) x y k),
-  );
-  accepts = λ a. any .accepts a;
-  rewritten = λ a x e. let r = any .rewritten a x e in record {
-    is-accepted = r .is-accepted;
-    answers-alike = λ q. r .answers-alike (idOf q, queryOf q);
-    never-longer = r .never-longer;
-    comes-to-rest = r .comes-to-rest;
-  };
-}
+  pub questions-rewritten : AllPosed kindOf → Rewrites (judgeNames kindOf 0) (canonicalNames kindOf) (λ q p. asTold (ask kindOf q p)) InRange
+  unfolding ask askAt
+  questions-rewritten posed = record {
+    same-exactly = λ {x} {y} bx by a b. (
+      λ e q l. same-answers kindOf a b e (idOf q) (queryOf q),
+      λ k. names-rewritten .same-exactly bx by a b .1 (λ q l. posed-told kindOf (posed (q .0) (q .1) l) x y k),
+    );
+    accepts = λ a. names-rewritten .accepts a;
+    rewritten = λ a x e. let r = names-rewritten .rewritten a x e in record {
+      is-accepted = r .is-accepted;
+      answers-alike = λ q. r .answers-alike (idOf q, queryOf q);
+      never-longer = r .never-longer;
+      comes-to-rest = r .comes-to-rest;
+    };
+  }
+
+-- the document's own table
+pub known-answered : Answers (judgeNames knownKind 0) (ask knownKind) (λ t q x. Holds (idOf q) (queryOf q) (mapTable bare t) x)
+known-answered = questions-answered knownKind
+
+pub known-rewritten : Rewrites (judgeNames knownKind 0) (canonicalNames knownKind) (λ q p. asTold (ask knownKind q p)) InRange
+known-rewritten = questions-rewritten knownKind allowed-posed
 
 -- Code metadata, over any item; what is asked is a function and an offset
 abbrev pub ItemQuestion : Type 0
@@ -241,10 +251,10 @@ hints-rewritten = let any = metadata-rewritten hint-codec in record {
 }
 
 -- Through a module; for metadata what is asked is a format, a function and an offset
-pub names-through : AnswersThrough (λ _. nameSection) askAt askThrough
+pub names-through : (kindOf : ℕ → Kind) → AnswersThrough (λ _. nameSection) (askAt kindOf) (askThrough kindOf)
 unfolding askThrough through customPayload
-names-through = record {
-  very-bytes = λ q m e. very (name-lies-through q m e);
+names-through kindOf = record {
+  very-bytes = λ q m e. very (name-lies-through kindOf q m e);
   without = λ q m e. rw e;
   walk-first = λ q m e. rw e;
   then-asked = λ q m e. rw e;
@@ -265,5 +275,5 @@ unfolding askHintThrough askMetadataThrough metadataSection itemOf hintSection a
 hints-through f at m = through-map hintSection hintIn (askMetadata hintItem f at) m refl
 
 -- Lists
-pub lists-written : (is ns text bs : List ℕ) → Indices is → functionNames is ns text ≡ accepted bs → WritesLists is ns text bs
-lists-written is ns text bs h e = let w = written is ns text h e in record { is-canonical = lists-stay w; own-text = listed-told w; others-none = other-told w }
+pub lists-written : (kindOf : ℕ → Kind) → kindOf 1 ≡ nameMap → (is ns text bs : List ℕ) → Indices is → functionNames is ns text ≡ accepted bs → WritesLists kindOf is ns text bs
+lists-written kindOf one is ns text bs h e = let w = written is ns text h e in record { is-canonical = lists-stay kindOf one w; own-text = listed-told kindOf one w; others-none = other-told kindOf one w }

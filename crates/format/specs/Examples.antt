@@ -14,9 +14,11 @@ use Rattle.format.specs.Text.{utf8, continues, following, wellFormed}
 use Rattle.format.specs.Parts.{Part, sized, name, remaining}
 use Rattle.format.specs.Tables.{lookup, size, mapTable, rows, table}
 use Rattle.format.specs.Names.{known, knownKind, contents, subsections, payload, judgeNames}
-use Rattle.format.specs.Questions.{Question, moduleName, functionName, localName, keptContents, answer, asked, idOf, queryOf, askAt, ask}
+use Rattle.format.specs.Questions.{answer, asked, idOf, queryOf, askAt, ask}
+use Rattle.format.specs.declared.Question.{Question}
+use Rattle.format.specs.declared.Question.the-variants.{ModuleName, FunctionName, LocalName, KeptContents}
 use Rattle.format.specs.Metadata.{hintOf, hintItem, metadata, judgeMetadata, itemAt, askMetadata, hintIn, askHint}
-use Rattle.format.specs.Canonical.{writePart, writeRows, writeTable, unlessEmpty, keepRows, bare, writeContent, writeSubsections, rewriteNames, canonical, canonicalNames}
+use Rattle.format.specs.Canonical.{writePart, writeRows, writeTable, unlessEmpty, keepRows, bare, writeContent, writeSubsections, rewriteNames, canonicalNames}
 use Rattle.format.specs.declared.Hint.{Hint}
 use Rattle.format.specs.declared.Hint.the-variants.{Unlikely, Likely}
 
@@ -63,19 +65,19 @@ unfoldable pub namesAre : String → Result
 namesAre s = of (λ _. isAccepted) (judgeNames knownKind 0 (hex s))
 
 unfoldable pub answerIs : Question → String → Result
-answerIs q s = of place (ask q (hex s))
+answerIs q s = of place (ask knownKind q (hex s))
 
 unfoldable pub canonicalIs : String → Result
-canonicalIs s = of bytes (canonicalNames (hex s))
+canonicalIs s = of bytes (canonicalNames knownKind (hex s))
 
 unfoldable pub hintIs : ℕ → ℕ → String → Result
 hintIs f at s = of likelihood (askHint (record { 0 = f }) (record { 0 = at }) 0 (hex s))
 
 unfoldable pub function : ℕ → Question
-function k = functionName (record { 0 = k })
+function k = FunctionName (record { 0 = k })
 
 unfoldable pub localIn : ℕ → ℕ → Question
-localIn k j = localName (record { 0 = k }) (record { 0 = j })
+localIn k j = LocalName (record { 0 = k }) (record { 0 = j })
 
 unfoldable pub P : String
 P = "00 02 01 6D 01 07 02 00 01 61 03 01 62 02 06 01 03 01 00 01 78"
@@ -111,11 +113,11 @@ sixteen =
     namesAre "" gives isAccepted ∷
     canonicalIs "" gives bytes [] ∷
     -- E10
-    answerIs moduleName "00 01 00" gives found 3 0 ∷
+    answerIs ModuleName "00 01 00" gives found 3 0 ∷
     canonicalIs "00 01 00" gives bytes (hex "00 01 00") ∷
     -- E11
     namesAre "03 01 FF" gives isAccepted ∷
-    answerIs (keptContents 3) "03 01 FF" gives found 2 1 ∷
+    answerIs (KeptContents 3) "03 01 FF" gives found 2 1 ∷
     canonicalIs "03 01 FF" gives bytes (hex "03 01 FF") ∷
     -- E12 to E14
     namesAre "01 07 02 03 01 62 03 01 61" gives refusal 11 6 ∷
@@ -128,5 +130,5 @@ sixteen =
     []
 
 pub sixteen-hold : map computed sixteen ≡ map stated sixteen
-unfolding sixteen computed stated numberIs namesAre answerIs canonicalIs hintIs function localIn P hex digit ofOutcome of place likelihood number groups shortest fewest utf8 continues following wellFormed sized name remaining lookup size mapTable rows table known knownKind contents subsections payload judgeNames answer asked idOf queryOf askAt ask hintOf hintItem metadata judgeMetadata itemAt askMetadata hintIn askHint writePart writeRows writeTable unlessEmpty keepRows bare writeContent writeSubsections rewriteNames canonical canonicalNames
+unfolding sixteen computed stated numberIs namesAre answerIs canonicalIs hintIs function localIn P hex digit ofOutcome of place likelihood number groups shortest fewest utf8 continues following wellFormed sized name remaining lookup size mapTable rows table known knownKind contents subsections payload judgeNames answer asked askAt ask hintOf hintItem metadata judgeMetadata itemAt askMetadata hintIn askHint writePart writeRows writeTable unlessEmpty keepRows bare writeContent writeSubsections rewriteNames canonicalNames
 sixteen-hold = refl

@@ -8,7 +8,8 @@ use Rattle.format.specs.Numbers.{number}
 use Rattle.format.specs.Tables.{Table, row}
 use Rattle.format.specs.Walk.{Section}
 use Rattle.format.specs.Names.{Content, single, names, namesBy, whole}
-use Rattle.format.specs.Questions.{Query, itsName, itsContents, nameOf, nameWithin}
+use Rattle.format.specs.declared.Query.{Query}
+use Rattle.format.specs.declared.Query.the-variants.{ItsName, ItsContents, NameOf, NameWithin}
 
 -- a table has a value under a number
 pub data Has {A : Type 0} (k : ℕ) (v : A) : Table A → Type 0 where
@@ -23,10 +24,10 @@ pub record HasWithin {A : Type 0} (k j : ℕ) (v : A) (t : Table (Table A)) : Ty
 
 -- the subsection with an id holds what is asked
 pub data Holds {X : Type 0} : ℕ → Query → Table (Content X) → X → Type 0 where
-  theName : {id : ℕ} {t : Table (Content X)} {x : X} → Has id (single x) t → Holds id itsName t x
-  theEntry : {id k : ℕ} {t : Table (Content X)} {m : Table X} {x : X} → Has id (names m) t → Has k x m → Holds id (nameOf k) t x
-  theInner : {id k j : ℕ} {t : Table (Content X)} {m : Table (Table X)} {x : X} → Has id (namesBy m) t → HasWithin k j x m → Holds id (nameWithin k j) t x
-  theContents : {id : ℕ} {t : Table (Content X)} {x : X} → Has id (whole x) t → Holds id itsContents t x
+  theName : {id : ℕ} {t : Table (Content X)} {x : X} → Has id (single x) t → Holds id ItsName t x
+  theEntry : {id k : ℕ} {t : Table (Content X)} {m : Table X} {x : X} → Has id (names m) t → Has k x m → Holds id (NameOf k) t x
+  theInner : {id k j : ℕ} {t : Table (Content X)} {m : Table (Table X)} {x : X} → Has id (namesBy m) t → HasWithin k j x m → Holds id (NameWithin k j) t x
+  theContents : {id : ℕ} {t : Table (Content X)} {x : X} → Has id (whole x) t → Holds id ItsContents t x
 
 -- three lists give an index a text: its own stretch of the joined text
 pub data Lists (k : ℕ) (x : List ℕ) : (indices lengths text : List ℕ) → Type 0 where

@@ -9,40 +9,34 @@ use Rattle.format.specs.Numbers.{limit32}
 use Rattle.format.specs.Options.{thenSome, mapSome}
 use Rattle.format.specs.Parts.{Part, placeOf}
 use Rattle.format.specs.Tables.{Table, lookup}
-use Rattle.format.specs.Names.{Kind, oneName, nameMap, indirectMap, Content, single, names, namesBy, whole, knownKind, judgeNames}
+use Rattle.format.specs.Names.{Kind, oneName, nameMap, indirectMap, Content, single, names, namesBy, whole, judgeNames}
 use Rattle.format.specs.declared.Answer.{Answer}
 use Rattle.format.specs.declared.Answer.the-variants.{None, Found, Refused}
 use Rattle.format.specs.declared.Place.{Place}
-use Rattle.format.specs.declared.FunctionIndex.{FunctionIndex}
-use Rattle.format.specs.declared.LocalIndex.{LocalIndex}
-use Rattle.format.specs.declared.TypeIndex.{TypeIndex}
-use Rattle.format.specs.declared.FieldIndex.{FieldIndex}
-use Rattle.format.specs.declared.TagIndex.{TagIndex}
+use Rattle.format.specs.declared.Question.{Question}
+use Rattle.format.specs.declared.Question.the-variants.{ModuleName, FunctionName, LocalName, TypeName, FieldName, TagName, KeptContents}
+use Rattle.format.specs.declared.Query.{Query}
+use Rattle.format.specs.declared.Query.the-variants.{ItsName, NameOf, NameWithin, ItsContents}
 
--- What can be asked of one subsection: its name, the name with an index, the name with an index within another, its contents if kept
-pub data Query : Type 0 where
-  itsName itsContents : Query
-  nameOf : ℕ → Query
-  nameWithin : ℕ → ℕ → Query
-
+-- What a subsection's contents answer to what can be asked of it
 module _ {X : Type 0} where
   abbrev pub answerIn : Query → Content X → Option X
-  answerIn itsName (single x) = some x
-  answerIn itsName (names t) = none
-  answerIn itsName (namesBy t) = none
-  answerIn itsName (whole x) = none
-  answerIn (nameOf k) (single x) = none
-  answerIn (nameOf k) (names t) = lookup k t
-  answerIn (nameOf k) (namesBy t) = none
-  answerIn (nameOf k) (whole x) = none
-  answerIn (nameWithin k j) (single x) = none
-  answerIn (nameWithin k j) (names t) = none
-  answerIn (nameWithin k j) (namesBy t) = thenSome (lookup k t) (lookup j)
-  answerIn (nameWithin k j) (whole x) = none
-  answerIn itsContents (single x) = none
-  answerIn itsContents (names t) = none
-  answerIn itsContents (namesBy t) = none
-  answerIn itsContents (whole x) = some x
+  answerIn ItsName (single x) = some x
+  answerIn ItsName (names t) = none
+  answerIn ItsName (namesBy t) = none
+  answerIn ItsName (whole x) = none
+  answerIn (NameOf k) (single x) = none
+  answerIn (NameOf k) (names t) = lookup k t
+  answerIn (NameOf k) (namesBy t) = none
+  answerIn (NameOf k) (whole x) = none
+  answerIn (NameWithin k j) (single x) = none
+  answerIn (NameWithin k j) (names t) = none
+  answerIn (NameWithin k j) (namesBy t) = thenSome (lookup k t) (lookup j)
+  answerIn (NameWithin k j) (whole x) = none
+  answerIn ItsContents (single x) = none
+  answerIn ItsContents (names t) = none
+  answerIn ItsContents (namesBy t) = none
+  answerIn ItsContents (whole x) = some x
 
   -- asked of the subsection with an id
   unfoldable pub answer : ℕ → Query → Table (Content X) → Option X
@@ -50,59 +44,50 @@ module _ {X : Type 0} where
 
 -- What may be asked over a table of ids: of an id what its kind holds, and of any id its contents as kept. An index has 32 bits, and an id is a byte
 pub data Allowed (kindOf : ℕ → Kind) : ℕ → Query → Type 0 where
-  anId : {id : ℕ} → kindOf id ≡ oneName → Allowed kindOf id itsName
-  anIndex : {id k : ℕ} → kindOf id ≡ nameMap → k < limit32 → Allowed kindOf id (nameOf k)
-  twoIndices : {id k j : ℕ} → kindOf id ≡ indirectMap → k < limit32 → j < limit32 → Allowed kindOf id (nameWithin k j)
-  anyId : {id : ℕ} → id < 256 → Allowed kindOf id itsContents
+  anId : {id : ℕ} → kindOf id ≡ oneName → Allowed kindOf id ItsName
+  anIndex : {id k : ℕ} → kindOf id ≡ nameMap → k < limit32 → Allowed kindOf id (NameOf k)
+  twoIndices : {id k j : ℕ} → kindOf id ≡ indirectMap → k < limit32 → j < limit32 → Allowed kindOf id (NameWithin k j)
+  anyId : {id : ℕ} → id < 256 → Allowed kindOf id ItsContents
 
 -- asked of a payload that begins at an offset
 unfoldable pub asked : (ℕ → Kind) → ℕ → Query → ℕ → List ℕ → Judged (Option Part)
 asked kindOf id q at bs = mapJudged (answer id q) (judgeNames kindOf at bs)
 
--- The questions, each index in a space of its own
-pub data Question : Type 0 where
-  moduleName : Question
-  functionName : FunctionIndex → Question
-  typeName : TypeIndex → Question
-  tagName : TagIndex → Question
-  localName : FunctionIndex → LocalIndex → Question
-  fieldName : TypeIndex → FieldIndex → Question
-  keptContents : ℕ → Question
+-- The document's questions: of which subsection each asks, and what
+abbrev pub idOf : Question → ℕ
+idOf ModuleName = 0
+idOf (FunctionName k) = 1
+idOf (LocalName k j) = 2
+idOf (TypeName k) = 4
+idOf (FieldName k j) = 10
+idOf (TagName k) = 11
+idOf (KeptContents id) = id
 
-unfoldable pub idOf : Question → ℕ
-idOf moduleName = 0
-idOf (functionName k) = 1
-idOf (localName k j) = 2
-idOf (typeName k) = 4
-idOf (fieldName k j) = 10
-idOf (tagName k) = 11
-idOf (keptContents id) = id
-
-unfoldable pub queryOf : Question → Query
-queryOf moduleName = itsName
-queryOf (functionName k) = nameOf (k .0)
-queryOf (localName k j) = nameWithin (k .0) (j .0)
-queryOf (typeName k) = nameOf (k .0)
-queryOf (fieldName k j) = nameWithin (k .0) (j .0)
-queryOf (tagName k) = nameOf (k .0)
-queryOf (keptContents id) = itsContents
+abbrev pub queryOf : Question → Query
+queryOf ModuleName = ItsName
+queryOf (FunctionName k) = NameOf (k .0)
+queryOf (LocalName k j) = NameWithin (k .0) (j .0)
+queryOf (TypeName k) = NameOf (k .0)
+queryOf (FieldName k j) = NameWithin (k .0) (j .0)
+queryOf (TagName k) = NameOf (k .0)
+queryOf (KeptContents id) = ItsContents
 
 -- an index has 32 bits, an id is a byte
 unfoldable pub InRange : Question → Type 0
-InRange moduleName = Unit {0}
-InRange (functionName k) = k .0 < limit32
-InRange (localName k j) = (k .0 < limit32) × (j .0 < limit32)
-InRange (typeName k) = k .0 < limit32
-InRange (fieldName k j) = (k .0 < limit32) × (j .0 < limit32)
-InRange (tagName k) = k .0 < limit32
-InRange (keptContents id) = id < 256
+InRange ModuleName = Unit {0}
+InRange (FunctionName k) = k .0 < limit32
+InRange (LocalName k j) = (k .0 < limit32) × (j .0 < limit32)
+InRange (TypeName k) = k .0 < limit32
+InRange (FieldName k j) = (k .0 < limit32) × (j .0 < limit32)
+InRange (TagName k) = k .0 < limit32
+InRange (KeptContents id) = id < 256
 
--- asked of a payload that begins at an offset of what was lent
-unfoldable pub askAt : Question → ℕ → List ℕ → Judged (Option Part)
-askAt q at bs = asked knownKind (idOf q) (queryOf q) at bs
+-- asked over a table of ids, of a payload that begins at an offset of what was lent
+unfoldable pub askAt : (ℕ → Kind) → Question → ℕ → List ℕ → Judged (Option Part)
+askAt kindOf q at bs = asked kindOf (idOf q) (queryOf q) at bs
 
-unfoldable pub ask : Question → List ℕ → Judged (Option Part)
-ask q bs = askAt q 0 bs
+unfoldable pub ask : (ℕ → Kind) → Question → List ℕ → Judged (Option Part)
+ask kindOf q bs = askAt kindOf q 0 bs
 
 -- The answer as a place; as bytes, which are no bytes for none and for a refusal; and without its offset, as answers are compared
 unfoldable pub asPlace : Judged (Option Part) → Judged (Option Place)

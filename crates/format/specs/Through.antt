@@ -7,7 +7,9 @@ use Rattle.format.specs.Bytes.{ascii, same}
 use Rattle.format.specs.Reading.{Reader, Judged, accepted, judgedThen}
 use Rattle.format.specs.Parts.{Part}
 use Rattle.format.specs.Walk.{nameSection, hintSection, customPayload}
-use Rattle.format.specs.Questions.{Question, askAt}
+use Rattle.format.specs.Names.{Kind}
+use Rattle.format.specs.Questions.{askAt}
+use Rattle.format.specs.declared.Question.{Question}
 use Rattle.format.specs.Metadata.{anyItem, hintItem, askMetadata, askHint}
 use Rattle.format.specs.declared.FunctionIndex.{FunctionIndex}
 use Rattle.format.specs.declared.CodeOffset.{CodeOffset}
@@ -21,8 +23,8 @@ orNone (some p) question = question (p .at) (p .bytes)
 unfoldable pub through : {A : Type 0} → List ℕ → (ℕ → List ℕ → Judged (Option A)) → List ℕ → Judged (Option A)
 through x question m = judgedThen (customPayload x m) (λ found. orNone found question)
 
-unfoldable pub askThrough : Question → List ℕ → Judged (Option Part)
-askThrough q m = through nameSection (askAt q) m
+unfoldable pub askThrough : (ℕ → Kind) → Question → List ℕ → Judged (Option Part)
+askThrough kindOf q m = through nameSection (askAt kindOf q) m
 
 -- metadata.code.T, where T = branch_hint is read by the rules of hints
 unfoldable pub metadataSection : List ℕ → List ℕ

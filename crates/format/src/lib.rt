@@ -1,5 +1,6 @@
 // The types that every crate shares. What they mean is written in specs/.
 ghost use mathlib.Core.Path.{_≡_};
+ghost use Rattle.format.specs.Questions.{idOf, queryOf};
 ghost use Rattle.format.specs.Refusals.{numberOf};
 
 // A byte offset, counted from the start of what was lent.
@@ -18,6 +19,39 @@ pub struct TagIndex(pub u32);
 
 // Where in a function a piece of code metadata belongs: a byte offset within that function.
 pub struct CodeOffset(pub u32);
+
+// The questions to a name payload, each index in a space of its own.
+pub enum Question {
+    ModuleName,
+    FunctionName(FunctionIndex),
+    LocalName(FunctionIndex, LocalIndex),
+    TypeName(TypeIndex),
+    FieldName(TypeIndex, FieldIndex),
+    TagName(TagIndex),
+    KeptContents(u8),
+}
+
+// What can be asked of one subsection: its name, the name with an index, the name with an index within another, its
+// contents if kept.
+pub enum Query {
+    ItsName,
+    NameOf(u32),
+    NameWithin(u32, u32),
+    ItsContents,
+}
+
+// The ids of the name payload's subsections that have a meaning.
+pub const MODULE_NAME: u8 = 0;
+
+pub const FUNCTION_NAMES: u8 = 1;
+
+pub const LOCAL_NAMES: u8 = 2;
+
+pub const TYPE_NAMES: u8 = 4;
+
+pub const FIELD_NAMES: u8 = 10;
+
+pub const TAG_NAMES: u8 = 11;
 
 // Why an input is refused, in the order of the numbers 1 to 16.
 pub enum Reason {
@@ -97,6 +131,38 @@ impl Reason {
             Reason::ListsDisagree => 14,
             Reason::SubsectionTooLarge => 15,
             Reason::InputTooLarge => 16,
+        }
+    }
+}
+
+impl Question {
+    // The id of the subsection that is asked.
+    pub fn id(self) -> u8
+        ensures { λ r. ⌜ r ≡ idOf self ⌝ }
+    {
+        match self {
+            Question::ModuleName => MODULE_NAME,
+            Question::FunctionName(_) => FUNCTION_NAMES,
+            Question::LocalName(_, _) => LOCAL_NAMES,
+            Question::TypeName(_) => TYPE_NAMES,
+            Question::FieldName(_, _) => FIELD_NAMES,
+            Question::TagName(_) => TAG_NAMES,
+            Question::KeptContents(id) => id,
+        }
+    }
+
+    // What is asked of it.
+    pub fn query(self) -> Query
+        ensures { λ r. ⌜ r ≡ queryOf self ⌝ }
+    {
+        match self {
+            Question::ModuleName => Query::ItsName,
+            Question::FunctionName(f) => Query::NameOf(f.0),
+            Question::LocalName(f, k) => Query::NameWithin(f.0, k.0),
+            Question::TypeName(t) => Query::NameOf(t.0),
+            Question::FieldName(t, k) => Query::NameWithin(t.0, k.0),
+            Question::TagName(t) => Query::NameOf(t.0),
+            Question::KeptContents(_) => Query::ItsContents,
         }
     }
 }

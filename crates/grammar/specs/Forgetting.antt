@@ -5,14 +5,14 @@ use Rattle.format.specs.Options.{mapSome}
 use Rattle.format.specs.Reading.{Reader, Judged, mapJudged}
 use Rattle.format.specs.Parts.{Part}
 use Rattle.format.specs.Tables.{Table, mapTable}
-use Rattle.format.specs.Names.{Content, knownKind, judgeNames}
+use Rattle.format.specs.Names.{Kind, Content, judgeNames}
 use Rattle.format.specs.Metadata.{judgeMetadata}
 use Rattle.format.specs.Canonical.{bare, bareItems}
 use Rattle.format.specs.Walk.{Custom, Section, walk}
 use Rattle.grammar.specs.Modules.{Custom as BareCustom, Section as BareSection}
 
-abbrev pub namesRead : ℕ → List ℕ → Judged (Table (Content (List ℕ)))
-namesRead at p = mapJudged (mapTable bare) (judgeNames knownKind at p)
+abbrev pub namesRead : (ℕ → Kind) → ℕ → List ℕ → Judged (Table (Content (List ℕ)))
+namesRead kindOf at p = mapJudged (mapTable bare) (judgeNames kindOf at p)
 
 abbrev pub metadataRead : Reader Part → ℕ → List ℕ → Judged (Table (Table (List ℕ)))
 metadataRead item at p = mapJudged bareItems (judgeMetadata item at p)

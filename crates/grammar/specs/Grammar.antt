@@ -8,11 +8,12 @@ use lib.ListN.{length}
 use Rattle.format.specs.Bytes.{Bytes}
 use Rattle.format.specs.Reading.{got, Judged, accepted, refused, mapJudged}
 use Rattle.format.specs.Numbers.{number}
+use Rattle.format.specs.Names.{Kind, knownKind}
 use Rattle.format.specs.Text.{utf8}
 use Rattle.format.specs.Metadata.{anyItem, hintItem}
 use Rattle.grammar.specs.Numbers.{Grammar, U32}
 use Rattle.grammar.specs.Texts.{Text}
-use Rattle.grammar.specs.Names.{NamePayload}
+use Rattle.grammar.specs.Names.{SourceIds, NamePayload}
 use Rattle.grammar.specs.Metadata.{CodeMetadata, Unknown, BranchHint}
 use Rattle.grammar.specs.Modules.{Module}
 use Rattle.grammar.specs.Forgetting.{namesRead, metadataRead, sectionsRead}
@@ -21,7 +22,7 @@ use Rattle.grammar.specs.Laws.Numbers.{number-exactly, number-one-value}
 use Rattle.grammar.specs.Laws.Ranges.{text-utf8}
 use Rattle.grammar.specs.Laws.Texts.{utf8-text}
 use Rattle.grammar.specs.Laws.Encodings.{text-one-reading}
-use Rattle.grammar.specs.Laws.Names.{names-sound, names-complete}
+use Rattle.grammar.specs.Laws.Names.{SameIds, source-ids, names-sound, names-complete}
 use Rattle.grammar.specs.Laws.Metadata.{any-exact, hint-exact, metadata-sound, metadata-complete}
 use Rattle.grammar.specs.Laws.Modules.{walk-sound, walk-complete}
 
@@ -56,9 +57,12 @@ module _ {A B : Type 0} {judgement : List ℕ → Judged A} {plain : A → B} {g
   exact : Accepts (λ p. mapJudged plain (judgement p)) grammar
   exact = record { accepted-exactly = means-exactly sound complete; refused-exactly = meaningless-exactly sound complete; one-meaning = means-one sound complete }
 
--- a name payload, wherever it begins in what was lent
-pub names-exact : (at : ℕ) → Accepts (namesRead at) NamePayload
-names-exact at = exact (names-sound at) (names-complete at)
+-- a name payload, wherever it begins in what was lent, over any table of ids
+pub ids-exact : {Ids : ℕ → Kind → Type 0} {kindOf : ℕ → Kind} → SameIds Ids kindOf → (at : ℕ) → Accepts (namesRead kindOf at) (NamePayload Ids)
+ids-exact ids at = exact (names-sound ids at) (names-complete ids at)
+
+pub names-exact : (at : ℕ) → Accepts (namesRead knownKind at) (NamePayload SourceIds)
+names-exact at = ids-exact source-ids at
 
 -- code metadata of any format, and branch hints
 pub metadata-exact : (at : ℕ) → Accepts (metadataRead anyItem at) (CodeMetadata Unknown)

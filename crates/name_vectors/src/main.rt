@@ -2,9 +2,9 @@
 use format::FieldIndex;
 use format::FunctionIndex;
 use format::LocalIndex;
+use format::Question;
 use format::TagIndex;
 use format::TypeIndex;
-use names::bytes;
 use names::judging;
 use saying::say_answer;
 use saying::say_names;
@@ -14,44 +14,56 @@ use saying::say_text;
 fn payload() {
     let p = b"\x00\x02\x01\x6D\x01\x07\x02\x00\x01\x61\x03\x01\x62\x02\x06\x01\x03\x01\x00\x01\x78";
     say_names(b"P", judging::judge(p));
-    say_answer(b"P, the module", names::module_name(p));
+    say_answer(b"P, the module", names::ask(p, Question::ModuleName));
     say_answer(
         b"E5 P, function 0",
-        names::function_name(p, FunctionIndex(0)),
+        names::ask(p, Question::FunctionName(FunctionIndex(0))),
     );
     say_answer(
         b"E5 P, function 1",
-        names::function_name(p, FunctionIndex(1)),
+        names::ask(p, Question::FunctionName(FunctionIndex(1))),
     );
     say_answer(
         b"E5 P, function 3",
-        names::function_name(p, FunctionIndex(3)),
+        names::ask(p, Question::FunctionName(FunctionIndex(3))),
     );
     say_answer(
         b"E6 P, local (3,0)",
-        names::local_name(p, FunctionIndex(3), LocalIndex(0)),
+        names::ask(p, Question::LocalName(FunctionIndex(3), LocalIndex(0))),
     );
     say_answer(
         b"E6 P, local (0,0)",
-        names::local_name(p, FunctionIndex(0), LocalIndex(0)),
+        names::ask(p, Question::LocalName(FunctionIndex(0), LocalIndex(0))),
     );
-    say_answer(b"P, type 0", names::type_name(p, TypeIndex(0)));
-    say_answer(b"P, kept 1", names::kept(p, 1));
+    say_answer(
+        b"P, type 0",
+        names::ask(p, Question::TypeName(TypeIndex(0))),
+    );
+    say_answer(b"P, kept 1", names::ask(p, Question::KeptContents(1)));
     say_text(
         b"P, function 3 as bytes",
-        bytes::function_name_bytes(p, FunctionIndex(3)),
+        names::ask_bytes(p, Question::FunctionName(FunctionIndex(3))),
     );
     say_text(
         b"P, function 1 as bytes",
-        bytes::function_name_bytes(p, FunctionIndex(1)),
+        names::ask_bytes(p, Question::FunctionName(FunctionIndex(1))),
     );
 }
 
 fn name_payloads() {
     say_names(b"E9 no bytes", judging::judge(b""));
-    say_answer(b"E10 module name", names::module_name(b"\x00\x01\x00"));
-    say_answer(b"E11 kept 3", names::kept(b"\x03\x01\xFF", 3));
-    say_answer(b"E11 kept 5", names::kept(b"\x03\x01\xFF", 5));
+    say_answer(
+        b"E10 module name",
+        names::ask(b"\x00\x01\x00", Question::ModuleName),
+    );
+    say_answer(
+        b"E11 kept 3",
+        names::ask(b"\x03\x01\xFF", Question::KeptContents(3)),
+    );
+    say_answer(
+        b"E11 kept 5",
+        names::ask(b"\x03\x01\xFF", Question::KeptContents(5)),
+    );
     say_names(
         b"E12 an index again",
         judging::judge(b"\x01\x07\x02\x03\x01\x62\x03\x01\x61"),
@@ -71,29 +83,31 @@ fn errors_of_others() {
     );
     say_answer(
         b"tag names stand under 11",
-        names::tag_name(b"\x0B\x04\x01\x07\x01\x74", TagIndex(7)),
+        names::ask(b"\x0B\x04\x01\x07\x01\x74", Question::TagName(TagIndex(7))),
     );
     say_answer(
         b"and not under 1",
-        names::tag_name(b"\x01\x04\x01\x07\x01\x74", TagIndex(7)),
+        names::ask(b"\x01\x04\x01\x07\x01\x74", Question::TagName(TagIndex(7))),
     );
     say_answer(
         b"damage behind the index asked for",
-        names::function_name(
+        names::ask(
             b"\x01\x08\x03\x00\x01\x61\x02\x00\x01\x00",
-            FunctionIndex(0),
+            Question::FunctionName(FunctionIndex(0)),
         ),
     );
     say_answer(
         b"a padded index and length",
-        names::function_name(b"\x01\x86\x00\x01\x80\x00\x81\x00\x61", FunctionIndex(0)),
+        names::ask(
+            b"\x01\x86\x00\x01\x80\x00\x81\x00\x61",
+            Question::FunctionName(FunctionIndex(0)),
+        ),
     );
     say_answer(
         b"a field",
-        names::field_name(
+        names::ask(
             b"\x0A\x06\x01\x02\x01\x05\x01\x66",
-            TypeIndex(2),
-            FieldIndex(5),
+            Question::FieldName(TypeIndex(2), FieldIndex(5)),
         ),
     );
 }

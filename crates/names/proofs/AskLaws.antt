@@ -13,34 +13,35 @@ use Rattle.format.specs.Reading.{filling, accepted, judge, mapJudged}
 use Rattle.format.specs.Parts.{Part, name, remaining}
 use Rattle.format.specs.Tables.{lookup, table}
 use Rattle.format.specs.Names.{Kind as AnyKind, oneName, nameMap, indirectMap, kept, known, knownKind, contents}
-use Rattle.format.specs.Questions.{Query, itsName, itsContents, nameOf, nameWithin, answerIn, answer, asked, askAt, ask, asPlace, answered, Question, moduleName, functionName, typeName, tagName, localName, fieldName, keptContents, idOf, queryOf}
+use Rattle.format.specs.Questions.{answerIn, answer, asked, askAt, ask, asPlace, answered, idOf, queryOf}
+use Rattle.format.specs.declared.Question.{Question}
+use Rattle.format.specs.declared.Question.the-variants.{ModuleName, FunctionName, TypeName, TagName, LocalName, FieldName, KeptContents}
+use Rattle.format.specs.declared.Query.{Query}
+use Rattle.format.specs.declared.Query.the-variants.{ItsName, ItsContents, NameOf, NameWithin}
 use Rattle.format.specs.Laws.Outcomes.{not-accepted, accepted-is, byOutcome, mapped}
 use Rattle.format.specs.declared.Answer.{Answer}
 use Rattle.format.specs.declared.Answer.the-variants.{None as NoAnswer, Refused as NotAnswered}
 use Rattle.format.specs.declared.Refusal.{Refusal}
 use Rattle.format.specs.declared.Reason.the-variants.{NoPreamble}
-use Rattle.format.specs.declared.FunctionIndex.{FunctionIndex}
-use Rattle.format.specs.declared.LocalIndex.{LocalIndex}
-use Rattle.format.specs.declared.TypeIndex.{TypeIndex}
-use Rattle.format.specs.declared.FieldIndex.{FieldIndex}
-use Rattle.format.specs.declared.TagIndex.{TagIndex}
 use Rattle.reading.specs.Cursors.{Inside, left}
 use Rattle.reading.specs.declared.Cursor.{Cursor}
 use Rattle.names.specs.Contents.{kindMeant, asksIn, Asks, placeAt}
-use Rattle.names.specs.Places.{subOf, subInside, KnownAt, Stands, Accepts, Judges, Finds, AsksAt, refusalIn}
+use Rattle.names.specs.Places.{subOf, subInside, placedAt, KnownAt, Stands, Accepts, Judges, Finds, AsksAt, refusalIn}
 use Rattle.names.specs.declared.kinds.Kind.{Kind}
 use Rattle.names.specs.declared.kinds.Kind.the-variants.{OneName, NameMap, IndirectMap, Kept}
-use Rattle.names.specs.declared.places.Sub.{Sub}
-use Rattle.names.specs.declared.places.Sub.the-variants.{Absent, At}
+use Rattle.tables.specs.declared.Held.{Held}
+use Rattle.tables.specs.declared.Held.the-variants.{Nothing as Absent, Part as At}
 use Rattle.names.specs.declared.places.Places.{Places}
 use Rattle.names.specs.declared.judging.Judged.{Judged}
 use Rattle.names.specs.declared.judging.Judged.the-variants.{Accepted, Refused}
+use Rattle.format.proofs.Query as query-type
 use Rattle.names.proofs.kinds.Kind as kind-type
-use Rattle.names.proofs.places.Sub as sub-type
+use Rattle.tables.proofs.Held as held-type
 use Rattle.names.proofs.judging.Judged as judged-type
 use Rattle.names.proofs.Tags.{as-refused, as-accepted}
 use Rattle.names.proofs.ContentLaws.{known-inside, map-known, indirect-known, seek-ordered}
 use Rattle.names.proofs.FrameLaws.{asked-lies}
+use Rattle.names.proofs.PlaceLaws.{name-known, map-known as map-is-known, indirect-known as indirect-is-known, by-kind}
 use Rattle.names.proofs.JudgeLaws.{all-inside}
 
 -- A judgement's refusal
@@ -54,12 +55,12 @@ refusal-none (Refused r) h = absurd (omega arith)
 pub ruleset refusal-steps = (refusal-is, refusal-none, needs)
 
 -- The contents at a place
-as-absent : (x : Sub) → tagOf sub-type.the-type x ≡ 0 → x ≡ Absent
+as-absent : (x : Held) → tagOf held-type.the-type x ≡ 0 → x ≡ Absent
 as-absent Absent h = refl
 as-absent (At d) h = absurd (omega arith)
 
-module _ {s : List ℕ} {place : Sub} where
-  pub nothing-asked : {kind : AnyKind} {q : Query} → tagOf sub-type.the-type place ≡ 0 → AsksAt kind q s place NoAnswer
+module _ {s : List ℕ} {place : Held} where
+  pub nothing-asked : {kind : AnyKind} {q : Query} → tagOf held-type.the-type place ≡ 0 → AsksAt kind q s place NoAnswer
   unfolding asPlace
   nothing-asked h = record { says = rw (as-absent place h) }
 
@@ -70,11 +71,11 @@ module _ {s : List ℕ} {place : Sub} where
     pub place-inside : subInside s place → Inside s part
     place-inside i = rw e at i
 
-    pub kept-asked : subInside s place → AsksAt kept itsContents s place (placeAt part)
+    pub kept-asked : subInside s place → AsksAt kept ItsContents s place (placeAt part)
     unfolding contents remaining asPlace
     kept-asked i = let h : Inside s part = rw e at i in record { says = rw (e, length-slice (part .at) (part .end) s (h .within)) }
 
-pub place-ahead : (s : List ℕ) {place : Sub} {part : Cursor} → place ≡ At part → subInside s place → part .at ≤ part .end
+pub place-ahead : (s : List ℕ) {place : Held} {part : Cursor} → place ≡ At part → subInside s place → part .at ≤ part .end
 place-ahead s {part = part} e i = let h : Inside s part = rw e at i in h .ahead
 
 pub ruleset place-steps = (nothing-asked, place-asked, place-inside, place-ahead, kept-asked, needs)
@@ -82,90 +83,120 @@ pub ruleset place-steps = (nothing-asked, place-asked, place-inside, place-ahead
 pub ruleset map-steps = (nothing-asked, known-inside, map-known, indirect-known, seek-ordered, needs)
 
 -- One law for all questions: the place that the id has, asked
-pub place-answers : {s : List ℕ} {at : ℕ} {bs : List ℕ} {p : Places} (id : ℕ) (q : Query) (place : Sub) {y : Answer} (a : Accepts s at bs p) → Stands s place (lookup id (a .lying)) → AsksAt (knownKind id) q s place y → answered y ≡ asPlace (asked knownKind id q at bs)
-place-answers {at = at} {bs = bs} id q place a st asks = asks .says ∙ ap asPlace (rw (st .is) (sym (asked-lies knownKind id q at bs (a .judged) (a .framed))))
+module _ {kindOf : ℕ → AnyKind} {s : List ℕ} {at : ℕ} {bs : List ℕ} {p : Places} where
+  place-answers : (id : ℕ) (q : Query) (place : Held) {y : Answer} (a : Accepts kindOf s at bs p) → Stands s place (lookup id (a .lying)) → AsksAt (kindOf id) q s place y → answered y ≡ asPlace (asked kindOf id q at bs)
+  place-answers id q place a st asks = asks .says ∙ ap asPlace (rw (st .is) (sym (asked-lies kindOf id q at bs (a .judged) (a .framed))))
+
+  -- what was accepted stands where its id lies
+  known-stands : (id : ℕ) (place : Held) (a : Accepts kindOf s at bs p) → Stands s place (lookup id (a .lying)) → KnownAt (kindOf id) s place
+  unfolding asked
+  known-stands id Absent a st = record { inside = tt; known = tt }
+  known-stands id (At d) a st =
+      let told : asked kindOf id ItsName at bs ≡ accepted (answer id ItsName (a .held)) = rw (a .judged) refl in
+      let there : asksIn (kindOf id) ItsName (subOf s (At d)) ≡ accepted (answer id ItsName (a .held)) = ap (asksIn (kindOf id) ItsName) (st .is) ∙ sym (asked-lies kindOf id ItsName at bs (a .judged) (a .framed)) ∙ told in
+      record { inside = st .inside; known = mapped (answerIn ItsName) (judge (contents (kindOf id) (d .at) (left _ d))) there λ v e q. record { value = v; judged = e } }
+
+-- The kind that a query is for, and that each question asks an id of that kind
+abbrev kindFor : Query → AnyKind
+kindFor ItsName = oneName
+kindFor (NameOf k) = nameMap
+kindFor (NameWithin k j) = indirectMap
+kindFor ItsContents = kept
+
+abbrev pub Suits : (ℕ → AnyKind) → Type 0
+Suits kindOf = (q : Question) → (kindFor (queryOf q) ≡ kept → ⊥) → kindFor (queryOf q) ≡ kindOf (idOf q)
+
+pub known-suits : Suits knownKind
+unfolding knownKind known lookup
+known-suits ModuleName n = refl
+known-suits (FunctionName k) n = refl
+known-suits (LocalName k j) n = refl
+known-suits (TypeName k) n = refl
+known-suits (FieldName k j) n = refl
+known-suits (TagName k) n = refl
+known-suits (KeptContents id) n = absurd (n refl)
+
+-- An arm that binds nothing gives the tag alone
+as-name : (x : Query) → tagOf query-type.the-type x ≡ 0 → x ≡ ItsName
+as-name ItsName h = refl
+as-name (NameOf k) h = absurd (omega arith)
+as-name (NameWithin k j) h = absurd (omega arith)
+as-name ItsContents h = absurd (omega arith)
+
+as-contents : (x : Query) → tagOf query-type.the-type x ≡ 3 → x ≡ ItsContents
+as-contents ItsName h = absurd (omega arith)
+as-contents (NameOf k) h = absurd (omega arith)
+as-contents (NameWithin k j) h = absurd (omega arith)
+as-contents ItsContents h = refl
+
+-- What an accepted payload answers
+module _ {kindOf : ℕ → AnyKind} {s : List ℕ} {at : ℕ} {bs : List ℕ} {p : Places} (a : Accepts kindOf s at bs p) (suits : Suits kindOf) (q : Question) {x : Query} {id : ℕ} {place : Held} (asks : x ≡ queryOf q) (of : id ≡ idOf q) (there : place ≡ placedAt p id) where
+  -- the place stands where the id lies, and its contents are of the query's kind
+  module _ (n : kindFor x ≡ kept → ⊥) where
+    its-kind : kindFor x ≡ kindOf id
+    its-kind = rw (asks, of) (suits q (rw asks at n))
+
+    stands : Stands s place (lookup id (a .lying))
+    stands = rw there (by-kind (kindOf id) (lookup id (a .lying)) (λ k q. absurd (n (its-kind ∙ k))) (λ _ q. rw q at (a .all-stand id)))
+
+    known-place : KnownAt (kindFor x) s place
+    known-place = rw its-kind (known-stands id place a stands)
+
+    place-asks : {y : Answer} → AsksAt (kindFor x) x s place y → answered y ≡ asPlace (askAt kindOf q at bs)
+    unfolding askAt
+    place-asks {y} h =
+        let h′ : AsksAt (kindOf id) x s place y = rw its-kind at h in
+        rw (← asks, ← of) (place-answers id x place a stands h′)
+
+  module _ (h : tagOf query-type.the-type x ≡ 0) where
+    pub name-inside : subInside s place
+    name-inside = let e = as-name x h in known-place (rw e name-known) .inside
+
+    pub name-answers : {y : Answer} → AsksAt oneName ItsName s place y → answered y ≡ asPlace (askAt kindOf q at bs)
+    name-answers {y} asks-it = let e = as-name x h in place-asks (rw e name-known) {y = y} (rw e asks-it)
+
+  module _ {k : ℕ} (e : x ≡ NameOf k) where
+    pub map-there : KnownAt nameMap s place
+    map-there = let known = known-place (rw e map-is-known) in rw e at known
+
+    pub map-answers : {y : Answer} → AsksAt nameMap (NameOf k) s place y → answered y ≡ asPlace (askAt kindOf q at bs)
+    map-answers {y} asks-it = place-asks (rw e map-is-known) {y = y} (rw e asks-it)
+
+  module _ {k j : ℕ} (e : x ≡ NameWithin k j) where
+    pub indirect-there : KnownAt indirectMap s place
+    indirect-there = let known = known-place (rw e indirect-is-known) in rw e at known
+
+    pub indirect-answers : {y : Answer} → AsksAt indirectMap (NameWithin k j) s place y → answered y ≡ asPlace (askAt kindOf q at bs)
+    indirect-answers {y} asks-it = place-asks (rw e indirect-is-known) {y = y} (rw e asks-it)
+
+pub kept-answers : (kindOf : ℕ → AnyKind) (at : ℕ) (bs : List ℕ) (q : Question) (x : Query) (id : ℕ) (y : Answer) → x ≡ queryOf q → id ≡ idOf q → tagOf query-type.the-type x ≡ 3 → answered y ≡ asPlace (asked kindOf id ItsContents at bs) → answered y ≡ asPlace (askAt kindOf q at bs)
+unfolding askAt
+kept-answers kindOf at bs q x id y asks of h e = let is = as-contents x h in rw (← asks, ← of, is) e
+
+pub ruleset answers = (name-inside, name-answers, map-there, map-answers, indirect-there, indirect-answers, kept-answers, known-suits, needs)
 
 -- A payload that is not accepted, and one that is
-module _ {s : List ℕ} {at : ℕ} {bs : List ℕ} {j : Judged} where
-  pub question-refused : (q : Question) (r : Refusal) → Judges s at bs j → tagOf judged-type.the-type j ≡ 1 → r ≡ refusalIn j → answered (NotAnswered r) ≡ asPlace (askAt q at bs)
+module _ {kindOf : ℕ → AnyKind} {s : List ℕ} {at : ℕ} {bs : List ℕ} {j : Judged} (judged : Judges kindOf s at bs j) where
+  pub question-refused : (q : Question) (r : Refusal) → tagOf judged-type.the-type j ≡ 1 → r ≡ refusalIn j → answered (NotAnswered r) ≡ asPlace (askAt kindOf q at bs)
   unfolding askAt asked asPlace
-  question-refused q r judged h is =
+  question-refused q r h is =
       let says = rw (as-refused j h) at (judged .says) in
       rw (is, says)
 
-  accepts : {p : Places} → Judges s at bs j → j ≡ Accepted p → Accepts s at bs p
-  accepts judged e = rw e at (judged .says)
+  pub accepts : {p : Places} → j ≡ Accepted p → Accepts kindOf s at bs p
+  accepts e = rw e at (judged .says)
 
-  module _ {p : Places} (y : Answer) (judged : Judges s at bs j) (e : j ≡ Accepted p) where
-    pub module-answers : AsksAt oneName itsName s (p .module) y → answered y ≡ asPlace (askAt moduleName at bs)
-    unfolding askAt idOf queryOf knownKind known lookup
-    module-answers asks = let a = accepts judged e in place-answers 0 itsName (p .module) a (a .all-stand .module-stands) asks
-
-    pub function-answers : (k : FunctionIndex) → AsksAt nameMap (nameOf (k .0)) s (p .functions) y → answered y ≡ asPlace (askAt (functionName k) at bs)
-    unfolding askAt idOf queryOf knownKind known lookup
-    function-answers k asks = let a = accepts judged e in place-answers 1 (nameOf (k .0)) (p .functions) a (a .all-stand .functions-stand) asks
-
-    pub type-answers : (k : TypeIndex) → AsksAt nameMap (nameOf (k .0)) s (p .types) y → answered y ≡ asPlace (askAt (typeName k) at bs)
-    unfolding askAt idOf queryOf knownKind known lookup
-    type-answers k asks = let a = accepts judged e in place-answers 4 (nameOf (k .0)) (p .types) a (a .all-stand .types-stand) asks
-
-    pub tag-answers : (k : TagIndex) → AsksAt nameMap (nameOf (k .0)) s (p .tags) y → answered y ≡ asPlace (askAt (tagName k) at bs)
-    unfolding askAt idOf queryOf knownKind known lookup
-    tag-answers k asks = let a = accepts judged e in place-answers 11 (nameOf (k .0)) (p .tags) a (a .all-stand .tags-stand) asks
-
-    pub local-answers : (f : FunctionIndex) (k : LocalIndex) → AsksAt indirectMap (nameWithin (f .0) (k .0)) s (p .locals) y → answered y ≡ asPlace (askAt (localName f k) at bs)
-    unfolding askAt idOf queryOf knownKind known lookup
-    local-answers f k asks = let a = accepts judged e in place-answers 2 (nameWithin (f .0) (k .0)) (p .locals) a (a .all-stand .locals-stand) asks
-
-    pub field-answers : (t : TypeIndex) (k : FieldIndex) → AsksAt indirectMap (nameWithin (t .0) (k .0)) s (p .fields) y → answered y ≡ asPlace (askAt (fieldName t k) at bs)
-    unfolding askAt idOf queryOf knownKind known lookup
-    field-answers t k asks = let a = accepts judged e in place-answers 10 (nameWithin (t .0) (k .0)) (p .fields) a (a .all-stand .fields-stand) asks
-
--- what was accepted stands where its id lies
-known-stands : {s : List ℕ} {at : ℕ} {bs : List ℕ} {p : Places} (id : ℕ) (place : Sub) (a : Accepts s at bs p) → Stands s place (lookup id (a .lying)) → KnownAt (knownKind id) s place
-unfolding asked
-known-stands id Absent a st = record { inside = tt; known = tt }
-known-stands {s} {at} {bs} id (At d) a st =
-    let told : asked knownKind id itsName at bs ≡ accepted (answer id itsName (a .held)) = rw (a .judged) refl in
-    let there : asksIn (knownKind id) itsName (subOf s (At d)) ≡ accepted (answer id itsName (a .held)) = ap (asksIn (knownKind id) itsName) (st .is) ∙ sym (asked-lies knownKind id itsName at bs (a .judged) (a .framed)) ∙ told in
-    record { inside = st .inside; known = mapped (answerIn itsName) (judge (contents (knownKind id) (d .at) (left _ d))) there λ v e q. record { value = v; judged = e } }
-
--- each place lies inside, and the maps there are known
-module _ (at : ℕ) (bs : List ℕ) {s : List ℕ} {j : Judged} {p : Places} (judged : Judges s at bs j) (e : j ≡ Accepted p) where
-  pub module-inside : subInside s (p .module)
-  module-inside = accepts judged e .all-stand .module-stands .inside
-
-  pub functions-known : KnownAt nameMap s (p .functions)
-  unfolding knownKind known lookup
-  functions-known = let a = accepts judged e in known-stands 1 (p .functions) a (a .all-stand .functions-stand)
-
-  pub locals-known : KnownAt indirectMap s (p .locals)
-  unfolding knownKind known lookup
-  locals-known = let a = accepts judged e in known-stands 2 (p .locals) a (a .all-stand .locals-stand)
-
-  pub types-known : KnownAt nameMap s (p .types)
-  unfolding knownKind known lookup
-  types-known = let a = accepts judged e in known-stands 4 (p .types) a (a .all-stand .types-stand)
-
-  pub fields-known : KnownAt indirectMap s (p .fields)
-  unfolding knownKind known lookup
-  fields-known = let a = accepts judged e in known-stands 10 (p .fields) a (a .all-stand .fields-stand)
-
-  pub tags-known : KnownAt nameMap s (p .tags)
-  unfolding knownKind known lookup
-  tags-known = let a = accepts judged e in known-stands 11 (p .tags) a (a .all-stand .tags-stand)
-
-pub ruleset questions = (question-refused, module-answers, function-answers, type-answers, tag-answers, local-answers, field-answers, module-inside, functions-known, locals-known, types-known, fields-known, tags-known, needs)
+pub ruleset questions = (question-refused, accepts, needs)
 
 -- What is kept: the ids that are known keep nothing
-known-silent : (kind : AnyKind) (o : ℕ) (bs : List ℕ) {x : Option Part} → (kind ≡ kept → ⊥) → mapJudged (answerIn itsContents) (judge (contents kind o bs)) ≡ accepted x → none ≡ x
+known-silent : (kind : AnyKind) (o : ℕ) (bs : List ℕ) {x : Option Part} → (kind ≡ kept → ⊥) → mapJudged (answerIn ItsContents) (judge (contents kind o bs)) ≡ accepted x → none ≡ x
 unfolding contents
 known-silent oneName o bs n e = byOutcome (filling name o bs) (λ v o₁ r₁ q. accepted-is (rw q at e)) (λ m at q. absurd (not-accepted (rw q at e)))
 known-silent nameMap o bs n e = byOutcome (filling (table name) o bs) (λ v o₁ r₁ q. accepted-is (rw q at e)) (λ m at q. absurd (not-accepted (rw q at e)))
 known-silent indirectMap o bs n e = byOutcome (filling (table (table name)) o bs) (λ v o₁ r₁ q. accepted-is (rw q at e)) (λ m at q. absurd (not-accepted (rw q at e)))
 known-silent kept o bs n e = absurd (n refl)
 
-silent-in : (kind : AnyKind) (found : Option Part) {x : Option Part} → (kind ≡ kept → ⊥) → asksIn kind itsContents found ≡ accepted x → none ≡ x
+silent-in : (kind : AnyKind) (found : Option Part) {x : Option Part} → (kind ≡ kept → ⊥) → asksIn kind ItsContents found ≡ accepted x → none ≡ x
 silent-in kind none n e = accepted-is e
 silent-in kind (some p) n e = known-silent kind (p .at) (p .bytes) n e
 
@@ -175,34 +206,30 @@ not-kept NameMap h e = let z : _≡_ {A = ℕ} 0 1 = cc in omega arith
 not-kept IndirectMap h e = let z : _≡_ {A = ℕ} 0 1 = cc in omega arith
 not-kept Kept h e = ⊎-elim (λ t. omega arith) (λ h′. ⊎-elim (λ t. omega arith) (λ t. omega arith) h′) h
 
-module _ {s : List ℕ} {at : ℕ} {bs : List ℕ} {j : Judged} (judged : Judges s at bs j) (h : tagOf judged-type.the-type j ≡ 0) where
-  pub kept-known : (id : ℕ) (k : Kind) → kindMeant k ≡ knownKind id → (tagOf kind-type.the-type k ≡ 0) ⊎ ((tagOf kind-type.the-type k ≡ 1) ⊎ (tagOf kind-type.the-type k ≡ 2)) → answered NoAnswer ≡ asPlace (askAt (keptContents id) at bs)
-  unfolding askAt idOf queryOf asPlace asked
-  kept-known id k is n =
-      let (p, e) = as-accepted j h in
-      let a = accepts judged e in
-      let asks = asked-lies knownKind id itsContents at bs (a .judged) (a .framed) in
-      let told : asked knownKind id itsContents at bs ≡ accepted (answer id itsContents (a .held)) = rw (a .judged) in
-      let nothing = silent-in (knownKind id) (lookup id (a .lying)) (λ q. not-kept k n (is ∙ q)) (sym asks ∙ told) in
+module _ {kindOf : ℕ → AnyKind} {s : List ℕ} {at : ℕ} {bs : List ℕ} {p : Places} (a : Accepts kindOf s at bs p) {id : ℕ} where
+  pub kept-known : (k : Kind) → kindMeant k ≡ kindOf id → (tagOf kind-type.the-type k ≡ 0) ⊎ ((tagOf kind-type.the-type k ≡ 1) ⊎ (tagOf kind-type.the-type k ≡ 2)) → answered NoAnswer ≡ asPlace (asked kindOf id ItsContents at bs)
+  unfolding asPlace asked
+  kept-known k is n =
+      let asks = asked-lies kindOf id ItsContents at bs (a .judged) (a .framed) in
+      let told : asked kindOf id ItsContents at bs ≡ accepted (answer id ItsContents (a .held)) = rw (a .judged) in
+      let nothing = silent-in (kindOf id) (lookup id (a .lying)) (λ q. not-kept k n (is ∙ q)) (sym asks ∙ told) in
       rw (a .judged, ← nothing)
 
-  pub kept-found : (id : ℕ) (y : Answer) {k : Kind} {place : Sub} → kindMeant k ≡ knownKind id → k ≡ Kept → Finds s at bs id place → AsksAt kept itsContents s place y → answered y ≡ asPlace (askAt (keptContents id) at bs)
-  unfolding askAt idOf queryOf
-  kept-found id y {place = place} is k finds asks =
-      let (p, e) = as-accepted j h in
-      let a = accepts judged e in
-      let kind : kept ≡ knownKind id = rw k at is in
-      let asks-it : AsksAt (knownKind id) itsContents s place y = rw kind at asks in
-      place-answers id itsContents place a (finds .stands (a .lying) (a .framed)) asks-it
+  module _ {place : Held} (finds : Finds s at bs id place) where
+    pub kept-found : {y : Answer} {k : Kind} → kindMeant k ≡ kindOf id → k ≡ Kept → AsksAt kept ItsContents s place y → answered y ≡ asPlace (asked kindOf id ItsContents at bs)
+    kept-found {y} is k asks =
+        let kind : kept ≡ kindOf id = rw k at is in
+        let asks-it : AsksAt (kindOf id) ItsContents s place y = rw kind at asks in
+        place-answers id ItsContents place a (finds .stands (a .lying) (a .framed)) asks-it
 
-  pub found-inside : (id : ℕ) {place : Sub} → Finds s at bs id place → subInside s place
-  found-inside id finds = let (p, e) = as-accepted j h in let a = accepts judged e in finds .stands (a .lying) (a .framed) .inside
+    pub found-inside : subInside s place
+    found-inside = finds .stands (a .lying) (a .framed) .inside
 
-pub ruleset kept-questions = (question-refused, kept-known, kept-found, found-inside, needs)
+pub ruleset kept-questions = (kept-known, kept-found, found-inside, needs)
 
 -- asked of all that was lent
-pub asks-all : (y : Answer) (q : Question) (s : List ℕ) → answered y ≡ asPlace (askAt q 0 (left s (record { at = 0; end = length s }))) → answered y ≡ asPlace (ask q s)
+pub asks-all : (kindOf : ℕ → AnyKind) (y : Answer) (q : Question) (s : List ℕ) → answered y ≡ asPlace (askAt kindOf q 0 (left s (record { at = 0; end = length s }))) → answered y ≡ asPlace (ask kindOf q s)
 unfolding ask
-asks-all y q s e = rw (take-length s) at e
+asks-all kindOf y q s e = rw (take-length s) at e
 
 pub ruleset asked-all = (asks-all, all-inside, needs)

@@ -13,7 +13,9 @@ use Rattle.format.specs.Reading.{Outcome, got, stop, Reader, andThen, return, a
 use Rattle.format.specs.Parts.{Part, name, remaining}
 use Rattle.format.specs.Tables.{lookup, table}
 use Rattle.format.specs.Names.{Kind as AnyKind, oneName, nameMap, indirectMap, known, knownKind, Content, single, names, namesBy, contents}
-use Rattle.format.specs.Questions.{Query, itsName, nameOf, nameWithin, answerIn, answered, asPlace}
+use Rattle.format.specs.Questions.{answerIn, answered, asPlace}
+use Rattle.format.specs.declared.Query.{Query}
+use Rattle.format.specs.declared.Query.the-variants.{ItsName, NameOf, NameWithin}
 use Rattle.format.specs.Laws.Outcomes.{byTest, byOutcome, accepted-is, not-accepted}
 use Rattle.format.specs.Laws.Laxer.{Laxer, name-laxer, table-laxer, filled-laxer}
 use Rattle.format.specs.Metadata.{anyItem}
@@ -32,8 +34,8 @@ use Rattle.tables.specs.declared.Seek.the-variants.{None, Found, Refused}
 use Rattle.tables.proofs.Laws.{refused-means, none-means, none-inside, found-means, found-inside, found-part}
 use Rattle.names.specs.Contents.{kindMeant, Asks, Rules, placeAt, filledBy, endOf, Ordered}
 use Rattle.names.specs.Places.{KnownAt, AsksAt}
-use Rattle.names.specs.declared.places.Sub.{Sub}
-use Rattle.names.specs.declared.places.Sub.the-variants.{At}
+use Rattle.tables.specs.declared.Held.{Held}
+use Rattle.tables.specs.declared.Held.the-variants.{Part as At}
 use Rattle.names.specs.declared.kinds.Kind.{Kind}
 use Rattle.names.specs.declared.kinds.Kind.the-variants.{OneName, NameMap, IndirectMap, Kept}
 use Rattle.names.proofs.kinds.Kind as kind-type
@@ -124,31 +126,31 @@ module _ {s : List ℕ} where
   end-means (Found part next) i k = rw (found-means k refl) (at-the-end next (some (partOf s part)) (placeAt part) (found-inside i k refl) (place-is part (found-part i k refl)))
 
   -- the two maps
-  pub map-asks : {part : Cursor} {key : ℕ} {x : Seek} {y : Answer} → Inside s part → Seeks (sought name key) s part x → y ≡ endOf x → Asks nameMap (nameOf key) s part y
+  pub map-asks : {part : Cursor} {key : ℕ} {x : Seek} {y : Answer} → Inside s part → Seeks (sought name key) s part x → y ≡ endOf x → Asks nameMap (NameOf key) s part y
   unfolding contents sought
-  map-asks {part} {key} {x} i k e = record { says = rw (e, end-means x i k, fill-asked (table name (part .at) (left s part)) names (nameOf key)) }
+  map-asks {part} {key} {x} i k e = record { says = rw (e, end-means x i k, fill-asked (table name (part .at) (left s part)) names (NameOf key)) }
 
-  pub indirect-asks : {part : Cursor} {key inner : ℕ} {x : Seek} {y : Answer} → Inside s part → Seeks (soughtWithin name key inner) s part x → y ≡ endOf x → Asks indirectMap (nameWithin key inner) s part y
+  pub indirect-asks : {part : Cursor} {key inner : ℕ} {x : Seek} {y : Answer} → Inside s part → Seeks (soughtWithin name key inner) s part x → y ≡ endOf x → Asks indirectMap (NameWithin key inner) s part y
   unfolding contents soughtWithin
-  indirect-asks {part} {key} {inner} {x} i k e = record { says = rw (e, end-means x i k, fill-asked (table (table name) (part .at) (left s part)) namesBy (nameWithin key inner)) }
+  indirect-asks {part} {key} {inner} {x} i k e = record { says = rw (e, end-means x i k, fill-asked (table (table name) (part .at) (left s part)) namesBy (NameWithin key inner)) }
 
-  module _ {place : Sub} {part : Cursor} (at-part : place ≡ At part) where
+  module _ {place : Held} {part : Cursor} (at-part : place ≡ At part) where
     pub known-inside : {kind : AnyKind} → KnownAt kind s place → Inside s part
     known-inside h = rw at-part at (h .inside)
 
-    pub map-known : {x : Seek} {y : Answer} {key : ℕ} → KnownAt nameMap s place → Seeks (sought anyItem key) s part x → y ≡ endOf x → AsksAt nameMap (nameOf key) s place y
+    pub map-known : {x : Seek} {y : Answer} {key : ℕ} → KnownAt nameMap s place → Seeks (sought anyItem key) s part x → y ≡ endOf x → AsksAt nameMap (NameOf key) s place y
     unfolding contents sought anyItem
     map-known {x} {key = key} h k e =
         let i = known-inside h in
         let a = rw at-part at (h .known) in
-        record { says = rw (e, end-means x i k, at-part, a .judged, lax-asked (table-laxer name-laxer) names (nameOf key) (part .at) (left s part) (a .judged)) refl }
+        record { says = rw (e, end-means x i k, at-part, a .judged, lax-asked (table-laxer name-laxer) names (NameOf key) (part .at) (left s part) (a .judged)) refl }
 
-    pub indirect-known : {x : Seek} {y : Answer} {key inner : ℕ} → KnownAt indirectMap s place → Seeks (soughtWithin anyItem key inner) s part x → y ≡ endOf x → AsksAt indirectMap (nameWithin key inner) s place y
+    pub indirect-known : {x : Seek} {y : Answer} {key inner : ℕ} → KnownAt indirectMap s place → Seeks (soughtWithin anyItem key inner) s part x → y ≡ endOf x → AsksAt indirectMap (NameWithin key inner) s place y
     unfolding contents soughtWithin anyItem
     indirect-known {x} {key = key} {inner = inner} h k e =
         let i = known-inside h in
         let a = rw at-part at (h .known) in
-        record { says = rw (e, end-means x i k, at-part, a .judged, lax-asked (table-laxer (table-laxer name-laxer)) namesBy (nameWithin key inner) (part .at) (left s part) (a .judged)) refl }
+        record { says = rw (e, end-means x i k, at-part, a .judged, lax-asked (table-laxer (table-laxer name-laxer)) namesBy (NameWithin key inner) (part .at) (left s part) (a .judged)) refl }
 
   pub seek-ordered : {read : Reader (Option Part)} {d : Cursor} (x : Seek) → Inside s d → Seeks read s d x → Ordered x
   seek-ordered (None next) i k = tt
@@ -157,16 +159,16 @@ module _ {s : List ℕ} where
 
 -- one name
 module _ {s : List ℕ} {part : Cursor} {x : PartRead} (p : PartReads name s part x) where
-  pub one-refused : {r : Refusal} → x ≡ NoPart r → Asks oneName itsName s part (NotAnswered r)
+  pub one-refused : {r : Refusal} → x ≡ NoPart r → Asks oneName ItsName s part (NotAnswered r)
   unfolding contents asPlace
   one-refused e = record { says = rw (← rw e at (p .means)) }
 
   module _ {text next : Cursor} (i : Inside s part) (e : x ≡ APart text next) where
-    pub one-asks : {y : Answer} → y ≡ endOf (Found text next) → Asks oneName itsName s part y
+    pub one-asks : {y : Answer} → y ≡ endOf (Found text next) → Asks oneName ItsName s part y
     unfolding contents
     one-asks q =
         let b = name-behind i p e in
-        record { says = rw (q, at-the-end next (some (partOf s text)) (placeAt text) (b .in-rest) (place-is text (b .in-part)), fill-asked (name (part .at) (left s part)) single itsName, name-means p e) }
+        record { says = rw (q, at-the-end next (some (partOf s text)) (placeAt text) (b .in-rest) (place-is text (b .in-part)), fill-asked (name (part .at) (left s part)) single ItsName, name-means p e) }
 
     pub one-ordered : text .at ≤ text .end
     one-ordered = name-behind i p e .in-part .ahead
@@ -185,13 +187,13 @@ asked-rules : {kind : AnyKind} {q : Query} {s : List ℕ} {part : Cursor} {y : A
 asked-rules {kind} {q} {s} {part} a = record { says = ap verdict (a .says) ∙ verdict-stays (answerIn q) (judge (contents kind (part .at) (left s part))) }
 
 module _ {s : List ℕ} {part : Cursor} {kind : Kind} {y : Answer} where
-  pub rules-one : kind ≡ OneName → Asks oneName itsName s part y → Rules (kindMeant kind) s part y
+  pub rules-one : kind ≡ OneName → Asks oneName ItsName s part y → Rules (kindMeant kind) s part y
   rules-one e a = rw e (asked-rules a)
 
-  pub rules-map : {key : ℕ} → kind ≡ NameMap → Asks nameMap (nameOf key) s part y → Rules (kindMeant kind) s part y
+  pub rules-map : {key : ℕ} → kind ≡ NameMap → Asks nameMap (NameOf key) s part y → Rules (kindMeant kind) s part y
   rules-map e a = rw e (asked-rules a)
 
-  pub rules-indirect : {key inner : ℕ} → kind ≡ IndirectMap → Asks indirectMap (nameWithin key inner) s part y → Rules (kindMeant kind) s part y
+  pub rules-indirect : {key inner : ℕ} → kind ≡ IndirectMap → Asks indirectMap (NameWithin key inner) s part y → Rules (kindMeant kind) s part y
   rules-indirect e a = rw e (asked-rules a)
 
 pub rules-kept : {s : List ℕ} {part : Cursor} {kind : Kind} → kind ≡ Kept → Rules (kindMeant kind) s part NoAnswer

@@ -13,7 +13,8 @@ use Rattle.format.specs.Reading.{Outcome, got, stop, Reader, andThen, _>>=_, re
 use Rattle.format.specs.Parts.{Part, sized, inside}
 use Rattle.format.specs.Tables.{Table, nil, row, lookup, mapTable}
 use Rattle.format.specs.Names.{Kind, Content, contents, subsections, payload, judgeNames}
-use Rattle.format.specs.Questions.{Query, answerIn, answer, asked}
+use Rattle.format.specs.Questions.{answerIn, answer, asked}
+use Rattle.format.specs.declared.Query.{Query}
 use Rattle.format.specs.Laws.Outcomes.{not-got, got-value, got-next, got-rest, byTest, byOutcome, inTurn, judged, mapped, accepted-is}
 use Rattle.format.specs.Laws.Options.{not-some, some-is, byOption}
 use Rattle.format.specs.Laws.Tables.{lookup-map}

@@ -16,24 +16,24 @@ use Rattle.format.specs.Options.{mapSome}
 use Rattle.format.specs.Reading.{Outcome, got, stop, Reader, andThen}
 use Rattle.format.specs.Parts.{Part}
 use Rattle.format.specs.Tables.{Table, lookup, mapTable}
-use Rattle.format.specs.Names.{payload, judgeNames, knownKind}
+use Rattle.format.specs.Names.{Kind, payload, judgeNames}
 use Rattle.format.specs.Laws.Outcomes.{not-got, got-value, byTest, inTurn, judged}
 use Rattle.format.specs.Laws.Tables.{lookup-map}
 use Rattle.format.specs.declared.Refusal.{Refusal}
 use Rattle.reading.specs.Cursors.{Inside, left, partOf}
 use Rattle.reading.specs.declared.Cursor.{Cursor}
 use Rattle.names.specs.Frames.{Headed, frame, frames, judgeFrames, subsection, Forward, FrameReads}
-use Rattle.names.specs.Places.{subOf, subInside, Stands, Judges, Puts, Finds}
+use Rattle.names.specs.Places.{subOf, subInside, Stands, placedAt, Judges, Puts, Finds}
 use Rattle.names.specs.declared.frames.FrameRead.{FrameRead}
 use Rattle.names.specs.declared.frames.FrameRead.the-variants.{Frame, End, Refused as NoFrame}
-use Rattle.names.specs.declared.places.Sub.{Sub}
-use Rattle.names.specs.declared.places.Sub.the-variants.{Absent, At}
+use Rattle.tables.specs.declared.Held.{Held}
+use Rattle.tables.specs.declared.Held.the-variants.{Nothing as Absent, Part as At}
 use Rattle.names.specs.declared.places.Places.{Places}
 use Rattle.names.specs.declared.judging.Judged.{Judged}
 use Rattle.names.specs.declared.judging.Judged.the-variants.{Accepted, Refused}
 use Rattle.names.proofs.frames.FrameRead as frame-type
 use Rattle.names.proofs.FrameSteps.{as-end}
-use Rattle.names.proofs.PlaceLaws.{subAt, KnownId, modules, put-here, put-elsewhere, put-inside, all-stand, nowhere, nothing-there}
+use Rattle.names.proofs.PlaceLaws.{HasPlace, Placed, known-placed, first-place, put-here, put-elsewhere, put-inside, nowhere, nothing-there, by-kind}
 use Rattle.names.proofs.FrameLaws.{partAt, holding, or-none, behind, Framed, framed, subsections-framed, framed-parts, behindJudged, judged-turn, frame-turn}
 
 -- what stops a search stops the reading
@@ -54,22 +54,22 @@ module _ {read : ℕ → Reader (Option (Headed Part))} {least : ℕ} {s : List 
     frame-shorter = let f = forward in omega (arith, f .moves, f .same-end, f .in-rest .ahead)
 
 -- Judging: whenever the loop is reached
-abbrev whole : List ℕ → Cursor → Outcome (Table Framed)
-whole s c = framed knownKind (length (left s c)) 0 (c .at) (left s c)
+abbrev whole : (ℕ → Kind) → List ℕ → Cursor → Outcome (Table Framed)
+whole kindOf s c = framed kindOf (length (left s c)) 0 (c .at) (left s c)
 
 abbrev lies : Framed → Part
 lies x = x .part
 
-pub record Turn (s : List ℕ) (c next : Cursor) (least : ℕ) (p : Places) : Type 0 where
+pub record Turn (kindOf : ℕ → Kind) (s : List ℕ) (c next : Cursor) (least : ℕ) (p : Places) : Type 0 where
   pub most : ℕ
   pub inside : Inside s next
   pub enough : next .end - next .at ≤ most
-  pub fresh : (j : ℕ) → least ≤ j → subAt p j ≡ Absent
-  pub within : (j : ℕ) → subInside s (subAt p j)
-  pub same : (j : ℕ) → KnownId j → partAt lies j none (whole s c) ≡ partAt lies j (subOf s (subAt p j)) (framed knownKind most least (next .at) (left s next))
+  pub fresh : (j : ℕ) → least ≤ j → placedAt p j ≡ Absent
+  pub within : (j : ℕ) → subInside s (placedAt p j)
+  pub same : (j : ℕ) → HasPlace j → partAt lies j none (whole kindOf s c) ≡ partAt lies j (subOf s (placedAt p j)) (framed kindOf most least (next .at) (left s next))
 
-module _ {s : List ℕ} {c : Cursor} where
-  pub turn-begins : Inside s c → Turn s c c 0 nowhere
+module _ {kindOf : ℕ → Kind} {s : List ℕ} {c : Cursor} where
+  pub turn-begins : Inside s c → Turn kindOf s c c 0 nowhere
   turn-begins i = record {
     most = length (left s c);
     inside = i;
@@ -79,42 +79,44 @@ module _ {s : List ℕ} {c : Cursor} where
     same = λ j k. rw (nothing-there j) refl;
   }
 
-  module _ {next : Cursor} {least : ℕ} {p : Places} {x : FrameRead} (t : Turn s c next least p) (f : FrameReads (subsection knownKind) least s next x) where
-    opened : (j : ℕ) → KnownId j → partAt lies j none (whole s c) ≡ andThen (subsection knownKind least (next .at) (left s next)) (behindJudged knownKind j (subOf s (subAt p j)) (t .most - 1))
-    opened j k = t .same j k ∙ judged-turn knownKind j (subOf s (subAt p j)) (t .most) least (next .at) (left s next) (omega (arith, t .enough, length-slice (next .at) (next .end) s (t .inside .within)))
+  module _ {next : Cursor} {least : ℕ} {p : Places} {x : FrameRead} (t : Turn kindOf s c next least p) (f : FrameReads (subsection kindOf) least s next x) where
+    opened : (j : ℕ) → HasPlace j → partAt lies j none (whole kindOf s c) ≡ andThen (subsection kindOf least (next .at) (left s next)) (behindJudged kindOf j (subOf s (placedAt p j)) (t .most - 1))
+    opened j k = t .same j k ∙ judged-turn kindOf j (subOf s (placedAt p j)) (t .most) least (next .at) (left s next) (omega (arith, t .enough, length-slice (next .at) (next .end) s (t .inside .within)))
 
-    pub turn-refused : {r : Refusal} → x ≡ NoFrame r → Judges s (c .at) (left s c) (Refused r)
+    pub turn-refused : {r : Refusal} → x ≡ NoFrame r → Judges kindOf s (c .at) (left s c) (Refused r)
     unfolding judgeNames payload
     turn-refused {r} e =
-        let halted : whole s c ≡ stop (numberOf (r .reason)) (r .offset .0) = stopped lies 0 (whole s c) (opened 0 modules ∙ rw (← rw e at (f .means))) in
-        record { says = rw (subsections-framed knownKind (length (left s c)) 0 (c .at) (left s c), halted) }
+        let halted : whole kindOf s c ≡ stop (numberOf (r .reason)) (r .offset .0) = stopped lies 0 (whole kindOf s c) (opened 0 first-place ∙ rw (← rw e at (f .means))) in
+        record { says = rw (subsections-framed kindOf (length (left s c)) 0 (c .at) (left s c), halted) }
 
-    pub turn-ends : tagOf frame-type.the-type x ≡ 1 → Judges s (c .at) (left s c) (Accepted p)
+    pub turn-ends : Placed kindOf → tagOf frame-type.the-type x ≡ 1 → Judges kindOf s (c .at) (left s c) (Accepted p)
     unfolding judgeNames payload judgeFrames
-    turn-ends h =
-        let ends : (j : ℕ) → KnownId j → partAt lies j none (whole s c) ≡ got (subOf s (subAt p j)) (next .at) [] = λ j k. opened j k ∙ rw (← rw (as-end x h) at (f .means)) in
-        inTurn (whole s c) _ (ends 0 modules) λ all o rest e e′.
+    turn-ends placed h =
+        let ends : (j : ℕ) → HasPlace j → partAt lies j none (whole kindOf s c) ≡ got (subOf s (placedAt p j)) (next .at) [] = λ j k. opened j k ∙ rw (← rw (as-end x h) at (f .means)) in
+        inTurn (whole kindOf s c) _ (ends 0 first-place) λ all o rest e e′.
         record {
           says = record {
             held = mapTable (λ y. y .content) all;
             lying = mapTable lies all;
-            judged = rw (subsections-framed knownKind (length (left s c)) 0 (c .at) (left s c), e);
-            framed = rw (framed-parts knownKind (length (left s c)) 0 (c .at) (left s c) e .0);
-            all-stand = all-stand (λ j k. record { is = sym (lookup-map lies j all ∙ got-value (rw e at (ends j k))); inside = t .within j });
+            judged = rw (subsections-framed kindOf (length (left s c)) 0 (c .at) (left s c), e);
+            framed = rw (framed-parts kindOf (length (left s c)) 0 (c .at) (left s c) e .0);
+            all-stand = λ j. by-kind (kindOf j) (lookup j (mapTable lies all))
+                (λ k q. rw (q, placed .kept-has-none j k p) (record { is = refl; inside = tt }))
+                (λ n q. rw q (record { is = sym (lookup-map lies j all ∙ got-value (rw e at (ends j (placed .known-has j n)))); inside = t .within j }));
           };
         }
 
     module _ {id : ℕ} {part after : Cursor} {u : Places} (e : x ≡ Frame id part after) (put : Puts p id part u) where
-      held-then : (j : ℕ) → KnownId j → holding j (subOf s (subAt p j)) id (partOf s part) ≡ subOf s (subAt u j)
+      held-then : (j : ℕ) → HasPlace j → holding j (subOf s (placedAt p j)) id (partOf s part) ≡ subOf s (placedAt u j)
       held-then j k =
           byTest (eqb j id)
           (λ q. let is = eqb-true j id q in
           let none-yet = t .fresh j (omega (arith, forward f e .above)) in
-          let here : subAt u j ≡ At part = rw is (put-here put (rw is at k)) in
+          let here : placedAt u j ≡ At part = rw is (put-here put (rw is at k)) in
           rw (q, none-yet, here))
           (λ q. rw (q, or-none, put-elsewhere put j (eqb-false j id q)))
 
-      pub turn-next : Turn s c after (id + 1) u
+      pub turn-next : Turn kindOf s c after (id + 1) u
       turn-next =
           let far = forward f e in
           record {
@@ -126,11 +128,11 @@ module _ {s : List ℕ} {c : Cursor} where
             same = λ j k. opened j k ∙ rw (← rw e at (f .means), held-then j k, add-one);
           }
 
-pub ruleset judge-turns = (turn-begins, turn-refused, turn-ends, turn-next, frame-shorter, needs)
+pub ruleset judge-turns = (turn-begins, turn-refused, turn-ends, known-placed, turn-next, frame-shorter, needs)
 
 -- all of what was lent
-pub judge-all : {s : List ℕ} {r : Judged} → Judges s 0 (left s (record { at = 0; end = length s })) r → Judges s 0 s r
-judge-all {s} j = rw (take-length s) at j
+pub judge-all : {kindOf : ℕ → Kind} {s : List ℕ} {r : Judged} → Judges kindOf s 0 (left s (record { at = 0; end = length s })) r → Judges kindOf s 0 s r
+judge-all {s = s} j = rw (take-length s) at j
 
 pub all-inside : {s : List ℕ} → Inside s (record { at = 0; end = length s })
 all-inside = record { ahead = omega arith; within = omega arith }
@@ -157,7 +159,7 @@ as-refused End h = absurd (omega arith)
 as-refused (NoFrame r) h = (r, refl)
 
 -- what an accepted payload has there
-finds : {s : List ℕ} (c : Cursor) {id : ℕ} (sub : Sub) → ((f : Table Part) (o : ℕ) (rest : List ℕ) → wholeFrames s c ≡ got f o rest → Stands s sub (lookup id f)) → Finds s (c .at) (left s c) id sub
+finds : {s : List ℕ} (c : Cursor) {id : ℕ} (sub : Held) → ((f : Table Part) (o : ℕ) (rest : List ℕ) → wholeFrames s c ≡ got f o rest → Stands s sub (lookup id f)) → Finds s (c .at) (left s c) id sub
 unfolding judgeFrames
 finds {s} c sub h = record { stands = λ f e. judged (wholeFrames s c) e λ o rest e₁. h f o rest e₁ }
 

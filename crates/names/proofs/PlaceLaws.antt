@@ -4,62 +4,37 @@ use mathlib.Core.Bool.{Bool, true, false, cond}
 use mathlib.Core.List.{List}
 use mathlib.Core.Option.{Option, none, some}
 use mathlib.Core.Path.{_≡_, refl, sym}
+use native.Mathlib.Omega.{arith}
 use borrow.Author.Needs.{needs}
 use borrow.Author.Tests.{eqb-true, eqb-false, eq-eqb, ne-eqb}
 use lib.Dec.{eqb}
 use Rattle.format.specs.Options.{mapSome}
 use Rattle.format.specs.Parts.{Part}
 use Rattle.format.specs.Tables.{Table, nil, row, lookup}
+use Rattle.format.specs.Names.{Kind, oneName, nameMap, indirectMap, kept, known, knownKind}
 use Rattle.format.specs.Laws.Outcomes.{byTest}
+use Rattle.format.specs.Laws.Options.{not-some, some-is, byOption}
 use Rattle.reading.specs.Cursors.{Inside}
 use Rattle.reading.specs.declared.Cursor.{Cursor}
-use Rattle.names.specs.Places.{subInside, Stands, AllStand, placesOf, replaced, Puts}
-use Rattle.names.specs.declared.places.Sub.{Sub}
-use Rattle.names.specs.declared.places.Sub.the-variants.{Absent, At}
+use Rattle.names.specs.Places.{subInside, placesOf, orAbsent, placedAt, unlessKept, replaced, Puts}
+use Rattle.tables.specs.declared.Held.{Held}
+use Rattle.tables.specs.declared.Held.the-variants.{Nothing as Absent, Part as At}
 use Rattle.names.specs.declared.places.Places.{Places}
 
--- with one more put in
-module _ {p : Places} {id : ℕ} {part : Cursor} where
-  pub put-module : id ≡ 0 → Puts p id part (record { «module» = At part; functions = p .functions; locals = p .locals; types = p .types; fields = p .fields; tags = p .tags })
+-- with one more put in: an id without a place changes nothing, and gives none
+module _ (p : Places) {id : ℕ} (a : id ≡ 0 → ⊥) (b : id ≡ 1 → ⊥) (c : id ≡ 2 → ⊥) (d : id ≡ 4 → ⊥) (e : id ≡ 10 → ⊥) (f : id ≡ 11 → ⊥) where
+  pub put-none : {part : Cursor} → Puts p id part p
   unfolding placesOf replaced
-  put-module e = record { says = rw e }
-
-  pub put-functions : id ≡ 1 → Puts p id part (record { «module» = p .module; functions = At part; locals = p .locals; types = p .types; fields = p .fields; tags = p .tags })
-  unfolding placesOf replaced
-  put-functions e = record { says = rw e }
-
-  pub put-locals : id ≡ 2 → Puts p id part (record { «module» = p .module; functions = p .functions; locals = At part; types = p .types; fields = p .fields; tags = p .tags })
-  unfolding placesOf replaced
-  put-locals e = record { says = rw e }
-
-  pub put-types : id ≡ 4 → Puts p id part (record { «module» = p .module; functions = p .functions; locals = p .locals; types = At part; fields = p .fields; tags = p .tags })
-  unfolding placesOf replaced
-  put-types e = record { says = rw e }
-
-  pub put-fields : id ≡ 10 → Puts p id part (record { «module» = p .module; functions = p .functions; locals = p .locals; types = p .types; fields = At part; tags = p .tags })
-  unfolding placesOf replaced
-  put-fields e = record { says = rw e }
-
-  pub put-tags : id ≡ 11 → Puts p id part (record { «module» = p .module; functions = p .functions; locals = p .locals; types = p .types; fields = p .fields; tags = At part })
-  unfolding placesOf replaced
-  put-tags e = record { says = rw e }
-
-  pub put-none : (id ≡ 0 → ⊥) → (id ≡ 1 → ⊥) → (id ≡ 2 → ⊥) → (id ≡ 4 → ⊥) → (id ≡ 10 → ⊥) → (id ≡ 11 → ⊥) → Puts p id part p
-  unfolding placesOf replaced
-  put-none a b c d e f = record { says = rw (other 0 a, other 1 b, other 2 c, other 4 d, other 10 e, other 11 f) }
+  put-none = record { says = rw (other 0 a, other 1 b, other 2 c, other 4 d, other 10 e, other 11 f) }
     where
       other : (k : ℕ) → (id ≡ k → ⊥) → eqb k id ≡ false
       other k n = ne-eqb k id (λ e. n (sym e))
 
-pub ruleset put-steps = (put-module, put-functions, put-locals, put-types, put-fields, put-tags, put-none, needs)
+  pub place-none : Absent ≡ placedAt p id
+  unfolding placedAt placesOf lookup
+  place-none = rw (ne-eqb id 0 a, ne-eqb id 1 b, ne-eqb id 2 c, ne-eqb id 4 d, ne-eqb id 10 e, ne-eqb id 11 f)
 
--- the place of an id
-abbrev orAbsent : Option Sub → Sub
-orAbsent none = Absent
-orAbsent (some sub) = sub
-
-unfoldable pub subAt : Places → ℕ → Sub
-subAt p j = orAbsent (lookup j (placesOf p))
+pub ruleset put-steps = (put-none, place-none, needs)
 
 lookup-replaced : {A : Type 0} (j k : ℕ) (v : A) (t : Table A) → lookup j (replaced k v t) ≡ cond (eqb j k) (mapSome (λ _. v) (lookup j t)) (lookup j t)
 unfolding lookup replaced
@@ -69,64 +44,94 @@ lookup-replaced j k v (row i w t) =
     (λ e. rw (e, eqb-true j i e) (byTest (eqb i k) (λ q. rw q) (λ q. rw q)))
     (λ e. rw e (lookup-replaced j k v t))
 
--- an id that has a place
-pub data KnownId : ℕ → Type 0 where
-  modules : KnownId 0
-  functions : KnownId 1
-  locals : KnownId 2
-  types : KnownId 4
-  fields : KnownId 10
-  tags : KnownId 11
+-- What is known is not kept
+pub name-known : oneName ≡ kept → ⊥
+name-known e = let z : _≡_ {A = ℕ} 0 1 = cc in omega arith
 
-there : {j : ℕ} (p : Places) → KnownId j → (sub : Sub) × (lookup j (placesOf p) ≡ some sub)
+pub map-known : nameMap ≡ kept → ⊥
+map-known e = let z : _≡_ {A = ℕ} 0 1 = cc in omega arith
+
+pub indirect-known : indirectMap ≡ kept → ⊥
+indirect-known e = let z : _≡_ {A = ℕ} 0 1 = cc in omega arith
+
+-- A table of ids whose ids are those of the places, and none of them kept
+data PlacedRows : Table Kind → Table Held → Type 0 where
+  noRows : PlacedRows nil nil
+  oneRow : {id : ℕ} {kind : Kind} {held : Held} {t : Table Kind} {u : Table Held} → (kind ≡ kept → ⊥) → PlacedRows t u → PlacedRows (row id kind t) (row id held u)
+
+row-place : (id : ℕ) {t : Table Kind} {u : Table Held} {kind : Kind} → PlacedRows t u → lookup id t ≡ some kind → (held : Held) × (lookup id u ≡ some held)
+unfolding lookup
+row-place id noRows e = absurd (not-some e)
+row-place id (oneRow {id = i} {held = held} n s) e = byTest (eqb id i) (λ t. (held, rw t)) (λ t. rw t (row-place id s (rw t at e)))
+
+no-place : (id : ℕ) {t : Table Kind} {u : Table Held} → PlacedRows t u → lookup id t ≡ none → lookup id u ≡ none
+unfolding lookup
+no-place id noRows e = refl
+no-place id (oneRow {id = i} n s) e = byTest (eqb id i) (λ t. absurd (not-some (sym (rw t at e)))) (λ t. rw t (no-place id s (rw t at e)))
+
+row-known : (id : ℕ) {t : Table Kind} {u : Table Held} {kind : Kind} → PlacedRows t u → lookup id t ≡ some kind → kind ≡ kept → ⊥
+unfolding lookup
+row-known id noRows e = absurd (not-some e)
+row-known id (oneRow {id = i} n s) e = byTest (eqb id i) (λ t. rw (← some-is (rw t at e)) n) (λ t. row-known id s (rw t at e))
+
+-- Which ids have a place: those that a table of ids knows
+abbrev pub HasPlace : ℕ → Type 0
+HasPlace id = (p : Places) → (held : Held) × (lookup id (placesOf p) ≡ some held)
+
+pub record Placed (kindOf : ℕ → Kind) : Type 0 where
+  pub known-has : (id : ℕ) → (kindOf id ≡ kept → ⊥) → HasPlace id
+  pub kept-has-none : (id : ℕ) → kindOf id ≡ kept → (p : Places) → placedAt p id ≡ Absent
+
+known-places : (p : Places) → PlacedRows known (placesOf p)
+unfolding known placesOf
+known-places p = oneRow name-known (oneRow map-known (oneRow indirect-known (oneRow map-known (oneRow indirect-known (oneRow map-known noRows)))))
+
+pub known-placed : Placed knownKind
+unfolding knownKind placedAt
+known-placed = record {
+  known-has = λ id n p. byOption (lookup id known) (λ e. absurd (n (rw e))) (λ k e. row-place id (known-places p) e);
+  kept-has-none = λ id n p. byOption (lookup id known) (λ e. rw (no-place id (known-places p) e)) (λ k e. absurd (row-known id (known-places p) e (rw e at n)));
+}
+
+pub first-place : HasPlace 0
 unfolding placesOf lookup
-there p modules = (_, refl)
-there p functions = (_, refl)
-there p locals = (_, refl)
-there p types = (_, refl)
-there p fields = (_, refl)
-there p tags = (_, refl)
+first-place p = (p .module, refl)
 
 module _ {p r : Places} {id : ℕ} {part : Cursor} (put : Puts p id part r) where
-  pub put-here : KnownId id → subAt r id ≡ At part
-  unfolding subAt
-  put-here k = let (sub, e) = there p k in rw (put .says, lookup-replaced id id (At part) (placesOf p), eq-eqb id id refl, e)
+  pub put-here : HasPlace id → placedAt r id ≡ At part
+  unfolding placedAt
+  put-here k = let (held, e) = k p in rw (put .says, lookup-replaced id id (At part) (placesOf p), eq-eqb id id refl, e)
 
-  pub put-elsewhere : (j : ℕ) → (j ≡ id → ⊥) → subAt r j ≡ subAt p j
-  unfolding subAt
+  pub put-elsewhere : (j : ℕ) → (j ≡ id → ⊥) → placedAt r j ≡ placedAt p j
+  unfolding placedAt
   put-elsewhere j n = rw (put .says, lookup-replaced j id (At part) (placesOf p), ne-eqb j id n)
 
-  pub put-inside : (s : List ℕ) → ((j : ℕ) → subInside s (subAt p j)) → Inside s part → (j : ℕ) → subInside s (subAt r j)
-  unfolding subAt
+  pub put-inside : (s : List ℕ) → ((j : ℕ) → subInside s (placedAt p j)) → Inside s part → (j : ℕ) → subInside s (placedAt r j)
+  unfolding placedAt
   put-inside s h i j =
       byTest (eqb j id)
       (λ e. rw (put .says, lookup-replaced j id (At part) (placesOf p), e) (either (lookup j (placesOf p))))
       (λ e. rw (put-elsewhere j (eqb-false j id e)) (h j))
     where
-      either : (x : Option Sub) → subInside s (orAbsent (mapSome (λ _. At part) x))
+      either : (x : Option Held) → subInside s (orAbsent (mapSome (λ _. At part) x))
       either none = tt
-      either (some sub) = i
-
--- each place by itself
-pub all-stand : {s : List ℕ} {p : Places} {f : Table Part} → ((j : ℕ) → KnownId j → Stands s (subAt p j) (lookup j f)) → AllStand s p f
-unfolding subAt placesOf lookup
-all-stand h = record {
-  module-stands = h 0 modules;
-  functions-stand = h 1 functions;
-  locals-stand = h 2 locals;
-  types-stand = h 4 types;
-  fields-stand = h 10 fields;
-  tags-stand = h 11 tags;
-}
+      either (some held) = i
 
 -- before the first is put in
 abbrev pub nowhere : Places
 nowhere = record { «module» = Absent; functions = Absent; locals = Absent; types = Absent; fields = Absent; tags = Absent }
 
-pub nothing-there : (j : ℕ) → subAt nowhere j ≡ Absent
-unfolding subAt placesOf lookup
+pub nothing-there : (j : ℕ) → placedAt nowhere j ≡ Absent
+unfolding placedAt placesOf lookup
 nothing-there j = skip (eqb j 0) _ (skip (eqb j 1) _ (skip (eqb j 2) _ (skip (eqb j 4) _ (skip (eqb j 10) _ (skip (eqb j 11) none refl)))))
   where
-    skip : (b : Bool) (x : Option Sub) → orAbsent x ≡ Absent → orAbsent (cond b (some Absent) x) ≡ Absent
+    skip : (b : Bool) (x : Option Held) → orAbsent x ≡ Absent → orAbsent (cond b (some Absent) x) ≡ Absent
     skip true x e = refl
     skip false x e = e
+
+-- An id is kept or it is known
+pub by-kind {ℓ} : {C : Type ℓ} (kind : Kind) (found : Option Part) → (kind ≡ kept → unlessKept kind found ≡ none → C) → ((kind ≡ kept → ⊥) → unlessKept kind found ≡ found → C) → C
+by-kind oneName found k n = n name-known refl
+by-kind nameMap found k n = n map-known refl
+by-kind indirectMap found k n = n indirect-known refl
+by-kind kept found k n = k refl refl

@@ -14,47 +14,53 @@ use Rattle.reading.specs.declared.Cursor.{Cursor}
 use Rattle.reading.proofs.Same.{same-cursor, same-part}
 use Rattle.names.specs.Contents.{kindMeant}
 use Rattle.names.specs.Frames.{Headed, FrameReads}
-use Rattle.names.specs.Places.{subOf, subInside, Stands, AllStand, Accepts, Judges, placesOf, Puts}
+use Rattle.names.specs.Places.{subOf, subInside, Stands, placesOf, orAbsent, placedAt, Accepts, Judges, Puts}
 use Rattle.names.specs.declared.kinds.Kind.{Kind}
 use Rattle.names.specs.declared.kinds.Kind.the-variants.{OneName, NameMap, IndirectMap, Kept}
 use Rattle.names.specs.declared.frames.FrameRead.{FrameRead}
 use Rattle.names.specs.declared.frames.FrameRead.the-variants.{Frame, End, Refused as NoFrame}
-use Rattle.names.specs.declared.places.Sub.{Sub}
-use Rattle.names.specs.declared.places.Sub.the-variants.{Absent, At}
+use Rattle.tables.specs.declared.Held.{Held}
+use Rattle.tables.specs.declared.Held.the-variants.{Nothing as Absent, Part as At}
 use Rattle.names.specs.declared.places.Places.{Places}
 use Rattle.names.specs.declared.judging.Judged.{Judged}
 use Rattle.names.specs.declared.judging.Judged.the-variants.{Accepted, Refused}
 
 -- places inside what was lent that stand for one part are one
-same-sub : (s : List ℕ) (a b : Sub) → subInside s a → subInside s b → subOf s a ≡ subOf s b → a ≡ b
+same-sub : (s : List ℕ) (a b : Held) → subInside s a → subInside s b → subOf s a ≡ subOf s b → a ≡ b
 same-sub s Absent Absent i j e = refl
 same-sub s Absent (At d) i j e = absurd (not-some e)
 same-sub s (At c) Absent i j e = absurd (not-some (sym e))
 same-sub s (At c) (At d) i j e = ap At (same-part c d i j (some-is e))
 
-pub stands-same : {s : List ℕ} {found : Option Part} (a b : Sub) → Stands s a found → Stands s b found → a ≡ b
+pub stands-same : {s : List ℕ} {found : Option Part} (a b : Held) → Stands s a found → Stands s b found → a ≡ b
 stands-same {s} a b i j = same-sub s a b (i .inside) (j .inside) (i .is ∙ sym (j .is))
 
-same-places : {s : List ℕ} {t : Table Part} (p q : Places) → AllStand s p t → AllStand s q t → p ≡ q
-same-places p q a b =
-    let modules = stands-same (p .module) (q .module) (a .module-stands) (b .module-stands) in
-    let functions = stands-same (p .functions) (q .functions) (a .functions-stand) (b .functions-stand) in
-    let locals = stands-same (p .locals) (q .locals) (a .locals-stand) (b .locals-stand) in
-    let types = stands-same (p .types) (q .types) (a .types-stand) (b .types-stand) in
-    let fields = stands-same (p .fields) (q .fields) (a .fields-stand) (b .fields-stand) in
-    let tags = stands-same (p .tags) (q .tags) (a .tags-stand) (b .tags-stand) in
+-- places that are one for every id are one
+same-places : (p q : Places) → ((id : ℕ) → placedAt p id ≡ placedAt q id) → p ≡ q
+unfolding placedAt placesOf lookup
+same-places p q there =
+    let modules : p .module ≡ q .module = there 0 in
+    let functions : p .functions ≡ q .functions = there 1 in
+    let locals : p .locals ≡ q .locals = there 2 in
+    let types : p .types ≡ q .types = there 4 in
+    let fields : p .fields ≡ q .fields = there 10 in
+    let tags : p .tags ≡ q .tags = there 11 in
     λ i. record { «module» = modules i; functions = functions i; locals = locals i; types = types i; fields = fields i; tags = tags i }
 
-accepts-same : {s : List ℕ} {at : ℕ} {bs : List ℕ} (p q : Places) → Accepts s at bs p → Accepts s at bs q → p ≡ q
-accepts-same {s} p q a b =
-    let one : a .lying ≡ b .lying = accepted-is (sym (a .framed) ∙ b .framed) in
-    same-places p q (subst (AllStand s p) one (a .all-stand)) (b .all-stand)
+pub placed-same : {p : Places} {id : ℕ} {part : Cursor} (a b : Places) → Puts p id part a → Puts p id part b → a ≡ b
+unfolding placedAt
+placed-same a b p q = same-places a b (λ id. ap (λ t. orAbsent (lookup id t)) (p .says ∙ sym (q .says)))
 
-pub judge-same : (s : List ℕ) (at : ℕ) (bs : List ℕ) (a b : Judged) → Judges s at bs a → Judges s at bs b → a ≡ b
-judge-same s at bs (Accepted p) (Accepted q) i j = ap Accepted (accepts-same p q (i .says) (j .says))
-judge-same s at bs (Accepted p) (Refused r) i j = absurd (not-accepted (sym (j .says) ∙ i .says .judged))
-judge-same s at bs (Refused r) (Accepted q) i j = absurd (not-accepted (sym (i .says) ∙ j .says .judged))
-judge-same s at bs (Refused r) (Refused t) i j = ap Refused (same-judgement (sym (i .says) ∙ j .says))
+accepts-same : {kindOf : ℕ → AnyKind} {s : List ℕ} {at : ℕ} {bs : List ℕ} (p q : Places) → Accepts kindOf s at bs p → Accepts kindOf s at bs q → p ≡ q
+accepts-same {kindOf} {s} p q a b =
+    let one : a .lying ≡ b .lying = accepted-is (sym (a .framed) ∙ b .framed) in
+    same-places p q (λ id. stands-same (placedAt p id) (placedAt q id) (rw one at (a .all-stand id)) (b .all-stand id))
+
+pub judge-same : (kindOf : ℕ → AnyKind) (s : List ℕ) (at : ℕ) (bs : List ℕ) (a b : Judged) → Judges kindOf s at bs a → Judges kindOf s at bs b → a ≡ b
+judge-same kindOf s at bs (Accepted p) (Accepted q) i j = ap Accepted (accepts-same p q (i .says) (j .says))
+judge-same kindOf s at bs (Accepted p) (Refused r) i j = absurd (not-accepted (sym (j .says) ∙ i .says .judged))
+judge-same kindOf s at bs (Refused r) (Accepted q) i j = absurd (not-accepted (sym (i .says) ∙ j .says .judged))
+judge-same kindOf s at bs (Refused r) (Refused t) i j = ap Refused (same-judgement (sym (i .says) ∙ j .says))
 
 -- the kind that is meant, as the code has it
 kindOf : AnyKind → Kind
@@ -92,24 +98,3 @@ frame-same End (NoFrame r) p q = absurd (not-got (sym (p .means ∙ sym (q .mean
 frame-same (NoFrame r) (Frame k part next) p q = absurd (not-got (p .means ∙ sym (q .means)))
 frame-same (NoFrame r) End p q = absurd (not-got (p .means ∙ sym (q .means)))
 frame-same (NoFrame r) (NoFrame t) p q = ap NoFrame (same-stop (p .means ∙ sym (q .means)))
-
--- the places by id
-orAbsent : Option Sub → Sub
-orAbsent none = Absent
-orAbsent (some x) = x
-
-at-id : ℕ → Table Sub → Sub
-at-id k t = orAbsent (lookup k t)
-
-pub placed-same : {p : Places} {id : ℕ} {part : Cursor} (a b : Places) → Puts p id part a → Puts p id part b → a ≡ b
-unfolding orAbsent at-id lookup placesOf
-placed-same a b p q =
-    let e = p .says ∙ sym (q .says) in
-    let there : (k : ℕ) → at-id k (placesOf a) ≡ at-id k (placesOf b) = λ k. ap (at-id k) e in
-    let modules : a .module ≡ b .module = there 0 in
-    let functions : a .functions ≡ b .functions = there 1 in
-    let locals : a .locals ≡ b .locals = there 2 in
-    let types : a .types ≡ b .types = there 4 in
-    let fields : a .fields ≡ b .fields = there 10 in
-    let tags : a .tags ≡ b .tags = there 11 in
-    λ i. record { «module» = modules i; functions = functions i; locals = locals i; types = types i; fields = fields i; tags = tags i }

@@ -8,7 +8,8 @@ use lib.Dec.{ltb}
 use Rattle.format.specs.Reading.{Judged, accepted, judge, mapJudged, verdict}
 use Rattle.format.specs.Parts.{Part}
 use Rattle.format.specs.Names.{Kind as AnyKind, oneName, nameMap, indirectMap, kept, contents}
-use Rattle.format.specs.Questions.{Query, answerIn, answered, asPlace}
+use Rattle.format.specs.Questions.{answerIn, answered, asPlace}
+use Rattle.format.specs.declared.Query.{Query}
 use Rattle.format.specs.declared.Answer.{Answer}
 use Rattle.format.specs.declared.Answer.the-variants.{None as NoAnswer, Found as FoundAt, Refused as NotAnswered}
 use Rattle.format.specs.declared.Reason.the-variants.{LeftOver}

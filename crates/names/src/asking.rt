@@ -1,17 +1,17 @@
 // What the contents at a place answer.
 ghost use mathlib.Core.Path.{_≡_};
 ghost use Rattle.format.specs.Names.{oneName, nameMap, indirectMap, kept};
-ghost use Rattle.format.specs.Questions.{itsName, itsContents, nameOf, nameWithin};
+ghost use Rattle.format.specs.declared.Query.the-variants.{ItsName, ItsContents, NameOf, NameWithin};
 ghost use Rattle.names.specs.Places.{subInside, KnownAt, AsksAt, refusalIn};
 use crate::contents::ended;
 use crate::contents::one_name;
 use crate::judging::Judged;
-use crate::places::Sub;
 use format::Answer;
 use format::Offset;
 use format::Place;
 use format::Reason;
 use format::Refusal;
+use tables::Held;
 use tables::Item;
 
 // The refusal of a judgement that is not accepted.
@@ -28,46 +28,46 @@ pub fn refusal_of(judged: Judged) -> Refusal
 }
 
 // The one name there.
-pub fn the_name(s: &[u8], place: Sub) -> Answer
+pub fn the_name(s: &[u8], place: Held) -> Answer
     requires { ⌜ subInside (now s) place ⌝ }
-    ensures { λ r. ⌜ AsksAt oneName itsName (now (s .entry)) place r ⌝ }
+    ensures { λ r. ⌜ AsksAt oneName ItsName (now (s .entry)) place r ⌝ }
 {
     match place {
-        Sub::Absent => Answer::None,
-        Sub::At(part) => one_name(s, part),
+        Held::Nothing => Answer::None,
+        Held::Part(part) => one_name(s, part),
     }
 }
 
 // The name at `key` of the name map there. It was accepted, so its text is not looked at again.
-pub fn named(s: &[u8], place: Sub, key: u32) -> Answer
+pub fn named(s: &[u8], place: Held, key: u32) -> Answer
     requires { ⌜ KnownAt nameMap (now s) place ⌝ }
-    ensures { λ r. ⌜ AsksAt nameMap (nameOf key) (now (s .entry)) place r ⌝ }
+    ensures { λ r. ⌜ AsksAt nameMap (NameOf key) (now (s .entry)) place r ⌝ }
 {
     match place {
-        Sub::Absent => Answer::None,
-        Sub::At(part) => ended(tables::table(part, s, Item::Data, key)),
+        Held::Nothing => Answer::None,
+        Held::Part(part) => ended(tables::table(part, s, Item::Data, key)),
     }
 }
 
 // The name at `inner` in the map at `key` of the indirect map there, likewise.
-pub fn named_within(s: &[u8], place: Sub, key: u32, inner: u32) -> Answer
+pub fn named_within(s: &[u8], place: Held, key: u32, inner: u32) -> Answer
     requires { ⌜ KnownAt indirectMap (now s) place ⌝ }
-    ensures { λ r. ⌜ AsksAt indirectMap (nameWithin key inner) (now (s .entry)) place r ⌝ }
+    ensures { λ r. ⌜ AsksAt indirectMap (NameWithin key inner) (now (s .entry)) place r ⌝ }
 {
     match place {
-        Sub::Absent => Answer::None,
-        Sub::At(part) => ended(tables::tables(part, s, Item::Data, key, inner)),
+        Held::Nothing => Answer::None,
+        Held::Part(part) => ended(tables::tables(part, s, Item::Data, key, inner)),
     }
 }
 
 // All that is kept there.
-pub fn all_kept(s: &[u8], place: Sub) -> Answer
+pub fn all_kept(s: &[u8], place: Held) -> Answer
     requires { ⌜ subInside (now s) place ⌝ }
-    ensures { λ r. ⌜ AsksAt kept itsContents (now (s .entry)) place r ⌝ }
+    ensures { λ r. ⌜ AsksAt kept ItsContents (now (s .entry)) place r ⌝ }
 {
     match place {
-        Sub::Absent => Answer::None,
-        Sub::At(part) => {
+        Held::Nothing => Answer::None,
+        Held::Part(part) => {
             let at = part.at;
             Answer::Found(Place {
                 offset: Offset(at),

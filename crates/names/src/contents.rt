@@ -1,7 +1,7 @@
 // A subsection's contents, judged and asked in one pass. They fill their part exactly.
 ghost use mathlib.Core.Path.{_≡_};
 ghost use Rattle.format.specs.Names.{oneName, nameMap, indirectMap};
-ghost use Rattle.format.specs.Questions.{itsName, nameOf, nameWithin};
+ghost use Rattle.format.specs.declared.Query.the-variants.{ItsName, NameOf, NameWithin};
 ghost use Rattle.reading.specs.Cursors.{Inside};
 ghost use Rattle.names.specs.Contents.{kindMeant, Asks, Rules, filledBy, endOf, Ordered};
 use crate::kinds::Kind;
@@ -52,7 +52,7 @@ pub fn ended(found: Seek) -> Answer
 // One name.
 pub fn one_name(s: &[u8], part: Cursor) -> Answer
     requires { ⌜ Inside (now s) part ⌝ }
-    ensures { λ r. ⌜ Asks oneName itsName (now (s .entry)) part r ⌝ }
+    ensures { λ r. ⌜ Asks oneName ItsName (now (s .entry)) part r ⌝ }
 {
     match part.name(s) {
         PartRead::Refused(r) => Answer::Refused(r),
@@ -63,7 +63,7 @@ pub fn one_name(s: &[u8], part: Cursor) -> Answer
 // A name map: the name at `key`.
 pub fn name_map(s: &[u8], part: Cursor, key: u32) -> Answer
     requires { ⌜ Inside (now s) part ⌝ }
-    ensures { λ r. ⌜ Asks nameMap (nameOf key) (now (s .entry)) part r ⌝ }
+    ensures { λ r. ⌜ Asks nameMap (NameOf key) (now (s .entry)) part r ⌝ }
 {
     ended(tables::table(part, s, Item::Name, key))
 }
@@ -71,7 +71,7 @@ pub fn name_map(s: &[u8], part: Cursor, key: u32) -> Answer
 // An indirect name map: the name at `inner` in the map at `key`.
 pub fn indirect_map(s: &[u8], part: Cursor, key: u32, inner: u32) -> Answer
     requires { ⌜ Inside (now s) part ⌝ }
-    ensures { λ r. ⌜ Asks indirectMap (nameWithin key inner) (now (s .entry)) part r ⌝ }
+    ensures { λ r. ⌜ Asks indirectMap (NameWithin key inner) (now (s .entry)) part r ⌝ }
 {
     ended(tables::tables(part, s, Item::Name, key, inner))
 }

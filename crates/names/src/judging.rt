@@ -1,14 +1,15 @@
 // Judges a name payload, whole and left to right.
 ghost use Rattle.reading.specs.Cursors.{Inside, left};
+ghost use Rattle.format.specs.Names.{knownKind};
 ghost use Rattle.names.specs.Places.{Judges, Finds};
 use crate::frames::FrameRead;
 use crate::frames::frame;
 use crate::frames::subsection;
 use crate::places::Places;
-use crate::places::Sub;
 use crate::places::placed;
 use format::Refusal;
 use reading::Cursor;
+use tables::Held;
 
 pub enum Judged {
     Accepted(Places),
@@ -16,18 +17,18 @@ pub enum Judged {
 }
 
 const NOWHERE: Places = Places {
-    module: Sub::Absent,
-    functions: Sub::Absent,
-    locals: Sub::Absent,
-    types: Sub::Absent,
-    fields: Sub::Absent,
-    tags: Sub::Absent,
+    module: Held::Nothing,
+    functions: Held::Nothing,
+    locals: Held::Nothing,
+    types: Held::Nothing,
+    fields: Held::Nothing,
+    tags: Held::Nothing,
 };
 
 // A payload that lies in what was lent.
 pub fn judge_in(s: &[u8], c: Cursor) -> Judged
     requires { ⌜ Inside (now s) c ⌝ }
-    ensures { λ r. ⌜ Judges (now (s .entry)) (c .at) (left (now (s .entry)) c) r ⌝ }
+    ensures { λ r. ⌜ Judges knownKind (now (s .entry)) (c .at) (left (now (s .entry)) c) r ⌝ }
 {
     let mut next = c;
     let mut least: u32 = 0;
@@ -51,7 +52,7 @@ pub fn judge_in(s: &[u8], c: Cursor) -> Judged
 
 // A payload that is all that was lent.
 pub fn judge(p: &[u8]) -> Judged
-    ensures { λ r. ⌜ Judges (now (p .entry)) 0 (now (p .entry)) r ⌝ }
+    ensures { λ r. ⌜ Judges knownKind (now (p .entry)) 0 (now (p .entry)) r ⌝ }
 {
     judge_in(
         p,
@@ -63,7 +64,7 @@ pub fn judge(p: &[u8]) -> Judged
 }
 
 // Where the subsection with an id lies in an accepted payload.
-pub fn find(s: &[u8], c: Cursor, id: u8) -> Sub
+pub fn find(s: &[u8], c: Cursor, id: u8) -> Held
     requires { ⌜ Inside (now s) c ⌝ }
     ensures { λ r. ⌜ Finds (now (s .entry)) (c .at) (left (now (s .entry)) c) id r ⌝ }
 {
@@ -72,14 +73,14 @@ pub fn find(s: &[u8], c: Cursor, id: u8) -> Sub
     loop {
         match frame(s, next, least) {
             FrameRead::Refused(_) => {
-                return Sub::Absent;
+                return Held::Nothing;
             }
             FrameRead::End => {
-                return Sub::Absent;
+                return Held::Nothing;
             }
             FrameRead::Frame(k, part, after) => {
                 if k == id {
-                    return Sub::At(part);
+                    return Held::Part(part);
                 }
                 next = after;
                 least = (k as u32) + 1;

@@ -2,19 +2,12 @@
 ghost use mathlib.Core.Path.{_≡_};
 ghost use Rattle.format.specs.Names.{knownKind};
 ghost use Rattle.names.specs.Contents.{kindMeant};
-
-// The known ids.
-pub const MODULE_NAME: u8 = 0;
-
-pub const FUNCTION_NAMES: u8 = 1;
-
-pub const LOCAL_NAMES: u8 = 2;
-
-pub const TYPE_NAMES: u8 = 4;
-
-pub const FIELD_NAMES: u8 = 10;
-
-pub const TAG_NAMES: u8 = 11;
+use format::FIELD_NAMES;
+use format::FUNCTION_NAMES;
+use format::LOCAL_NAMES;
+use format::MODULE_NAME;
+use format::TAG_NAMES;
+use format::TYPE_NAMES;
 
 pub enum Kind {
     OneName,

@@ -1,16 +1,14 @@
 // The name payload: judged whole, and asked. No call has a precondition.
+ghost use Prim.Native.Nat.{_+_};
 ghost use mathlib.Core.Path.{_≡_};
-ghost use Rattle.format.specs.Questions.{answered, asPlace, ask, moduleName, functionName, typeName, tagName, localName, fieldName, keptContents};
+ghost use Rattle.format.specs.Names.{knownKind};
+ghost use Rattle.format.specs.Questions.{answered, asPlace, asBytes, startOf, ask};
 use format::Answer;
-use format::FieldIndex;
-use format::FunctionIndex;
-use format::LocalIndex;
-use format::TagIndex;
-use format::TypeIndex;
+use format::Question;
 use reading::Cursor;
+use reading::taking::taken;
 
 pub mod asking;
-pub mod bytes;
 pub mod contents;
 pub mod frames;
 pub mod judging;
@@ -18,79 +16,21 @@ pub mod kinds;
 pub mod places;
 pub mod within;
 
-// The module's name.
-pub fn module_name(p: &[u8]) -> Answer
-    ensures { λ r. ⌜ answered r ≡ asPlace (ask moduleName (now (p .entry))) ⌝ }
+// A question to a payload.
+pub fn ask(p: &[u8], q: Question) -> Answer
+    ensures { λ r. ⌜ answered r ≡ asPlace (ask knownKind q (now (p .entry))) ⌝ }
 {
     let all = Cursor {
         at: 0,
         end: p.len(),
     };
-    within::module_name_in(p, all)
+    within::ask_in(p, all, q)
 }
 
-// A function's name.
-pub fn function_name(p: &[u8], k: FunctionIndex) -> Answer
-    ensures { λ r. ⌜ answered r ≡ asPlace (ask (functionName k) (now (p .entry))) ⌝ }
+// The bytes of what was answered, as a part of what was lent: empty, and at its start, for none and for a refusal.
+pub fn ask_bytes(p: &[u8], q: Question) -> &[u8]
+    ensures { λ r. ⌜ now r ≡ asBytes (ask knownKind q (now (p .entry))) ⌝ }
+    ensures { λ r. ⌜ r .ptr ≡ (p .entry .ptr .0, startOf (ask knownKind q (now (p .entry))) + p .entry .ptr .1) ⌝ }
 {
-    let all = Cursor {
-        at: 0,
-        end: p.len(),
-    };
-    within::function_name_in(p, all, k)
-}
-
-// A type's name.
-pub fn type_name(p: &[u8], k: TypeIndex) -> Answer
-    ensures { λ r. ⌜ answered r ≡ asPlace (ask (typeName k) (now (p .entry))) ⌝ }
-{
-    let all = Cursor {
-        at: 0,
-        end: p.len(),
-    };
-    within::type_name_in(p, all, k)
-}
-
-// A tag's name.
-pub fn tag_name(p: &[u8], k: TagIndex) -> Answer
-    ensures { λ r. ⌜ answered r ≡ asPlace (ask (tagName k) (now (p .entry))) ⌝ }
-{
-    let all = Cursor {
-        at: 0,
-        end: p.len(),
-    };
-    within::tag_name_in(p, all, k)
-}
-
-// The name of a local of a function.
-pub fn local_name(p: &[u8], f: FunctionIndex, k: LocalIndex) -> Answer
-    ensures { λ r. ⌜ answered r ≡ asPlace (ask (localName f k) (now (p .entry))) ⌝ }
-{
-    let all = Cursor {
-        at: 0,
-        end: p.len(),
-    };
-    within::local_name_in(p, all, f, k)
-}
-
-// The name of a field of a type.
-pub fn field_name(p: &[u8], t: TypeIndex, k: FieldIndex) -> Answer
-    ensures { λ r. ⌜ answered r ≡ asPlace (ask (fieldName t k) (now (p .entry))) ⌝ }
-{
-    let all = Cursor {
-        at: 0,
-        end: p.len(),
-    };
-    within::field_name_in(p, all, t, k)
-}
-
-// The contents of a subsection whose id has no meaning here; none for the ids that have one.
-pub fn kept(p: &[u8], id: u8) -> Answer
-    ensures { λ r. ⌜ answered r ≡ asPlace (ask (keptContents id) (now (p .entry))) ⌝ }
-{
-    let all = Cursor {
-        at: 0,
-        end: p.len(),
-    };
-    within::kept_in(p, all, id)
+    taken(p, ask(p, q))
 }

@@ -1,33 +1,29 @@
 // Where the known subsections lie.
-ghost use Rattle.names.specs.Places.{Puts};
-use crate::kinds::FIELD_NAMES;
-use crate::kinds::FUNCTION_NAMES;
-use crate::kinds::LOCAL_NAMES;
-use crate::kinds::MODULE_NAME;
-use crate::kinds::TAG_NAMES;
-use crate::kinds::TYPE_NAMES;
+ghost use mathlib.Core.Path.{_≡_};
+ghost use Rattle.names.specs.Places.{Puts, placedAt};
+use format::FIELD_NAMES;
+use format::FUNCTION_NAMES;
+use format::LOCAL_NAMES;
+use format::MODULE_NAME;
+use format::TAG_NAMES;
+use format::TYPE_NAMES;
 use reading::Cursor;
-
-// Where a known subsection's contents lie.
-pub enum Sub {
-    Absent,
-    At(Cursor),
-}
+use tables::Held;
 
 pub struct Places {
-    pub module: Sub,
-    pub functions: Sub,
-    pub locals: Sub,
-    pub types: Sub,
-    pub fields: Sub,
-    pub tags: Sub,
+    pub module: Held,
+    pub functions: Held,
+    pub locals: Held,
+    pub types: Held,
+    pub fields: Held,
+    pub tags: Held,
 }
 
 // The places with that of one more id, if it is a known one.
 pub fn placed(places: Places, id: u8, part: Cursor) -> Places
     ensures { λ r. ⌜ Puts places id part r ⌝ }
 {
-    let here = Sub::At(part);
+    let here = Held::Part(part);
     match id {
         MODULE_NAME => Places {
             module: here,
@@ -54,5 +50,20 @@ pub fn placed(places: Places, id: u8, part: Cursor) -> Places
             ..places
         },
         _ => places,
+    }
+}
+
+// The place of an id.
+pub fn place_of(places: Places, id: u8) -> Held
+    ensures { λ r. ⌜ r ≡ placedAt places id ⌝ }
+{
+    match id {
+        MODULE_NAME => places.module,
+        FUNCTION_NAMES => places.functions,
+        LOCAL_NAMES => places.locals,
+        TYPE_NAMES => places.types,
+        FIELD_NAMES => places.fields,
+        TAG_NAMES => places.tags,
+        _ => Held::Nothing,
     }
 }

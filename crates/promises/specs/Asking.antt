@@ -1,8 +1,8 @@
 -- Wrong lookups: one that refuses everything, one that always says none, one that takes an empty name for none, one that never refuses, one that gives every length or every refusal's offset as one number. Each question's promise rules them out, and so does that of its C call.
-use Prim.Native.Nat.{ℕ}
+use Prim.Native.Nat.{ℕ, _+_}
 use Prim.Native.String.{String}
 use mathlib.Core.Bool.{Bool, true, false}
-use mathlib.Core.List.{List, _∷_, _++_}
+use mathlib.Core.List.{List, [], _∷_, _++_, map}
 use mathlib.Core.Option.{Option, some}
 use mathlib.Core.Path.{_≡_, refl, ap, subst, _∙_}
 use lib.Dec.{eqb}
@@ -14,22 +14,20 @@ use Rattle.format.specs.Metadata.{hintOf, anyItem, hintItem, metadata, judgeMet
 use Rattle.format.specs.Names.{known, knownKind, contents, subsections, payload, judgeNames}
 use Rattle.format.specs.Numbers.{number, groups, shortest, fewest}
 use Rattle.format.specs.Options.{mapSome}
-use Rattle.format.specs.Parts.{sized, name, remaining}
-use Rattle.format.specs.Questions.{moduleName, functionName, typeName, tagName, localName, fieldName, keptContents, answer, asked, idOf, queryOf, askAt, ask, asPlace, answered}
+use Rattle.format.specs.Parts.{Part, sized, name, remaining}
+use Rattle.format.specs.Questions.{answer, asked, idOf, queryOf, askAt, ask, asPlace, answered}
+use Rattle.format.specs.declared.Question.{Question}
+use Rattle.format.specs.declared.Question.the-variants.{ModuleName, FunctionName, TypeName, TagName, LocalName, FieldName, KeptContents}
 use Rattle.format.specs.Reading.{Judged, accepted, refused}
 use Rattle.format.specs.Tables.{lookup, rows, table}
 use Rattle.format.specs.Text.{utf8, continues, following, wellFormed}
 use Rattle.format.specs.Through.{through, askThrough, metadataSection, itemOf, askMetadataThrough, askHintThrough}
 use Rattle.format.specs.Walk.{preamble, begins, greatestId, isCustom, isCode, isData, rank, custom, isCalled, nameSection, hintSection, nothing, seeing, idRules, nameRules, section, sections, framing, walk, payloadOf, payloadIn, customPayload}
 use Rattle.format.specs.declared.CodeOffset.{CodeOffset}
-use Rattle.format.specs.declared.FieldIndex.{FieldIndex}
 use Rattle.format.specs.declared.FunctionIndex.{FunctionIndex}
 use Rattle.format.specs.declared.Hint.{Hint}
 use Rattle.format.specs.declared.Hint.the-variants.{Unlikely, Likely}
-use Rattle.format.specs.declared.LocalIndex.{LocalIndex}
 use Rattle.format.specs.declared.Place.{Place}
-use Rattle.format.specs.declared.TagIndex.{TagIndex}
-use Rattle.format.specs.declared.TypeIndex.{TypeIndex}
 use Rattle.wakemiono.specs.Boundary.{wmPlace, wmHint}
 use Rattle.promises.specs.Answers.{saysPlace, place-said, saysHint, hint-said}
 use Rattle.promises.specs.Judging.{JudgesRightly, judges-rightly}
@@ -106,122 +104,141 @@ module _ {Lent : Type 0} (wanted : Lent → Judged (Option Place)) where
     c-call = answers-rightly (λ x a meets. ap saysPlace meets ∙ place-said (wanted x)) answers;
   }
 
--- The questions to a name payload. The first input that is refused is damaged behind what is asked for: in a later subsection, in a map's second entry, in an indirect map's second group
-pub record NameQuestions : Type 0 where
-  pub module-name : PlaceCalls (λ p. asPlace (ask moduleName p))
-  pub function-name : PlaceCalls (λ (x : List ℕ × FunctionIndex). asPlace (ask (functionName (x .1)) (x .0)))
-  pub type-name : PlaceCalls (λ (x : List ℕ × TypeIndex). asPlace (ask (typeName (x .1)) (x .0)))
-  pub tag-name : PlaceCalls (λ (x : List ℕ × TagIndex). asPlace (ask (tagName (x .1)) (x .0)))
-  pub local-name : PlaceCalls (λ (x : List ℕ × FunctionIndex × LocalIndex). asPlace (ask (localName (x .1) (x .2)) (x .0)))
-  pub field-name : PlaceCalls (λ (x : List ℕ × TypeIndex × FieldIndex). asPlace (ask (fieldName (x .1) (x .2)) (x .0)))
-  pub kept : PlaceCalls (λ (x : List ℕ × ℕ). asPlace (ask (keptContents (x .1)) (x .0)))
+-- One row a question to a name payload: payloads in which what is asked for is empty, and has one byte, both at `at`; one in which that byte stands behind a padded length, one further on; and two that are refused. The first of these is damaged behind what is asked for: in a later subsection, in a map's second entry, in an indirect map's second group
+pub record Tried : Type 0 where
+  pub question : Question
+  pub at : ℕ
+  pub empty : String
+  pub one : String
+  pub padded : String
+  pub byte : ℕ
+  pub bad : Refusing String
+  pub worse : Refusing String
 
-pub name-questions : NameQuestions
-unfolding hex digit number groups utf8 continues following wellFormed sized name remaining lookup rows table known knownKind contents subsections payload judgeNames answer asked idOf queryOf askAt ask asPlace
-name-questions = record {
-  module-name = place-calls _ (place-answers _
-      (finds (hex "00 01 00") 3)
-      (finds (hex "00 02 01 6D") 3)
-      (refuses (hex "00 02 01 6D 01 00") 2 6)
-      (refuses (hex "00") 2 1)
-      refl refl refl refl refl);
-  function-name = place-calls _ (place-answers _
-      (finds (hex "01 03 01 07 00", record { 0 = 7 }) 5)
-      (finds (hex "01 04 01 07 01 61", record { 0 = 7 }) 5)
-      (refuses (hex "01 07 02 07 01 61 07 01 62", record { 0 = 7 }) 11 6)
-      (refuses (hex "01 07 02 07 01 61 08 01 FF", record { 0 = 7 }) 4 8)
-      refl refl refl refl refl);
-  type-name = place-calls _ (place-answers _
-      (finds (hex "04 03 01 07 00", record { 0 = 7 }) 5)
-      (finds (hex "04 04 01 07 01 61", record { 0 = 7 }) 5)
-      (refuses (hex "04 07 02 07 01 61 07 01 62", record { 0 = 7 }) 11 6)
-      (refuses (hex "04 07 02 07 01 61 08 01 FF", record { 0 = 7 }) 4 8)
-      refl refl refl refl refl);
-  tag-name = place-calls _ (place-answers _
-      (finds (hex "0B 03 01 07 00", record { 0 = 7 }) 5)
-      (finds (hex "0B 04 01 07 01 61", record { 0 = 7 }) 5)
-      (refuses (hex "0B 07 02 07 01 61 07 01 62", record { 0 = 7 }) 11 6)
-      (refuses (hex "0B 07 02 07 01 61 08 01 FF", record { 0 = 7 }) 4 8)
-      refl refl refl refl refl);
-  local-name = place-calls _ (place-answers _
-      (finds (hex "02 05 01 03 01 00 00", record { 0 = 3 }, record { 0 = 0 }) 7)
-      (finds (hex "02 06 01 03 01 00 01 78", record { 0 = 3 }, record { 0 = 0 }) 7)
-      (refuses (hex "02 0B 02 03 01 00 01 78 03 01 00 01 79", record { 0 = 3 }, record { 0 = 0 }) 11 8)
-      (refuses (hex "02 0B 02 03 01 00 01 78 04 01 00 01 FF", record { 0 = 3 }, record { 0 = 0 }) 4 12)
-      refl refl refl refl refl);
-  field-name = place-calls _ (place-answers _
-      (finds (hex "0A 05 01 03 01 00 00", record { 0 = 3 }, record { 0 = 0 }) 7)
-      (finds (hex "0A 06 01 03 01 00 01 78", record { 0 = 3 }, record { 0 = 0 }) 7)
-      (refuses (hex "0A 0B 02 03 01 00 01 78 03 01 00 01 79", record { 0 = 3 }, record { 0 = 0 }) 11 8)
-      (refuses (hex "0A 0B 02 03 01 00 01 78 04 01 00 01 FF", record { 0 = 3 }, record { 0 = 0 }) 4 12)
-      refl refl refl refl refl);
-  kept = place-calls _ (place-answers _
-      (finds (hex "03 00", 3) 2)
-      (finds (hex "03 01 FF", 3) 2)
-      (refuses (hex "03 01 FF 03 00", 3) 9 3)
-      (refuses (hex "03 02 FF", 3) 2 1)
-      refl refl refl refl refl);
-}
+abbrev pub tried : List Tried
+tried =
+    record {
+      question = ModuleName;
+      at = 3;
+      empty = "00 01 00";
+      one = "00 02 01 6D";
+      padded = "00 03 81 00 6D";
+      byte = 0x6D;
+      bad = refuses "00 02 01 6D 01 00" 2 6;
+      worse = refuses "00" 2 1;
+    } ∷
+    record {
+      question = FunctionName (record { 0 = 7 });
+      at = 5;
+      empty = "01 03 01 07 00";
+      one = "01 04 01 07 01 61";
+      padded = "01 05 01 07 81 00 61";
+      byte = 0x61;
+      bad = refuses "01 07 02 07 01 61 07 01 62" 11 6;
+      worse = refuses "01 07 02 07 01 61 08 01 FF" 4 8;
+    } ∷
+    record {
+      question = TypeName (record { 0 = 7 });
+      at = 5;
+      empty = "04 03 01 07 00";
+      one = "04 04 01 07 01 61";
+      padded = "04 05 01 07 81 00 61";
+      byte = 0x61;
+      bad = refuses "04 07 02 07 01 61 07 01 62" 11 6;
+      worse = refuses "04 07 02 07 01 61 08 01 FF" 4 8;
+    } ∷
+    record {
+      question = TagName (record { 0 = 7 });
+      at = 5;
+      empty = "0B 03 01 07 00";
+      one = "0B 04 01 07 01 61";
+      padded = "0B 05 01 07 81 00 61";
+      byte = 0x61;
+      bad = refuses "0B 07 02 07 01 61 07 01 62" 11 6;
+      worse = refuses "0B 07 02 07 01 61 08 01 FF" 4 8;
+    } ∷
+    record {
+      question = LocalName (record { 0 = 3 }) (record { 0 = 0 });
+      at = 7;
+      empty = "02 05 01 03 01 00 00";
+      one = "02 06 01 03 01 00 01 78";
+      padded = "02 07 01 03 01 00 81 00 78";
+      byte = 0x78;
+      bad = refuses "02 0B 02 03 01 00 01 78 03 01 00 01 79" 11 8;
+      worse = refuses "02 0B 02 03 01 00 01 78 04 01 00 01 FF" 4 12;
+    } ∷
+    record {
+      question = FieldName (record { 0 = 3 }) (record { 0 = 0 });
+      at = 7;
+      empty = "0A 05 01 03 01 00 00";
+      one = "0A 06 01 03 01 00 01 78";
+      padded = "0A 07 01 03 01 00 81 00 78";
+      byte = 0x78;
+      bad = refuses "0A 0B 02 03 01 00 01 78 03 01 00 01 79" 11 8;
+      worse = refuses "0A 0B 02 03 01 00 01 78 04 01 00 01 FF" 4 12;
+    } ∷
+    record {
+      question = KeptContents 3;
+      at = 2;
+      empty = "03 00";
+      one = "03 01 FF";
+      padded = "03 81 00 FF";
+      byte = 0xFF;
+      bad = refuses "03 01 FF 03 00" 9 3;
+      worse = refuses "03 02 FF" 2 1;
+    } ∷
+    []
+
+-- What is demanded of each question of a table, and that the table shows it
+pub data Each (Demanded : Question → Type 0) : List Tried → Type 0 where
+  no-more : Each Demanded []
+  and-question : {row : Tried} {rows : List Tried} → Demanded (row .question) → Each Demanded rows → Each Demanded (row ∷ rows)
+
+-- `lend` makes what is lent of a payload, which then begins `ahead` bytes further on
+module _ (answer : Question → List ℕ → Judged (Option Part)) (lend : String → List ℕ) (ahead : ℕ) where
+  abbrev pub Asked : Question → Type 0
+  Asked q = PlaceCalls (λ p. asPlace (answer q p))
+
+  abbrev told : Tried → List (Judged (Option Place))
+  told row =
+      asPlace (answer (row .question) (lend (row .empty))) ∷
+      asPlace (answer (row .question) (lend (row .one))) ∷
+      asPlace (answer (row .question) (lend (row .bad .input))) ∷
+      asPlace (answer (row .question) (lend (row .worse .input))) ∷
+      []
+
+  abbrev stated : Tried → List (Judged (Option Place))
+  stated row =
+      accepted (some (place (ahead + row .at) 0)) ∷
+      accepted (some (place (ahead + row .at) 1)) ∷
+      refused (row .bad .number) (ahead + row .bad .offset) ∷
+      refused (row .worse .number) (ahead + row .worse .offset) ∷
+      []
+
+  abbrev apart : Tried → Bool
+  apart row = eqb (ahead + row .bad .offset) (ahead + row .worse .offset)
+
+  each-asked : (rows : List Tried) → map told rows ≡ map stated rows → map apart rows ≡ map (λ _. false) rows → Each Asked rows
+  each-asked [] e a = no-more
+  each-asked (row ∷ rows) e a =
+      and-question {row = row} (place-calls (λ p. asPlace (answer (row .question) p)) (place-answers (λ p. asPlace (answer (row .question) p))
+      (finds (lend (row .empty)) (ahead + row .at))
+      (finds (lend (row .one)) (ahead + row .at))
+      (refuses (lend (row .bad .input)) (row .bad .number) (ahead + row .bad .offset))
+      (refuses (lend (row .worse .input)) (row .worse .number) (ahead + row .worse .offset))
+      (cc) (cc) (cc) (cc) (cc))) (each-asked rows (cc) (cc))
+
+pub name-questions : Each (Asked (ask knownKind) hex 0) tried
+unfolding hex digit number groups utf8 continues following wellFormed sized name remaining lookup rows table known knownKind contents subsections payload judgeNames answer asked askAt ask asPlace
+name-questions = each-asked (ask knownKind) hex 0 tried refl refl
 
 -- The same through a module whose only section is `name`, with the payload from offset 15 on
 unfoldable pub withNames : String → List ℕ
 withNames s = preamble ++ (0 ∷ writePart (writePart nameSection ++ hex s))
 
-pub record NameQuestionsThrough : Type 0 where
-  pub module-name : PlaceCalls (λ m. asPlace (askThrough moduleName m))
-  pub function-name : PlaceCalls (λ (x : List ℕ × FunctionIndex). asPlace (askThrough (functionName (x .1)) (x .0)))
-  pub type-name : PlaceCalls (λ (x : List ℕ × TypeIndex). asPlace (askThrough (typeName (x .1)) (x .0)))
-  pub tag-name : PlaceCalls (λ (x : List ℕ × TagIndex). asPlace (askThrough (tagName (x .1)) (x .0)))
-  pub local-name : PlaceCalls (λ (x : List ℕ × FunctionIndex × LocalIndex). asPlace (askThrough (localName (x .1) (x .2)) (x .0)))
-  pub field-name : PlaceCalls (λ (x : List ℕ × TypeIndex × FieldIndex). asPlace (askThrough (fieldName (x .1) (x .2)) (x .0)))
-  pub kept : PlaceCalls (λ (x : List ℕ × ℕ). asPlace (askThrough (keptContents (x .1)) (x .0)))
-
-pub name-questions-through : NameQuestionsThrough
-unfolding withNames writePart shortest fewest ascii same preamble begins greatestId isCustom isCode isData rank custom isCalled nameSection hintSection nothing seeing idRules nameRules section sections framing walk payloadOf payloadIn customPayload through askThrough hex digit number groups utf8 continues following wellFormed sized name remaining lookup rows table known knownKind contents subsections payload judgeNames answer asked idOf queryOf askAt asPlace
-name-questions-through = record {
-  module-name = place-calls _ (place-answers _
-      (finds (withNames "00 01 00") 18)
-      (finds (withNames "00 02 01 6D") 18)
-      (refuses (withNames "00 02 01 6D 01 00") 2 21)
-      (refuses (withNames "00") 2 16)
-      refl refl refl refl refl);
-  function-name = place-calls _ (place-answers _
-      (finds (withNames "01 03 01 07 00", record { 0 = 7 }) 20)
-      (finds (withNames "01 04 01 07 01 61", record { 0 = 7 }) 20)
-      (refuses (withNames "01 07 02 07 01 61 07 01 62", record { 0 = 7 }) 11 21)
-      (refuses (withNames "01 07 02 07 01 61 08 01 FF", record { 0 = 7 }) 4 23)
-      refl refl refl refl refl);
-  type-name = place-calls _ (place-answers _
-      (finds (withNames "04 03 01 07 00", record { 0 = 7 }) 20)
-      (finds (withNames "04 04 01 07 01 61", record { 0 = 7 }) 20)
-      (refuses (withNames "04 07 02 07 01 61 07 01 62", record { 0 = 7 }) 11 21)
-      (refuses (withNames "04 07 02 07 01 61 08 01 FF", record { 0 = 7 }) 4 23)
-      refl refl refl refl refl);
-  tag-name = place-calls _ (place-answers _
-      (finds (withNames "0B 03 01 07 00", record { 0 = 7 }) 20)
-      (finds (withNames "0B 04 01 07 01 61", record { 0 = 7 }) 20)
-      (refuses (withNames "0B 07 02 07 01 61 07 01 62", record { 0 = 7 }) 11 21)
-      (refuses (withNames "0B 07 02 07 01 61 08 01 FF", record { 0 = 7 }) 4 23)
-      refl refl refl refl refl);
-  local-name = place-calls _ (place-answers _
-      (finds (withNames "02 05 01 03 01 00 00", record { 0 = 3 }, record { 0 = 0 }) 22)
-      (finds (withNames "02 06 01 03 01 00 01 78", record { 0 = 3 }, record { 0 = 0 }) 22)
-      (refuses (withNames "02 0B 02 03 01 00 01 78 03 01 00 01 79", record { 0 = 3 }, record { 0 = 0 }) 11 23)
-      (refuses (withNames "02 0B 02 03 01 00 01 78 04 01 00 01 FF", record { 0 = 3 }, record { 0 = 0 }) 4 27)
-      refl refl refl refl refl);
-  field-name = place-calls _ (place-answers _
-      (finds (withNames "0A 05 01 03 01 00 00", record { 0 = 3 }, record { 0 = 0 }) 22)
-      (finds (withNames "0A 06 01 03 01 00 01 78", record { 0 = 3 }, record { 0 = 0 }) 22)
-      (refuses (withNames "0A 0B 02 03 01 00 01 78 03 01 00 01 79", record { 0 = 3 }, record { 0 = 0 }) 11 23)
-      (refuses (withNames "0A 0B 02 03 01 00 01 78 04 01 00 01 FF", record { 0 = 3 }, record { 0 = 0 }) 4 27)
-      refl refl refl refl refl);
-  kept = place-calls _ (place-answers _
-      (finds (withNames "03 00", 3) 17)
-      (finds (withNames "03 01 FF", 3) 17)
-      (refuses (withNames "03 01 FF 03 00", 3) 9 18)
-      (refuses (withNames "03 02 FF", 3) 2 16)
-      refl refl refl refl refl);
-}
+pub name-questions-through : Each (Asked (askThrough knownKind) withNames 15) tried
+unfolding withNames writePart shortest fewest ascii same preamble begins greatestId isCustom isCode isData rank custom isCalled nameSection hintSection nothing seeing idRules nameRules section sections framing walk payloadOf payloadIn customPayload through askThrough hex digit number groups utf8 continues following wellFormed sized name remaining lookup rows table known knownKind contents subsections payload judgeNames answer asked askAt asPlace
+name-questions-through = each-asked (askThrough knownKind) withNames 15 tried refl refl
 
 -- The question for code metadata: the second function, or the second item, is damaged. Through a module it is put to `metadata.code.x`, whose payload begins at 26
 unfoldable pub withData : String → List ℕ

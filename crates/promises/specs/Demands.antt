@@ -15,14 +15,14 @@ use Rattle.format.specs.Bytes.{Bytes, ascii}
 -- WHAT COMES BACK. Each call answers with a record of four numbers: `kind` (0 none, 1 found, 2 refused, 3 unlikely, 4 likely), `code`, `offset` and `length`. `wmNone` is four times 0; `wmFound code offset length` is the answer of kind 1 with these; `wmRefused n at` is the answer of kind 2 with the refusal's number n as its code, its offset `at` and the length 0.
 use Rattle.wakemiono.specs.declared.WmAnswer.{WmAnswer}
 use Rattle.wakemiono.specs.Boundary.{wmNone, wmFound, wmRefused}
--- WHAT THE RULES ACCEPT. The sources' grammar, written down in the crate `grammar` line by line, apart from the library's readers: `NamePayload p m`, `CodeMetadata Unknown p m`, `CodeMetadata BranchHint p m` and `Module p m` say that the bytes p are a name payload, code metadata, branch hints or a module, and mean m. `U32 bs n`: the bytes bs are the number n in LEB128. `Grammar A` are the grammars with meanings in A.
+-- WHAT THE RULES ACCEPT. The sources' grammar, written down in the crate `grammar` line by line, apart from the library's readers: `NamePayload SourceIds p m`, `CodeMetadata Unknown p m`, `CodeMetadata BranchHint p m` and `Module p m` say that the bytes p are a name payload, code metadata, branch hints or a module, and mean m. `U32 bs n`: the bytes bs are the number n in LEB128. `Grammar A` are the grammars with meanings in A.
 use Rattle.grammar.specs.Numbers.{Grammar, U32}
-use Rattle.grammar.specs.Names.{NamePayload}
+use Rattle.grammar.specs.Names.{SourceIds, NamePayload}
 use Rattle.grammar.specs.Metadata.{CodeMetadata, Unknown, BranchHint}
 use Rattle.grammar.specs.Modules.{Module}
 -- WHAT IT MEANS. Metadata means a table of functions, each with a table of data by offset. A name payload means a table of subsections by id, each with what it holds: `single x` one name, `names t` a table of names by index, `namesBy t` a table of tables, `whole x` contents that are kept. `Has k v t`: the table t has a row with the number k and the value v, as its first, `Has k v (row k v t)`, or further on, `Has k v (row i w t)` from `Has k v t`.
 use Rattle.format.specs.Tables.{Table}
-use Rattle.format.specs.Names.{Content, single, names, namesBy, whole}
+use Rattle.format.specs.Names.{Kind, Content, single, names, namesBy, whole}
 use Rattle.format.specs.Holding.{Has}
 -- A module means a list of records: `id`, `contents`, and `custom`, which is `some` of a record of `name` and `payload` or `none`. `Among t ss`: t is one of ss. `Called x s`: s is custom and its name is x.
 use Rattle.grammar.specs.Modules.{Section, Among, Called}
@@ -31,10 +31,12 @@ use Rattle.format.specs.Lists.{Indices, sum}
 use Rattle.grammar.specs.Texts.{Text}
 use Rattle.format.specs.Holding.{Lists}
 -- WHAT CAN BE ASKED of a name payload: one question for each call. An index is a record of one number, `k .0`. `InRange q`: each index in q is below 4,294,967,296, and an id below 256.
-use Rattle.format.specs.Questions.{InRange, Question, moduleName, functionName, typeName, tagName, localName, fieldName, keptContents}
+use Rattle.format.specs.Questions.{InRange}
+use Rattle.format.specs.declared.Question.{Question}
+use Rattle.format.specs.declared.Question.the-variants.{ModuleName, FunctionName, TypeName, TagName, LocalName, FieldName, KeptContents}
 -- Of metadata and hints: `ItemQuestion` is a function and an offset, each a record of one number; `ItemInRange q` says that both are below 4,294,967,296.
 use Rattle.format.specs.Demands.{ItemQuestion, ItemInRange}
--- THE CALLS, each by its promise: `wm-walk bytes a` says that the answer a is one that the promise of wm_walk allows for these bytes. It is the promise itself, the one name that stands in the `ensures` of the call in crates/wakemiono/src/lib.rt. What the promises come to is said below, so that nothing has to be known of how they are put. `wm-name q` is the promise of the call that asks q: wm_module_name asks `moduleName`, wm_function_name `functionName` of its function, wm_type_name `typeName` of its index, wm_tag_name `tagName` of its tag, wm_local_name `localName` of its function and its local, wm_field_name `fieldName` of its index and its field, wm_kept `keptContents` of its id; `wm-name-in q` is that of the same call with `_in`, which is lent a module. The calls that write are promised of the output before and after, too: `old` and `new`.
+-- THE CALLS, each by its promise: `wm-walk bytes a` says that the answer a is one that the promise of wm_walk allows for these bytes. It is the promise itself, the one name that stands in the `ensures` of the call in crates/wakemiono/src/lib.rt. What the promises come to is said below, so that nothing has to be known of how they are put. `wm-name q` is the promise of the call that asks q: wm_module_name asks `ModuleName`, wm_function_name `FunctionName` of its function, wm_type_name `TypeName` of its index, wm_tag_name `TagName` of its tag, wm_local_name `LocalName` of its function and its local, wm_field_name `FieldName` of its index and its field, wm_kept `KeptContents` of its id; `wm-name-in q` is that of the same call with `_in`, which is lent a module. The calls that write are promised of the output before and after, too: `old` and `new`.
 use Rattle.wakemiono.specs.Calls.{wm-walk, wm-section, wm-custom, wm-names-judge, wm-name, wm-metadata-judge, wm-metadata, wm-hints-judge, wm-hint, wm-name-in, wm-metadata-in, wm-hint-in, wm-names-canonical, wm-metadata-canonical, wm-hints-canonical, wm-function-names-write}
 
 -- DEMAND 1. "Any bytes may be lent as a module, a payload or lists. Each public call ends, does nothing undefined and asks no prior check. Bad input gets a refusal number and its offset, and every lent buffer is unchanged." Proved as `demand-1` in Proved.antt.
@@ -117,14 +119,21 @@ abbrev pub Tells : List ℕ → (List ℕ → Type 0) → WmAnswer → Type 0
 Tells lent Held a = ((x : List ℕ) → FoundIn lent a x ↔ Held x) × ((a .kind ≡ 0) ↔ ((x : List ℕ) → Held x → ⊥))
 
 -- What a name payload of a meaning holds for a question: the name in subsection 0; the name with an index in the maps 1, 4 and 11; the name with an index within another in the maps 2 and 10; the contents of a subsection that is kept
-abbrev pub HoldsName : Question → Table (Content (List ℕ)) → List ℕ → Type 0
-HoldsName moduleName m x = Has 0 (single x) m
-HoldsName (functionName k) m x = (t : Table (List ℕ)) × Has 1 (names t) m × Has (k .0) x t
-HoldsName (localName k j) m x = (g : Table (Table (List ℕ))) × Has 2 (namesBy g) m × ((t : Table (List ℕ)) × Has (k .0) t g × Has (j .0) x t)
-HoldsName (typeName k) m x = (t : Table (List ℕ)) × Has 4 (names t) m × Has (k .0) x t
-HoldsName (fieldName k j) m x = (g : Table (Table (List ℕ))) × Has 10 (namesBy g) m × ((t : Table (List ℕ)) × Has (k .0) t g × Has (j .0) x t)
-HoldsName (tagName k) m x = (t : Table (List ℕ)) × Has 11 (names t) m × Has (k .0) x t
-HoldsName (keptContents id) m x = Has id (whole x) m
+module _ (m : Table (Content (List ℕ))) (x : List ℕ) where
+  abbrev pub HoldsEntry : (id index : ℕ) → Type 0
+  HoldsEntry id index = (t : Table (List ℕ)) × Has id (names t) m × Has index x t
+
+  abbrev pub HoldsWithin : (id outer inner : ℕ) → Type 0
+  HoldsWithin id outer inner = (g : Table (Table (List ℕ))) × Has id (namesBy g) m × ((t : Table (List ℕ)) × Has outer t g × Has inner x t)
+
+  abbrev pub HoldsName : Question → Type 0
+  HoldsName ModuleName = Has 0 (single x) m
+  HoldsName (FunctionName k) = HoldsEntry 1 (k .0)
+  HoldsName (LocalName k j) = HoldsWithin 2 (k .0) (j .0)
+  HoldsName (TypeName k) = HoldsEntry 4 (k .0)
+  HoldsName (FieldName k j) = HoldsWithin 10 (k .0) (j .0)
+  HoldsName (TagName k) = HoldsEntry 11 (k .0)
+  HoldsName (KeptContents id) = Has id (whole x) m
 
 -- What metadata of a meaning holds for a function and an offset
 abbrev pub HoldsData : (function offset : ℕ) → Table (Table (List ℕ)) → List ℕ → Type 0
@@ -143,10 +152,11 @@ module _ {A : Type 0} (judging : List ℕ → WmAnswer → Type 0) (grammar : Gr
 abbrev pub RefusesAs : (judging asking : List ℕ → WmAnswer → Type 0) → Type 0
 RefusesAs judging asking = (p : List ℕ) (a j : WmAnswer) → asking p a → judging p j → (n at : ℕ) → (a ≡ wmRefused n at) ↔ (j ≡ wmRefused n at)
 
-pub record AnswersNames : Type 0 where
+-- The questions to name payloads over a table of ids, by the promises of the judging call and of the calls that ask
+pub record AnswersNames (Ids : ℕ → Kind → Type 0) (judging : List ℕ → WmAnswer → Type 0) (asking : Question → List ℕ → WmAnswer → Type 0) : Type 0 where
   -- of a payload with a meaning, exactly what the meaning holds is found
-  pub tells : (q : Question) (p : List ℕ) (m : Table (Content (List ℕ))) (a : WmAnswer) → NamePayload p m → wm-name q p a → Tells p (λ x. HoldsName q m x) a
-  pub refuses : (q : Question) → RefusesAs wm-names-judge (wm-name q)
+  pub tells : (q : Question) (p : List ℕ) (m : Table (Content (List ℕ))) (a : WmAnswer) → NamePayload Ids p m → asking q p a → Tells p (λ x. HoldsName m x q) a
+  pub refuses : (q : Question) → RefusesAs judging (asking q)
 
 pub record AnswersMetadata : Type 0 where
   pub tells : (function offset : ℕ) (p : List ℕ) (m : Table (Table (List ℕ))) (a : WmAnswer) → CodeMetadata Unknown p m → wm-metadata function offset p a → Tells p (λ x. HoldsData function offset m x) a
@@ -203,13 +213,13 @@ pub record AsksThrough : Type 0 where
 
 -- Names from lists. What the lists give for a question: for a function whose index is listed, its own stretch of the text; for any other question nothing
 abbrev pub Listed : (indices lengths text : List ℕ) → Question → List ℕ → Type 0
-Listed indices lengths text moduleName x = ⊥
-Listed indices lengths text (functionName k) x = Lists (k .0) x indices lengths text
-Listed indices lengths text (typeName k) x = ⊥
-Listed indices lengths text (tagName k) x = ⊥
-Listed indices lengths text (localName k j) x = ⊥
-Listed indices lengths text (fieldName k j) x = ⊥
-Listed indices lengths text (keptContents id) x = ⊥
+Listed indices lengths text ModuleName x = ⊥
+Listed indices lengths text (FunctionName k) x = Lists (k .0) x indices lengths text
+Listed indices lengths text (TypeName k) x = ⊥
+Listed indices lengths text (TagName k) x = ⊥
+Listed indices lengths text (LocalName k j) x = ⊥
+Listed indices lengths text (FieldName k j) x = ⊥
+Listed indices lengths text (KeptContents id) x = ⊥
 
 -- Which lists are written: as many lengths as indices, and lengths that add up to the text; indices each above the one before; and names that are text
 pub record FineLists (indices lengths text : List ℕ) : Type 0 where
@@ -252,7 +262,7 @@ pub record WritesLists (indices lengths text written : List ℕ) (a : WmAnswer) 
   pub is-canonical : (old new : List ℕ) (b : WmAnswer) → a .length ≤ length old → wm-names-canonical written old new b → (b ≡ a) × (take (b .length) new ≡ written)
 
 pub record Demand2 : Type 0 where
-  pub names-judged : JudgesExactly wm-names-judge NamePayload
+  pub names-judged : JudgesExactly wm-names-judge (NamePayload SourceIds)
   pub metadata-judged : JudgesExactly wm-metadata-judge (CodeMetadata Unknown)
   pub hints-judged : JudgesExactly wm-hints-judge (CodeMetadata BranchHint)
   pub modules-judged : JudgesExactly wm-walk Module
@@ -260,7 +270,7 @@ pub record Demand2 : Type 0 where
   pub names-whole : (p : List ℕ) (a : WmAnswer) → wm-names-judge p a → a .kind ≡ 1 → a ≡ wmFound 0 0 (length p)
   pub metadata-whole : (p : List ℕ) (a : WmAnswer) → wm-metadata-judge p a → a .kind ≡ 1 → a ≡ wmFound 0 0 (length p)
   pub hints-whole : (p : List ℕ) (a : WmAnswer) → wm-hints-judge p a → a .kind ≡ 1 → a ≡ wmFound 0 0 (length p)
-  pub names : AnswersNames
+  pub names : AnswersNames SourceIds wm-names-judge wm-name
   pub metadata : AnswersMetadata
   pub hints : AnswersHints
   pub walks : Walks

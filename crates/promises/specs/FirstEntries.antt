@@ -47,8 +47,8 @@ names-computed : map (λ (row : Row (List ℕ) (Judged (Unit {0}))). verdict (ju
 unfolding hex digit number groups utf8 continues following wellFormed sized name remaining lookup rows table known knownKind contents subsections payload judgeNames
 names-computed = refl
 
-pub names-judge : Demanded (λ p r. Judges p 0 p r) verdictOf name-rows
-names-judge = by-table (λ p r meets. verdict-is p 0 p r meets) name-rows names-computed
+pub names-judge : Demanded (λ p r. Judges knownKind p 0 p r) verdictOf name-rows
+names-judge = by-table (λ p r meets. verdict-is knownKind p 0 p r meets) name-rows names-computed
 
 pub wm-names-judge : Demanded (λ p a. call.wm-names-judge p a) saysVerdict name-rows
 wm-names-judge = by-table (λ p a meets. ap saysVerdict meets ∙ verdict-said (length p) (verdict (judgeNames knownKind 0 p))) name-rows names-computed

@@ -1,6 +1,7 @@
 -- Wrong second calls: one that hands back one fixed part, or always the empty one; one that takes its part always from the same place of what was lent. Each promise of a call that hands back bytes rules them out.
 use Prim.Native.Nat.{ℕ, _+_}
-use mathlib.Core.List.{List, [], _∷_}
+use Prim.Native.String.{String}
+use mathlib.Core.List.{map, List, [], _∷_}
 use mathlib.Core.Option.{Option, some}
 use mathlib.Core.Path.{_≡_, refl, ap, sym, _∙_}
 use native.Mathlib.Omega.{arith}
@@ -15,7 +16,8 @@ use Rattle.format.specs.Metadata.{anyItem, metadata, judgeMetadata, itemAt, ask
 use Rattle.format.specs.Names.{known, knownKind, contents, subsections, payload, judgeNames}
 use Rattle.format.specs.Numbers.{number, groups, shortest, fewest}
 use Rattle.format.specs.Parts.{Part, sized, name, remaining}
-use Rattle.format.specs.Questions.{moduleName, functionName, typeName, tagName, localName, fieldName, keptContents, answer, asked, idOf, queryOf, askAt, ask, asBytes, startOf}
+use Rattle.format.specs.Questions.{answer, asked, idOf, queryOf, askAt, ask, asBytes, startOf}
+use Rattle.format.specs.declared.Question.{Question}
 use Rattle.format.specs.Reading.{Judged, accepted}
 use Rattle.format.specs.Tables.{lookup, rows, table}
 use Rattle.format.specs.Text.{utf8, continues, following, wellFormed}
@@ -24,13 +26,9 @@ use Rattle.format.specs.Walk.{preamble, begins, greatestId, isCustom, isCode, i
 use Rattle.format.specs.declared.Answer.{Answer}
 use Rattle.format.specs.declared.Answer.the-variants.{None, Found}
 use Rattle.format.specs.declared.CodeOffset.{CodeOffset}
-use Rattle.format.specs.declared.FieldIndex.{FieldIndex}
 use Rattle.format.specs.declared.FunctionIndex.{FunctionIndex}
-use Rattle.format.specs.declared.LocalIndex.{LocalIndex}
-use Rattle.format.specs.declared.TagIndex.{TagIndex}
-use Rattle.format.specs.declared.TypeIndex.{TypeIndex}
 use Rattle.reading.specs.Taken.{takenOf, Takes}
-use Rattle.promises.specs.Asking.{withNames, withData}
+use Rattle.promises.specs.Asking.{Tried, tried, Each, no-more, and-question, withNames, withData}
 use Rattle.promises.specs.RuledOut.{RuledOut, by-two-inputs}
 
 -- A question, the bytes that are lent, and where in memory they begin. What comes back is bytes, and where they begin
@@ -60,49 +58,28 @@ module _ {Asked : Type 0} (answer : Asked → List ℕ → Judged (Option Part))
         });
   }
 
--- The names' bytes, of a payload
-pub record NameBytes : Type 0 where
-  pub module-name-bytes : HandsRightly (λ (_ : Unit {0}) p. ask moduleName p)
-  pub function-name-bytes : HandsRightly (λ (k : FunctionIndex) p. ask (functionName k) p)
-  pub type-name-bytes : HandsRightly (λ (k : TypeIndex) p. ask (typeName k) p)
-  pub tag-name-bytes : HandsRightly (λ (k : TagIndex) p. ask (tagName k) p)
-  pub local-name-bytes : HandsRightly (λ (k : FunctionIndex × LocalIndex) p. ask (localName (k .0) (k .1)) p)
-  pub field-name-bytes : HandsRightly (λ (k : TypeIndex × FieldIndex) p. ask (fieldName (k .0) (k .1)) p)
-  pub kept-bytes : HandsRightly (λ (k : ℕ) p. ask (keptContents k) p)
+-- The names' bytes, for each question of the table: of a payload, and through a module
+module _ (answer : Question → List ℕ → Judged (Option Part)) (lend : String → List ℕ) (ahead : ℕ) where
+  abbrev pub Hands : Question → Type 0
+  Hands q = HandsRightly {Asked = Unit {0}} (λ _ p. answer q p)
 
-pub name-bytes : NameBytes
-unfolding hex digit number groups utf8 continues following wellFormed sized name remaining lookup rows table known knownKind contents subsections payload judgeNames answer asked idOf queryOf askAt ask
-name-bytes = record {
-  module-name-bytes = hands-rightly _ (tt) (hex "00 01 00") (hex "00 03 81 00 6D") 3 0x6D refl refl;
-  function-name-bytes = hands-rightly _ (record { 0 = 7 }) (hex "01 03 01 07 00") (hex "01 05 01 07 81 00 61") 5 0x61 refl refl;
-  type-name-bytes = hands-rightly _ (record { 0 = 7 }) (hex "04 03 01 07 00") (hex "04 05 01 07 81 00 61") 5 0x61 refl refl;
-  tag-name-bytes = hands-rightly _ (record { 0 = 7 }) (hex "0B 03 01 07 00") (hex "0B 05 01 07 81 00 61") 5 0x61 refl refl;
-  local-name-bytes = hands-rightly _ (record { 0 = 3 }, record { 0 = 0 }) (hex "02 05 01 03 01 00 00") (hex "02 07 01 03 01 00 81 00 78") 7 0x78 refl refl;
-  field-name-bytes = hands-rightly _ (record { 0 = 3 }, record { 0 = 0 }) (hex "0A 05 01 03 01 00 00") (hex "0A 07 01 03 01 00 81 00 78") 7 0x78 refl refl;
-  kept-bytes = hands-rightly _ (3) (hex "03 00") (hex "03 81 00 FF") 2 0xFF refl refl;
-}
+  abbrev told : Tried → List (Judged (Option Part))
+  told row = answer (row .question) (lend (row .empty)) ∷ answer (row .question) (lend (row .padded)) ∷ []
 
--- and through a module
-pub record NameBytesThrough : Type 0 where
-  pub module-name-bytes : HandsRightly (λ (_ : Unit {0}) p. askThrough moduleName p)
-  pub function-name-bytes : HandsRightly (λ (k : FunctionIndex) p. askThrough (functionName k) p)
-  pub type-name-bytes : HandsRightly (λ (k : TypeIndex) p. askThrough (typeName k) p)
-  pub tag-name-bytes : HandsRightly (λ (k : TagIndex) p. askThrough (tagName k) p)
-  pub local-name-bytes : HandsRightly (λ (k : FunctionIndex × LocalIndex) p. askThrough (localName (k .0) (k .1)) p)
-  pub field-name-bytes : HandsRightly (λ (k : TypeIndex × FieldIndex) p. askThrough (fieldName (k .0) (k .1)) p)
-  pub kept-bytes : HandsRightly (λ (k : ℕ) p. askThrough (keptContents k) p)
+  abbrev stated : Tried → List (Judged (Option Part))
+  stated row = accepted (some (record { at = ahead + row .at; bytes = [] })) ∷ accepted (some (record { at = ahead + row .at + 1; bytes = row .byte ∷ [] })) ∷ []
 
-pub name-bytes-through : NameBytesThrough
-unfolding withNames writePart shortest fewest ascii same preamble begins greatestId isCustom isCode isData rank custom isCalled nameSection hintSection nothing seeing idRules nameRules section sections framing walk payloadOf payloadIn customPayload through askThrough hex digit number groups utf8 continues following wellFormed sized name remaining lookup rows table known knownKind contents subsections payload judgeNames answer asked idOf queryOf askAt ask
-name-bytes-through = record {
-  module-name-bytes = hands-rightly _ (tt) (withNames "00 01 00") (withNames "00 03 81 00 6D") 18 0x6D refl refl;
-  function-name-bytes = hands-rightly _ (record { 0 = 7 }) (withNames "01 03 01 07 00") (withNames "01 05 01 07 81 00 61") 20 0x61 refl refl;
-  type-name-bytes = hands-rightly _ (record { 0 = 7 }) (withNames "04 03 01 07 00") (withNames "04 05 01 07 81 00 61") 20 0x61 refl refl;
-  tag-name-bytes = hands-rightly _ (record { 0 = 7 }) (withNames "0B 03 01 07 00") (withNames "0B 05 01 07 81 00 61") 20 0x61 refl refl;
-  local-name-bytes = hands-rightly _ (record { 0 = 3 }, record { 0 = 0 }) (withNames "02 05 01 03 01 00 00") (withNames "02 07 01 03 01 00 81 00 78") 22 0x78 refl refl;
-  field-name-bytes = hands-rightly _ (record { 0 = 3 }, record { 0 = 0 }) (withNames "0A 05 01 03 01 00 00") (withNames "0A 07 01 03 01 00 81 00 78") 22 0x78 refl refl;
-  kept-bytes = hands-rightly _ (3) (withNames "03 00") (withNames "03 81 00 FF") 17 0xFF refl refl;
-}
+  each-hands : (rows : List Tried) → map told rows ≡ map stated rows → Each Hands rows
+  each-hands [] e = no-more
+  each-hands (row ∷ rows) e = and-question {row = row} (hands-rightly {Asked = Unit {0}} (λ _ p. answer (row .question) p) tt (lend (row .empty)) (lend (row .padded)) (ahead + row .at) (row .byte) (cc) (cc)) (each-hands rows (cc))
+
+pub name-bytes : Each (Hands (ask knownKind) hex 0) tried
+unfolding hex digit number groups utf8 continues following wellFormed sized name remaining lookup rows table known knownKind contents subsections payload judgeNames answer asked askAt ask
+name-bytes = each-hands (ask knownKind) hex 0 tried refl
+
+pub name-bytes-through : Each (Hands (askThrough knownKind) withNames 15) tried
+unfolding withNames writePart shortest fewest ascii same preamble begins greatestId isCustom isCode isData rank custom isCalled nameSection hintSection nothing seeing idRules nameRules section sections framing walk payloadOf payloadIn customPayload through askThrough hex digit number groups utf8 continues following wellFormed sized name remaining lookup rows table known knownKind contents subsections payload judgeNames answer asked askAt ask
+name-bytes-through = each-hands (askThrough knownKind) withNames 15 tried refl
 
 -- The data's bytes, of a payload and through a module
 pub record MetadataBytes : Type 0 where

@@ -9,18 +9,20 @@ use lib.ListN.{length}
 use Rattle.format.specs.Bytes.{ascii, same}
 use Rattle.format.specs.Names.{Kind, oneName, nameMap, indirectMap, kept, known, knownKind}
 use Rattle.format.specs.Numbers.{fewest, shortest}
+use Rattle.format.specs.Questions.{idOf}
+use Rattle.format.specs.declared.Question.the-variants.{ModuleName, KeptContents}
 use Rattle.format.specs.Reading.{Outcome, got, stop, Judged, accepted, refused}
 use Rattle.format.specs.Refusals.{numberOf}
 use Rattle.format.specs.Tables.{Table, nil, row, lookup}
 use Rattle.format.specs.Walk.{Custom, greatestId, isCustom, isData, rank, isCalled, nameSection, hintSection, idRules, nameRules}
 use Rattle.format.specs.declared.Reason.the-variants.{NoPreamble, PastItsPart}
 use Rattle.names.specs.Contents.{kindMeant}
-use Rattle.names.specs.Places.{placesOf, replaced, Puts, refusalIn}
+use Rattle.names.specs.Places.{placesOf, placedAt, replaced, Puts, refusalIn}
 use Rattle.names.specs.declared.judging.Judged.{Judged as JudgedNames}
 use Rattle.names.specs.declared.judging.Judged.the-variants.{Refused}
 use Rattle.names.specs.declared.places.Places.{Places}
-use Rattle.names.specs.declared.places.Sub.{Sub}
-use Rattle.names.specs.declared.places.Sub.the-variants.{Absent, At}
+use Rattle.tables.specs.declared.Held.{Held}
+use Rattle.tables.specs.declared.Held.the-variants.{Nothing as Absent, Part as At}
 use Rattle.reading.specs.declared.Cursor.{Cursor}
 use Rattle.walk.specs.Sections.{seenOf, ruling, IdRuled, isName, isHints, NameRuled, Sees}
 use Rattle.walk.specs.declared.rules.Called.{Called}
@@ -32,6 +34,10 @@ use Rattle.promises.specs.RuledOut.{RuledOut, Refuses, Accepts, Tells, b
 -- format: one number for every reason
 pub reason-number : (n : ℕ) → RuledOut (λ reason r. r ≡ numberOf reason) (λ _ r. r ≡ n)
 reason-number n = by-two-inputs {says = λ r. r} (λ reason r meets. meets) (λ r. some r) (eqb 1) NoPreamble PastItsPart refl refl refl refl n
+
+-- format: one subsection for every question
+pub question-id : (id : ℕ) → RuledOut (λ q r. r ≡ idOf q) (λ _ r. r ≡ id)
+question-id id = by-two-inputs {says = λ r. r} (λ q r meets. meets) (λ r. some r) (eqb 0) ModuleName (KeptContents 3) refl refl refl refl id
 
 -- reading: one number for every byte
 pub wide : (n : ℕ) → RuledOut (λ (x : ℕ) r. r ≡ x) (λ _ r. r ≡ n)
@@ -60,11 +66,11 @@ nowhere = record { «module» = Absent; functions = Absent; locals = Absent; typ
 abbrev front : Cursor
 front = record { at = 0; end = 1 }
 
-abbrev isAt : Sub → Bool
+abbrev isAt : Held → Bool
 isAt Absent = false
 isAt (At c) = true
 
-abbrev firstOf : Table Sub → Sub
+abbrev firstOf : Table Held → Held
 firstOf nil = Absent
 firstOf (row i v t) = v
 
@@ -72,8 +78,13 @@ module-put : Tells (λ (x : Places × ℕ × Cursor) r. Puts (x .0) (x .1) (x .2
 unfolding placesOf replaced
 module-put x r meets = ap firstOf (meets .says)
 
-pub placed : (place : Sub) → RuledOut (λ (x : Places × ℕ × Cursor) r. Puts (x .0) (x .1) (x .2) r) (λ _ r. r .module ≡ place)
+pub placed : (place : Held) → RuledOut (λ (x : Places × ℕ × Cursor) r. Puts (x .0) (x .1) (x .2) r) (λ _ r. r .module ≡ place)
 placed place = by-two-inputs module-put (λ p. some p) isAt (nowhere, 0, front) (nowhere, 1, front) refl refl refl refl place
+
+-- names: one place for every id
+pub place-of : (place : Held) → RuledOut (λ (x : Places × ℕ) r. r ≡ placedAt (x .0) (x .1)) (λ _ r. r ≡ place)
+unfolding placedAt placesOf lookup
+place-of place = by-two-inputs {says = λ r. r} (λ x r meets. meets) (λ r. some r) isAt (record { «module» = At front; functions = Absent; locals = Absent; types = Absent; fields = Absent; tags = Absent }, 0) (nowhere, 0) {k = At front} {l = Absent} refl refl refl refl place
 
 -- names: every refusal at one offset
 abbrev refusedAt : ℕ → JudgedNames

@@ -48,8 +48,8 @@ names-verdicts : Verdicts (λ p. verdict (judgeNames knownKind 0 p))
 unfolding hex digit number groups sized known knownKind lookup contents subsections payload judgeNames table
 names-verdicts = record { fine = hex ""; bad = refuses (hex "01 00") 2 2; worse = refuses (hex "01") 2 1; is-fine = λ h. h; is-bad = refl; is-worse = refl; apart = refl }
 
-pub names-judge : JudgesRightly (λ p r. Judges p 0 p r) verdictOf
-names-judge = judges-rightly (λ p r meets. verdict-is p 0 p r meets) names-verdicts
+pub names-judge : JudgesRightly (λ p r. Judges knownKind p 0 p r) verdictOf
+names-judge = judges-rightly (λ p r meets. verdict-is knownKind p 0 p r meets) names-verdicts
 
 pub wm-names-judge : JudgesRightly (λ p a. call.wm-names-judge p a) saysVerdict
 wm-names-judge = judges-rightly (λ p a meets. ap saysVerdict meets ∙ verdict-said (length p) (verdict (judgeNames knownKind 0 p))) names-verdicts

@@ -8,15 +8,16 @@ use lib.ListN.{length, take}
 use Rattle.wakemiono.specs.declared.WmAnswer.{WmAnswer}
 use Rattle.wakemiono.specs.Boundary.{wmRefused}
 use Rattle.grammar.specs.Numbers.{Grammar}
-use Rattle.grammar.specs.Names.{NamePayload}
+use Rattle.grammar.specs.Names.{SourceIds, NamePayload}
 use Rattle.grammar.specs.Metadata.{CodeMetadata, Unknown, BranchHint}
 use Rattle.format.specs.Tables.{Table}
 use Rattle.format.specs.Names.{Content, names}
-use Rattle.format.specs.Questions.{Question, moduleName, functionName, typeName, tagName, localName, fieldName, keptContents}
+use Rattle.format.specs.declared.Question.{Question}
+use Rattle.format.specs.declared.Question.the-variants.{ModuleName, FunctionName, TypeName, TagName, LocalName, FieldName, KeptContents}
 use Rattle.format.specs.Demands.{ItemQuestion}
 use Rattle.format.specs.Canonical.{canonicalNames, canonicalMetadata, canonicalHints}
 use Rattle.format.specs.Metadata.{anyItem, hintItem, judgeMetadata, askMetadata, askHint}
-use Rattle.format.specs.Names.{knownKind, judgeNames}
+use Rattle.format.specs.Names.{Kind, knownKind, judgeNames}
 use Rattle.format.specs.Questions.{asPlace, ask}
 use Rattle.format.specs.Lists.{functionNames}
 use Rattle.format.specs.Options.{mapSome}
@@ -25,7 +26,7 @@ use Rattle.format.specs.Through.{askThrough, askMetadataThrough, askHintThrough
 use Rattle.format.specs.Walk.{sectionCount, sectionAt, customPayload}
 use Rattle.wakemiono.specs.Boundary.{wmCount, wmSection, wmPlace, wmJudged, wmHint, WmWrites}
 use Rattle.walk.specs.Surveys.{sectionPlace}
-use Rattle.format.specs.Demands.{Rewrites as AnyRewrites, document-names-answered, any-metadata-answered, document-names-rewritten, any-metadata-rewritten, hints-rewritten}
+use Rattle.format.specs.Demands.{Rewrites as AnyRewrites, questions-answered, any-metadata-answered, known-rewritten, any-metadata-rewritten, hints-rewritten}
 use Rattle.format.specs.Canonical.{bare, bareItems}
 use Rattle.format.specs.Holding.{HasWithin, Holds}
 use Rattle.format.specs.Outputs.{writeAnswer}
@@ -39,7 +40,7 @@ use Rattle.format.specs.Tables.{mapTable}
 use Rattle.grammar.specs.Forgetting.{bareSections}
 use Rattle.grammar.specs.Grammar.{Accepts, names-exact, metadata-exact, hints-exact, modules-exact}
 use Rattle.grammar.specs.Laws.Metadata.{any-exact, metadata-complete}
-use Rattle.grammar.specs.Laws.Names.{names-complete}
+use Rattle.grammar.specs.Laws.Names.{SameIds, source-ids, names-complete}
 use Rattle.promises.specs.Laws.Judging.{found-grammar, refused-grammar}
 use Rattle.promises.specs.Laws.Listing.{lists-accepted, lists-read-back, lists-rest}
 use Rattle.promises.specs.Laws.Lists.{lists-fine, fine-answered}
@@ -100,19 +101,19 @@ demand-1 = record {
   section = λ i m a e. rw e (section-reply (sectionAt i m) (section-at-fair i m));
   custom = λ x m a e. rw e (place-reply (customPayload x m) (custom-payload-fair x m));
   names-judge = λ p a e. rw e (judged-verdict (length p) _ (names-verdict-fair p));
-  name = λ q p a e. rw e (place-reply (ask q p) (name-asked-fair q p));
+  name = λ q p a e. rw e (place-reply (ask knownKind q p) (name-asked-fair q p));
   metadata-judge = λ p a e. rw e (judged-verdict (length p) _ (metadata-verdict-fair p));
   metadata = λ f o p a e. rw e (place-reply (askMetadata anyItem (record { 0 = f }) (record { 0 = o }) 0 p) (metadata-asked-fair (record { 0 = f }) (record { 0 = o }) p));
   hints-judge = λ p a e. rw e (judged-verdict (length p) _ (hints-verdict-fair p));
   hint = λ f o p a e. rw e (hint-reply (askHint (record { 0 = f }) (record { 0 = o }) 0 p) (hint-asked-fair (record { 0 = f }) (record { 0 = o }) p));
-  name-in = λ q m a e. rw e (place-reply (askThrough q m) (name-through-fair q m));
+  name-in = λ q m a e. rw e (place-reply (askThrough knownKind q m) (name-through-fair q m));
   metadata-in = λ x f o m a e. rw e (place-reply (askMetadataThrough x (record { 0 = f }) (record { 0 = o }) m) (metadata-through-fair x (record { 0 = f }) (record { 0 = o }) m));
   hint-in = λ f o m a e. rw e (hint-reply (askHintThrough (record { 0 = f }) (record { 0 = o }) m) (hint-through-fair (record { 0 = f }) (record { 0 = o }) m));
-  names-canonical = λ p old new a w. leaves (canonicalNames p) old new a (canonical-names-fair p) w;
+  names-canonical = λ p old new a w. leaves (canonicalNames knownKind p) old new a (canonical-names-fair p) w;
   metadata-canonical = λ p old new a w. leaves (canonicalMetadata p) old new a (canonical-metadata-fair p) w;
   hints-canonical = λ p old new a w. leaves (canonicalHints p) old new a (canonical-hints-fair p) w;
   function-names-write = λ is ns text old new a w. leaves (functionNames is ns text) old new a (lists-fair is ns text) w;
-  names-canonical-room = λ p. needs-room (canonicalNames p);
+  names-canonical-room = λ p. needs-room (canonicalNames knownKind p);
   metadata-canonical-room = λ p. needs-room (canonicalMetadata p);
   hints-canonical-room = λ p. needs-room (canonicalHints p);
   function-names-write-room = λ is ns text. needs-room (functionNames is ns text);
@@ -126,7 +127,7 @@ judges judgement plain judging exact says = record {
   one-meaning = exact .one-meaning;
 }
 
-names-judged : JudgesExactly wm-names-judge NamePayload
+names-judged : JudgesExactly wm-names-judge (NamePayload SourceIds)
 names-judged = judges (judgeNames knownKind 0) (mapTable bare) wm-names-judge (names-exact 0) (λ p a e. judged-said (length p) (judgeNames knownKind 0 p) e)
 
 metadata-judged : JudgesExactly wm-metadata-judge (CodeMetadata Unknown)
@@ -135,20 +136,20 @@ metadata-judged = judges (judgeMetadata anyItem 0) (λ t. bareItems t) wm-metada
 hints-judged : JudgesExactly wm-hints-judge (CodeMetadata BranchHint)
 hints-judged = judges (judgeMetadata hintItem 0) (λ t. bareItems t) wm-hints-judge (hints-exact 0) (λ p a e. judged-said (length p) (judgeMetadata hintItem 0 p) e)
 
-held : (q : Question) (m : Table (Content (List ℕ))) (x : List ℕ) → Holds (idOf q) (queryOf q) m x ↔ HoldsName q m x
-unfolding idOf queryOf
-held moduleName m x = name-held 0
-held (functionName k) m x = entry-held 1 (k .0)
-held (localName k j) m x = inner-held 2 (k .0) (j .0)
-held (typeName k) m x = entry-held 4 (k .0)
-held (fieldName k j) m x = inner-held 10 (k .0) (j .0)
-held (tagName k) m x = entry-held 11 (k .0)
-held (keptContents id) m x = contents-held id
+held : (q : Question) (m : Table (Content (List ℕ))) (x : List ℕ) → Holds (idOf q) (queryOf q) m x ↔ HoldsName m x q
+held ModuleName m x = name-held 0
+held (FunctionName k) m x = entry-held 1 (k .0)
+held (LocalName k j) m x = inner-held 2 (k .0) (j .0)
+held (TypeName k) m x = entry-held 4 (k .0)
+held (FieldName k j) m x = inner-held 10 (k .0) (j .0)
+held (TagName k) m x = entry-held 11 (k .0)
+held (KeptContents id) m x = contents-held id
 
-names-answered : AnswersNames
-names-answered = record {
-  tells = λ q p m a g e. tells-as p a (λ x. Holds (idOf q) (queryOf q) m x) (λ x. HoldsName q m x) (held q m) (asked-tells (λ m q x. Holds (idOf q) (queryOf q) m x) document-names-answered q p a e m (names-complete 0 p m g));
-  refuses = λ q p a j e says. asked-refused (λ m q x. Holds (idOf q) (queryOf q) m x) document-names-answered q p a e (judged-said (length p) (judgeNames knownKind 0 p) says);
+-- over any table of ids
+names-answered : {Ids : ℕ → Kind → Type 0} {kindOf : ℕ → Kind} → SameIds Ids kindOf → AnswersNames Ids (λ p j. j ≡ wmJudged (length p) (verdict (judgeNames kindOf 0 p))) (λ q p a. a ≡ wmPlace (asPlace (ask kindOf q p)))
+names-answered {kindOf = kindOf} ids = record {
+  tells = λ q p m a g e. tells-as p a (λ x. Holds (idOf q) (queryOf q) m x) (λ x. HoldsName m x q) (held q m) (asked-tells (λ m q x. Holds (idOf q) (queryOf q) m x) (questions-answered kindOf) q p a e m (names-complete ids 0 p m g));
+  refuses = λ q p a j e says. asked-refused (λ m q x. Holds (idOf q) (queryOf q) m x) (questions-answered kindOf) q p a e (judged-said (length p) (judgeNames kindOf 0 p) says);
 }
 
 metadata-answered : AnswersMetadata
@@ -185,7 +186,7 @@ demand-2 = record {
   names-whole = λ p a. judged-whole (length p) (verdict (judgeNames knownKind 0 p));
   metadata-whole = λ p a. judged-whole (length p) (verdict (judgeMetadata anyItem 0 p));
   hints-whole = λ p a. judged-whole (length p) (verdict (judgeMetadata hintItem 0 p));
-  names = names-answered;
+  names = names-answered source-ids;
   metadata = metadata-answered;
   hints = hints-answered;
   walks = walks;
@@ -215,7 +216,7 @@ module _ {A Q R : Type 0} {judgement : List ℕ → Judged A} {rewriting : List 
 
 pub demand-3 : Demand3
 demand-3 = record {
-  names = rewritten document-names-rewritten names-first-judged names-refuse wm-name (λ q x. (_, refl)) SameAnswer names-compared;
+  names = rewritten known-rewritten names-first-judged names-refuse wm-name (λ q x. (_, refl)) SameAnswer names-compared;
   metadata = rewritten any-metadata-rewritten metadata-first-judged metadata-refuse (λ q. wm-metadata (q .0 .0) (q .1 .0)) (λ q x. (_, refl)) SameAnswer metadata-compared;
   hints = rewritten hints-rewritten hints-first-judged hints-refuse (λ q. wm-hint (q .0 .0) (q .1 .0)) (λ q x. (_, refl)) (λ _ _ a b. a ≡ b) (λ q x y a b _ _. hints-same (askHint (q .0) (q .1) 0 x) (askHint (q .0) (q .1) 0 y));
 }

@@ -8,19 +8,17 @@ use Rattle.format.specs.Metadata.{hintOf, anyItem, hintItem, metadata, judgeMet
 use Rattle.format.specs.Names.{known, knownKind, contents, subsections, payload, judgeNames}
 use Rattle.format.specs.Numbers.{number, groups}
 use Rattle.format.specs.Parts.{sized, name}
-use Rattle.format.specs.Questions.{functionName, typeName, tagName, localName, fieldName, answer, asked, idOf, queryOf, askAt, ask, asPlace, answered}
+use Rattle.format.specs.Questions.{answer, asked, idOf, queryOf, askAt, ask, asPlace, answered}
+use Rattle.format.specs.declared.Question.{Question}
+use Rattle.format.specs.declared.Question.the-variants.{FunctionName, TypeName, TagName, LocalName, FieldName}
 use Rattle.format.specs.Reading.{Judged, accepted, refused}
 use Rattle.format.specs.Tables.{lookup, rows, table}
 use Rattle.format.specs.Text.{utf8, continues, following, wellFormed}
 use Rattle.format.specs.declared.CodeOffset.{CodeOffset}
-use Rattle.format.specs.declared.FieldIndex.{FieldIndex}
 use Rattle.format.specs.declared.FunctionIndex.{FunctionIndex}
 use Rattle.format.specs.declared.Hint.{Hint}
 use Rattle.format.specs.declared.Hint.the-variants.{Likely}
-use Rattle.format.specs.declared.LocalIndex.{LocalIndex}
 use Rattle.format.specs.declared.Place.{Place}
-use Rattle.format.specs.declared.TagIndex.{TagIndex}
-use Rattle.format.specs.declared.TypeIndex.{TypeIndex}
 use Rattle.wakemiono.specs.Boundary.{wmPlace, wmHint}
 use Rattle.promises.specs.Answers.{saysPlace, place-said, saysHint, hint-said}
 use Rattle.promises.specs.RuledOut.{Row, _demands_, Demanded, by-table}
@@ -50,65 +48,33 @@ module _ {Lent : Type 0} where
     c-call = by-table (λ x a meets. ap saysHint meets ∙ hint-said (wanted x)) table e;
   }
 
-abbrev pub function-name-rows : List (Row (List ℕ × FunctionIndex) (Judged (Option Place)))
-function-name-rows =
-    (hex "01 04 01 07 01 61", record { 0 = 7 }) demands found 5 1 ∷
-    (hex "01 07 02 07 01 61 07 01 62", record { 0 = 7 }) demands refused 11 6 ∷
-    (hex "01 07 02 07 01 61 08 01 FF", record { 0 = 7 }) demands refused 4 8 ∷
-    (hex "01 07 02 07 01 61 08 02 62", record { 0 = 7 }) demands refused 2 7 ∷
+abbrev pub name-rows : List (Row (List ℕ × Question) (Judged (Option Place)))
+name-rows =
+    (hex "01 04 01 07 01 61", FunctionName (record { 0 = 7 })) demands found 5 1 ∷
+    (hex "01 07 02 07 01 61 07 01 62", FunctionName (record { 0 = 7 })) demands refused 11 6 ∷
+    (hex "01 07 02 07 01 61 08 01 FF", FunctionName (record { 0 = 7 })) demands refused 4 8 ∷
+    (hex "01 07 02 07 01 61 08 02 62", FunctionName (record { 0 = 7 })) demands refused 2 7 ∷
+    (hex "04 04 01 07 01 61", TypeName (record { 0 = 7 })) demands found 5 1 ∷
+    (hex "04 07 02 07 01 61 07 01 62", TypeName (record { 0 = 7 })) demands refused 11 6 ∷
+    (hex "04 07 02 07 01 61 08 01 FF", TypeName (record { 0 = 7 })) demands refused 4 8 ∷
+    (hex "04 07 02 07 01 61 08 02 62", TypeName (record { 0 = 7 })) demands refused 2 7 ∷
+    (hex "0B 04 01 07 01 61", TagName (record { 0 = 7 })) demands found 5 1 ∷
+    (hex "0B 07 02 07 01 61 07 01 62", TagName (record { 0 = 7 })) demands refused 11 6 ∷
+    (hex "0B 07 02 07 01 61 08 01 FF", TagName (record { 0 = 7 })) demands refused 4 8 ∷
+    (hex "0B 07 02 07 01 61 08 02 62", TagName (record { 0 = 7 })) demands refused 2 7 ∷
+    (hex "02 06 01 03 01 00 01 78", LocalName (record { 0 = 3 }) (record { 0 = 0 })) demands found 7 1 ∷
+    (hex "02 0B 02 03 01 00 01 78 03 01 00 01 79", LocalName (record { 0 = 3 }) (record { 0 = 0 })) demands refused 11 8 ∷
+    (hex "02 0B 02 03 01 00 01 78 04 01 00 01 FF", LocalName (record { 0 = 3 }) (record { 0 = 0 })) demands refused 4 12 ∷
+    (hex "02 09 01 03 02 00 01 78 00 01 79", LocalName (record { 0 = 3 }) (record { 0 = 0 })) demands refused 11 8 ∷
+    (hex "0A 06 01 03 01 00 01 78", FieldName (record { 0 = 3 }) (record { 0 = 0 })) demands found 7 1 ∷
+    (hex "0A 0B 02 03 01 00 01 78 03 01 00 01 79", FieldName (record { 0 = 3 }) (record { 0 = 0 })) demands refused 11 8 ∷
+    (hex "0A 0B 02 03 01 00 01 78 04 01 00 01 FF", FieldName (record { 0 = 3 }) (record { 0 = 0 })) demands refused 4 12 ∷
+    (hex "0A 09 01 03 02 00 01 78 00 01 79", FieldName (record { 0 = 3 }) (record { 0 = 0 })) demands refused 11 8 ∷
     []
 
-pub function-name : PlacesDemanded (λ (x : List ℕ × FunctionIndex). asPlace (ask (functionName (x .1)) (x .0))) function-name-rows
-unfolding hex digit number groups utf8 continues following wellFormed sized name lookup rows table known knownKind contents subsections payload judgeNames answer asked idOf queryOf askAt ask asPlace
-function-name = places-demanded _ function-name-rows refl
-
-abbrev pub type-name-rows : List (Row (List ℕ × TypeIndex) (Judged (Option Place)))
-type-name-rows =
-    (hex "04 04 01 07 01 61", record { 0 = 7 }) demands found 5 1 ∷
-    (hex "04 07 02 07 01 61 07 01 62", record { 0 = 7 }) demands refused 11 6 ∷
-    (hex "04 07 02 07 01 61 08 01 FF", record { 0 = 7 }) demands refused 4 8 ∷
-    (hex "04 07 02 07 01 61 08 02 62", record { 0 = 7 }) demands refused 2 7 ∷
-    []
-
-pub type-name : PlacesDemanded (λ (x : List ℕ × TypeIndex). asPlace (ask (typeName (x .1)) (x .0))) type-name-rows
-unfolding hex digit number groups utf8 continues following wellFormed sized name lookup rows table known knownKind contents subsections payload judgeNames answer asked idOf queryOf askAt ask asPlace
-type-name = places-demanded _ type-name-rows refl
-
-abbrev pub tag-name-rows : List (Row (List ℕ × TagIndex) (Judged (Option Place)))
-tag-name-rows =
-    (hex "0B 04 01 07 01 61", record { 0 = 7 }) demands found 5 1 ∷
-    (hex "0B 07 02 07 01 61 07 01 62", record { 0 = 7 }) demands refused 11 6 ∷
-    (hex "0B 07 02 07 01 61 08 01 FF", record { 0 = 7 }) demands refused 4 8 ∷
-    (hex "0B 07 02 07 01 61 08 02 62", record { 0 = 7 }) demands refused 2 7 ∷
-    []
-
-pub tag-name : PlacesDemanded (λ (x : List ℕ × TagIndex). asPlace (ask (tagName (x .1)) (x .0))) tag-name-rows
-unfolding hex digit number groups utf8 continues following wellFormed sized name lookup rows table known knownKind contents subsections payload judgeNames answer asked idOf queryOf askAt ask asPlace
-tag-name = places-demanded _ tag-name-rows refl
-
-abbrev pub local-name-rows : List (Row (List ℕ × FunctionIndex × LocalIndex) (Judged (Option Place)))
-local-name-rows =
-    (hex "02 06 01 03 01 00 01 78", record { 0 = 3 }, record { 0 = 0 }) demands found 7 1 ∷
-    (hex "02 0B 02 03 01 00 01 78 03 01 00 01 79", record { 0 = 3 }, record { 0 = 0 }) demands refused 11 8 ∷
-    (hex "02 0B 02 03 01 00 01 78 04 01 00 01 FF", record { 0 = 3 }, record { 0 = 0 }) demands refused 4 12 ∷
-    (hex "02 09 01 03 02 00 01 78 00 01 79", record { 0 = 3 }, record { 0 = 0 }) demands refused 11 8 ∷
-    []
-
-pub local-name : PlacesDemanded (λ (x : List ℕ × FunctionIndex × LocalIndex). asPlace (ask (localName (x .1) (x .2)) (x .0))) local-name-rows
-unfolding hex digit number groups utf8 continues following wellFormed sized name lookup rows table known knownKind contents subsections payload judgeNames answer asked idOf queryOf askAt ask asPlace
-local-name = places-demanded _ local-name-rows refl
-
-abbrev pub field-name-rows : List (Row (List ℕ × TypeIndex × FieldIndex) (Judged (Option Place)))
-field-name-rows =
-    (hex "0A 06 01 03 01 00 01 78", record { 0 = 3 }, record { 0 = 0 }) demands found 7 1 ∷
-    (hex "0A 0B 02 03 01 00 01 78 03 01 00 01 79", record { 0 = 3 }, record { 0 = 0 }) demands refused 11 8 ∷
-    (hex "0A 0B 02 03 01 00 01 78 04 01 00 01 FF", record { 0 = 3 }, record { 0 = 0 }) demands refused 4 12 ∷
-    (hex "0A 09 01 03 02 00 01 78 00 01 79", record { 0 = 3 }, record { 0 = 0 }) demands refused 11 8 ∷
-    []
-
-pub field-name : PlacesDemanded (λ (x : List ℕ × TypeIndex × FieldIndex). asPlace (ask (fieldName (x .1) (x .2)) (x .0))) field-name-rows
-unfolding hex digit number groups utf8 continues following wellFormed sized name lookup rows table known knownKind contents subsections payload judgeNames answer asked idOf queryOf askAt ask asPlace
-field-name = places-demanded _ field-name-rows refl
+pub names : PlacesDemanded (λ (x : List ℕ × Question). asPlace (ask knownKind (x .1) (x .0))) name-rows
+unfolding hex digit number groups utf8 continues following wellFormed sized name lookup rows table known knownKind contents subsections payload judgeNames answer asked askAt ask asPlace
+names = places-demanded _ name-rows refl
 
 abbrev pub find-rows : List (Row (List ℕ × FunctionIndex × CodeOffset) (Judged (Option Place)))
 find-rows =

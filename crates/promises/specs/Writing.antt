@@ -10,7 +10,7 @@ use lib.ListN.{length, take, drop}
 use lib.Seq.{take-at}
 use Rattle.format.specs.Laws.Bytes.{same-self}
 use Rattle.format.specs.Bytes.{ascii, same}
-use Rattle.format.specs.Canonical.{writePart, writeRows, writeTable, unlessEmpty, keepRows, bare, writeContent, writeSubsections, rewriteNames, canonical, canonicalNames, rewriteMetadata, canonicalOf, canonicalMetadata, canonicalHints}
+use Rattle.format.specs.Canonical.{writePart, writeRows, writeTable, unlessEmpty, keepRows, bare, writeContent, writeSubsections, rewriteNames, canonicalNames, rewriteMetadata, canonicalOf, canonicalMetadata, canonicalHints}
 use Rattle.format.specs.Examples.{hex, digit}
 use Rattle.format.specs.Listing.{digits, decimal, piece, line, sectionLines, payloadLine, printed, greatestInput, listing}
 use Rattle.format.specs.Lists.{sum, listed, unsortedAt, badTextAt, subsection, functionNames}
@@ -131,9 +131,9 @@ module _ (wanted : List ℕ → Judged (List ℕ)) where
   }
 
 -- A padded function name; nothing but an empty map; a map's second entry damaged; an output that is too short
-pub rewrite-names : RewriteCalls canonicalNames
-unfolding same hex digit number groups shortest fewest utf8 continues following wellFormed sized name remaining lookup size mapTable rows table known knownKind contents subsections payload judgeNames writePart writeRows writeTable unlessEmpty keepRows bare writeContent writeSubsections rewriteNames canonical canonicalNames fitting writeAnswer outputAfter
-rewrite-names = rewrite-calls canonicalNames (record {
+pub rewrite-names : RewriteCalls (canonicalNames knownKind)
+unfolding same hex digit number groups shortest fewest utf8 continues following wellFormed sized name remaining lookup size mapTable rows table known knownKind contents subsections payload judgeNames writePart writeRows writeTable unlessEmpty keepRows bare writeContent writeSubsections rewriteNames canonicalNames fitting writeAnswer outputAfter
+rewrite-names = rewrite-calls (canonicalNames knownKind) (record {
   one = finds (hex "01 85 00 01 00 81 00 61", hex "AA AA AA AA AA AA AA") (hex "01 04 01 00 01 61");
   another = finds (hex "01 01 00", hex "AA") [];
   bad = refuses (hex "01 07 02 03 01 62 03 01 61", hex "AA AA AA AA AA AA AA AA AA") 11 6;

@@ -15,7 +15,7 @@ use Rattle.format.specs.Numbers.{shortest, limit32}
 use Rattle.format.specs.Options.{mapSome}
 use Rattle.format.specs.Parts.{Part, sized}
 use Rattle.format.specs.Tables.{Table, nil, row, mapTable}
-use Rattle.format.specs.Names.{Content, knownKind, contents, subsections, payload}
+use Rattle.format.specs.Names.{Kind as AnyKind, Content, contents, subsections, payload}
 use Rattle.format.specs.Canonical.{bare, trim, keepRows, writePart, writeContent, writeSubsections, rewriteNames}
 use Rattle.format.specs.Laws.Outcomes.{got-value, got-next, got-rest}
 use Rattle.format.specs.Laws.Options.{some-is, not-some, byOption}
@@ -92,35 +92,35 @@ module _ {kind : _} {s : List ℕ} {part : Cursor} where
   trims-small x t = left-small x (t .stands) (t .is)
 
 -- The way through the subsections
-pub record Through (s : List ℕ) (c next : Cursor) : Type 0 where
+pub record Through (kindOf : ℕ → AnyKind) (s : List ℕ) (c next : Cursor) : Type 0 where
   pub all : Table (Content Part)
   pub to-come : Table (Content Part)
   pub most : ℕ
   pub least : ℕ
-  pub whole : PayloadStands s c all
-  pub reads : subsections knownKind most least (next .at) (left s next) ≡ got to-come (whole .next) (whole .rest)
+  pub whole : PayloadStands kindOf s c all
+  pub reads : subsections kindOf most least (next .at) (left s next) ≡ got to-come (whole .next) (whole .rest)
   pub enough : length (left s next) ≤ most
   pub inside : Inside s next
   pub same-end : next .end ≡ c .end
 
-unfoldable pub setting-out : {s : List ℕ} {c : Cursor} {t : Table (Content Part)} → PayloadStands s c t → Through s c c
+unfoldable pub setting-out : {kindOf : ℕ → AnyKind} {s : List ℕ} {c : Cursor} {t : Table (Content Part)} → PayloadStands kindOf s c t → Through kindOf s c c
 unfolding payload
-setting-out {s} {c} {t} w = record { all = t; to-come = t; most = length (left s c); least = 0; whole = w; reads = w .reads; enough = omega arith; inside = w .inside; same-end = refl }
+setting-out {s = s} {c} {t} w = record { all = t; to-come = t; most = length (left s c); least = 0; whole = w; reads = w .reads; enough = omega arith; inside = w .inside; same-end = refl }
 
 -- at the end nothing is to come
-no-bytes : (most least o : ℕ) {t : Table (Content Part)} {o′ : ℕ} {rest : List ℕ} → subsections knownKind most least o [] ≡ got t o′ rest → t ≡ nil
+no-bytes : (kindOf : ℕ → AnyKind) (most least o : ℕ) {t : Table (Content Part)} {o′ : ℕ} {rest : List ℕ} → subsections kindOf most least o [] ≡ got t o′ rest → t ≡ nil
 unfolding subsections
-no-bytes zero least o e = sym (got-value e)
-no-bytes (suc most) least o e = sym (got-value e)
+no-bytes kindOf zero least o e = sym (got-value e)
+no-bytes kindOf (suc most) least o e = sym (got-value e)
 
-pub nothing-to-come : {s : List ℕ} {c next : Cursor} (t : Through s c next) → next .end ≤ next .at → t .to-come ≡ nil
-nothing-to-come {s} {next = next} t h =
+pub nothing-to-come : {kindOf : ℕ → AnyKind} {s : List ℕ} {c next : Cursor} (t : Through kindOf s c next) → next .end ≤ next .at → t .to-come ≡ nil
+nothing-to-come {kindOf} {s} {next = next} t h =
     let same : next .at ≡ next .end = omega (arith, t .inside .ahead) in
     let empty : left s next ≡ [] = rw same (slice-empty (next .end) s) in
-    no-bytes (t .most) (t .least) (next .at) (rw empty at (t .reads))
+    no-bytes kindOf (t .most) (t .least) (next .at) (rw empty at (t .reads))
 
 -- before it, a subsection stands there
-record Front (most o id : ℕ) (bs : List ℕ) (t : Table (Content Part)) (o′ : ℕ) (rest : List ℕ) : Type 0 where
+record Front (kindOf : ℕ → AnyKind) (most o id : ℕ) (bs : List ℕ) (t : Table (Content Part)) (o′ : ℕ) (rest : List ℕ) : Type 0 where
   part : Part
   behind : ℕ
   left-behind : List ℕ
@@ -131,15 +131,15 @@ record Front (most o id : ℕ) (bs : List ℕ) (t : Table (Content Part)) (o′ 
   less : ℕ
   fewer : suc less ≤ most
   reads-part : sized (suc o) bs ≡ got part behind left-behind
-  reads-content : contents (knownKind id) (part .at) (part .bytes) ≡ got content ended left-over
-  reads-more : subsections knownKind less (suc id) behind left-behind ≡ got more o′ rest
+  reads-content : contents (kindOf id) (part .at) (part .bytes) ≡ got content ended left-over
+  reads-more : subsections kindOf less (suc id) behind left-behind ≡ got more o′ rest
   is : row id content more ≡ t
   enough : length left-behind ≤ less
 
-front-of : (most least o id : ℕ) (bs : List ℕ) {t : Table (Content Part)} {o′ : ℕ} {rest : List ℕ} → suc (length bs) ≤ most → subsections knownKind most least o (id ∷ bs) ≡ got t o′ rest → Front most o id bs t o′ rest
-front-of zero least o id bs l e = absurd (omega arith)
-front-of (suc less) least o id bs l e =
-    inSubsection knownKind less least o id bs e λ p o₁ r₁ c o₂ r₂ more above e₁ e₂ e₃ is.
+front-of : (kindOf : ℕ → AnyKind) (most least o id : ℕ) (bs : List ℕ) {t : Table (Content Part)} {o′ : ℕ} {rest : List ℕ} → suc (length bs) ≤ most → subsections kindOf most least o (id ∷ bs) ≡ got t o′ rest → Front kindOf most o id bs t o′ rest
+front-of kindOf zero least o id bs l e = absurd (omega arith)
+front-of kindOf (suc less) least o id bs l e =
+    inSubsection kindOf less least o id bs e λ p o₁ r₁ c o₂ r₂ more above e₁ e₂ e₃ is.
     record {
       part = p;
       behind = o₁;
@@ -157,12 +157,12 @@ front-of (suc less) least o id bs l e =
       enough = omega (arith, sized-codec .sound (suc o) bs e₁ .shorter);
     }
 
-module _ {s : List ℕ} {c next : Cursor} (t : Through s c next) (h : next .at < next .end) where
+module _ {kindOf : ℕ → AnyKind} {s : List ℕ} {c next : Cursor} (t : Through kindOf s c next) (h : next .at < next .end) where
   first-is : left s next ≡ getD s (next .at) 0 ∷ left s (behindId next)
   first-is = slice-cons (next .at) (next .end) s 0 h (t .inside .within) ∙ rw (add-one (next .at))
 
-  front : Front (t .most) (next .at) (getD s (next .at) 0) (left s (behindId next)) (t .to-come) (t .whole .next) (t .whole .rest)
-  front = front-of (t .most) (t .least) (next .at) (getD s (next .at) 0) (left s (behindId next)) (rw first-is at (t .enough)) (rw first-is at (t .reads))
+  front : Front kindOf (t .most) (next .at) (getD s (next .at) 0) (left s (behindId next)) (t .to-come) (t .whole .next) (t .whole .rest)
+  front = front-of kindOf (t .most) (t .least) (next .at) (getD s (next .at) 0) (left s (behindId next)) (rw first-is at (t .enough)) (rw first-is at (t .reads))
 
   reads-there : sized (behindId next .at) (left s (behindId next)) ≡ got (front .part) (front .behind) (front .left-behind)
   reads-there = ap (λ (x : ℕ). sized x (left s (behindId next))) (add-one (next .at)) ∙ front .reads-part
@@ -183,7 +183,7 @@ module _ {s : List ℕ} {c next : Cursor} (t : Through s c next) (h : next .at <
     left-same : front .left-behind ≡ left s (r .next)
     left-same = got-rest (sym reads-there ∙ f .contents .stands .reads)
 
-    content-stands : ContentStands (knownKind (r .id)) s (r .part) (front .content)
+    content-stands : ContentStands (kindOf (r .id)) s (r .part) (front .content)
     content-stands = record {
       inside = f .contents .in-part;
       next = front .ended;
@@ -192,7 +192,7 @@ module _ {s : List ℕ} {c next : Cursor} (t : Through s c next) (h : next .at <
       small = part-fits (f .contents .stands);
     }
 
-    pub content-known : KnownContent (knownKind (r .id)) s (r .part)
+    pub content-known : KnownContent (kindOf (r .id)) s (r .part)
     content-known = record { value = front .content; stands = content-stands }
 
     pub frame-less : r .next .end - r .next .at < next .end - next .at
@@ -200,11 +200,11 @@ module _ {s : List ℕ} {c next : Cursor} (t : Through s c next) (h : next .at <
 
     -- and behind it the way goes on
     pub record Onward (v : Content Part) : Type 0 where
-      pub through : Through s c (r .next)
+      pub through : Through kindOf s c (r .next)
       pub same-all : through .all ≡ t .all
       pub split : t .to-come ≡ row (r .id) v (through .to-come)
 
-    pub onward : {v : Content Part} → ContentStands (knownKind (r .id)) s (r .part) v → Onward v
+    pub onward : {v : Content Part} → ContentStands (kindOf (r .id)) s (r .part) v → Onward v
     onward {v} w =
         let same : front .content ≡ v = one-content content-stands w in
         record {
@@ -224,17 +224,17 @@ module _ {s : List ℕ} {c next : Cursor} (t : Through s c next) (h : next .at <
         }
 
 -- MEASURED
-pub record CountingNames (s : List ℕ) (c next : Cursor) (total : ℕ) : Type 0 where
-  pub through : Through s c next
+pub record CountingNames (kindOf : ℕ → AnyKind) (s : List ℕ) (c next : Cursor) (total : ℕ) : Type 0 where
+  pub through : Through kindOf s c next
   pub so-far : total + length (rewriteNames (through .to-come)) ≡ length (rewriteNames (through .all))
   pub small : c .end < 2 ^ 64
 
-pub names-none : {s : List ℕ} {c : Cursor} → KnownPayload s c → c .end < 2 ^ 64 → CountingNames s c c 0
+pub names-none : {kindOf : ℕ → AnyKind} {s : List ℕ} {c : Cursor} → KnownPayload kindOf s c → c .end < 2 ^ 64 → CountingNames kindOf s c c 0
 unfolding setting-out
 names-none k h = record { through = setting-out (k .stands); so-far = zero-add (length (rewriteNames (k .value))); small = h }
 
-module _ {s : List ℕ} {c next : Cursor} {total : ℕ} (t : CountingNames s c next total) where
-  pub names-all : next .end ≤ next .at → MeasuresPayload s c total
+module _ {kindOf : ℕ → AnyKind} {s : List ℕ} {c next : Cursor} {total : ℕ} (t : CountingNames kindOf s c next total) where
+  pub names-all : next .end ≤ next .at → MeasuresPayload kindOf s c total
   names-all h =
       let nothing : length (rewriteNames (t .through .to-come)) ≡ 0 = rw (nothing-to-come (t .through) h, names-nil) in
       record { value = t .through .all; stands = t .through .whole; long = omega (arith, nothing, t .so-far) }
@@ -247,12 +247,12 @@ module _ {s : List ℕ} {c next : Cursor} {total : ℕ} (t : CountingNames s c n
       pub names-less : r .next .end - r .next .at < next .end - next .at
       names-less = frame-less (t .through) h f
 
-      module _ (kind : Kind) (is : kindMeant kind ≡ knownKind (r .id)) where
+      module _ (kind : Kind) (is : kindMeant kind ≡ kindOf (r .id)) where
         pub names-content : KnownContent (kindMeant kind) s (r .part)
         names-content = rw is (content-known (t .through) h f)
 
         module _ {x : Left} {n : ℕ} (w : Trims (kindMeant kind) s (r .part) x) (long : n ≡ lengthLeft (leftOf x)) where
-          pub names-more : CountingNames s c (r .next) (total + n)
+          pub names-more : CountingNames kindOf s c (r .next) (total + n)
           names-more =
               let o = onward (t .through) h f (rw is at (w .stands)) in
               let more : length (rewriteNames (t .through .to-come)) ≡ n + length (rewriteNames (o .through .to-come)) = ap length (ap rewriteNames (o .split) ∙ names-row (r .id) (w .value) (o .through .to-come)) ∙ length-append (subBytes (r .id) (trim (bare (w .value)))) (rewriteNames (o .through .to-come)) ∙ rw (← length-sub (r .id) (trim (bare (w .value))), ← w .is, long) in

@@ -10,7 +10,7 @@ use lib.ListN.{length, length-append}
 use Rattle.format.specs.Numbers.{shortest, limit32}
 use Rattle.format.specs.Options.{mapSome}
 use Rattle.format.specs.Parts.{Part}
-use Rattle.format.specs.Names.{Content, knownKind}
+use Rattle.format.specs.Names.{Kind as AnyKind, Content}
 use Rattle.format.specs.Canonical.{bare, trim, writePart, writeContent, rewriteNames}
 use Rattle.format.specs.Laws.Options.{some-is, not-some, byOption}
 use Rattle.format.specs.Laws.Outputs.{writes-short}
@@ -62,7 +62,7 @@ module _ {kind : _} {s : List ℕ} {part : Cursor} {c : Content Part} (w : Conte
 pub sub-small : (x : Left) {kind : _} {s : List ℕ} {part : Cursor} {z : Sizes} → Trims kind s part x → x ≡ Contents z → z .length < limit32
 sub-small x t e = length-small x e (trims-small x t)
 
-module _ {id : ℕ} {s : List ℕ} {part : Cursor} {old : List ℕ} {at : ℕ} (f : FitsSubsection id s part old at) (kind : Kind) (kind-is : kindMeant kind ≡ knownKind id) where
+module _ {kindOf : ℕ → AnyKind} {id : ℕ} {s : List ℕ} {part : Cursor} {old : List ℕ} {at : ℕ} (f : FitsSubsection kindOf id s part old at) (kind : Kind) (kind-is : kindMeant kind ≡ kindOf id) where
   stands-here : ContentStands (kindMeant kind) s part (f .value)
   stands-here = rw kind-is (f .stands)
 
@@ -70,7 +70,7 @@ module _ {id : ℕ} {s : List ℕ} {part : Cursor} {old : List ℕ} {at : ℕ} (
   sub-known = record { value = f .value; stands = stands-here }
 
   module _ (x : Left) (t : Trims (kindMeant kind) s part x) where
-    pub sub-nothing : tagOf left-type.the-type x ≡ 0 → PutsSubsection id s part old old at at
+    pub sub-nothing : tagOf left-type.the-type x ≡ 0 → PutsSubsection kindOf id s part old old at at
     sub-nothing h = record { value = f .value; stands = f .stands; wrote = rw (nothing-left stands-here x t h) (wrote-nothing (omega (arith, f .room))) }
 
     module _ {z : Sizes} (e : x ≡ Contents z) where
@@ -100,7 +100,7 @@ module _ {id : ℕ} {s : List ℕ} {part : Cursor} {old : List ℕ} {at : ℕ} (
               let l = left-here in
               record { value = f .value; stands = stands-here; remains = l .remains; is = l .is; room = omega (arith, long, v .next-is, wrote-length v, w .next-is, wrote-length w) }
 
-          pub sub-put : {new : List ℕ} {next : ℕ} → PutsContent (kindMeant kind) s part mid′ new from next → PutsSubsection id s part old new at next
+          pub sub-put : {new : List ℕ} {next : ℕ} → PutsContent (kindMeant kind) s part mid′ new from next → PutsSubsection kindOf id s part old new at next
           sub-put p =
               let l = left-here in
               let same : p .remains ≡ l .remains = some-is (sym (p .is) ∙ ap (λ (d : Content Part). trim (bare d)) (one-content (p .stands) stands-here) ∙ l .is) in
@@ -109,19 +109,19 @@ module _ {id : ℕ} {s : List ℕ} {part : Cursor} {old : List ℕ} {at : ℕ} (
 pub ruleset subsection-put = (sub-known, sub-nothing, sub-small, sub-id-room, sub-counted, sub-size-room, sub-contents-room, sub-put, wrote-length, needs)
 
 -- All of them
-pub record PuttingNames (s : List ℕ) (c : Cursor) (old new : List ℕ) (place : ℕ) (next : Cursor) : Type 0 where
-  pub through : Through s c next
+pub record PuttingNames (kindOf : ℕ → AnyKind) (s : List ℕ) (c : Cursor) (old new : List ℕ) (place : ℕ) (next : Cursor) : Type 0 where
+  pub through : Through kindOf s c next
   pub done : List ℕ
   pub so-far : Wrote old new 0 place done
   pub joined : done ++ rewriteNames (through .to-come) ≡ rewriteNames (through .all)
   pub room : length (rewriteNames (through .all)) ≤ length old
 
-pub names-none : {s : List ℕ} {c : Cursor} {old : List ℕ} → FitsPayload s c old → PuttingNames s c old old 0 c
+pub names-none : {kindOf : ℕ → AnyKind} {s : List ℕ} {c : Cursor} {old : List ℕ} → FitsPayload kindOf s c old → PuttingNames kindOf s c old old 0 c
 unfolding setting-out
 names-none f = record { through = setting-out (f .stands); done = []; so-far = wrote-nothing (omega arith); joined = refl; room = f .room }
 
-module _ {s : List ℕ} {c : Cursor} {old new : List ℕ} {place : ℕ} {next : Cursor} (t : PuttingNames s c old new place next) where
-  pub names-put : next .end ≤ next .at → PutsPayload s c old new place
+module _ {kindOf : ℕ → AnyKind} {s : List ℕ} {c : Cursor} {old new : List ℕ} {place : ℕ} {next : Cursor} (t : PuttingNames kindOf s c old new place next) where
+  pub names-put : next .end ≤ next .at → PutsPayload kindOf s c old new place
   names-put h =
       let nothing : rewriteNames (t .through .to-come) ≡ [] = rw (nothing-to-come (t .through) h, names-nil) in
       let done-is : t .done ≡ rewriteNames (t .through .all) = sym (append-nil (t .done)) ∙ rw (← nothing) (t .joined) in
@@ -136,20 +136,20 @@ module _ {s : List ℕ} {c : Cursor} {old new : List ℕ} {place : ℕ} {next : 
       names-less = frame-less (t .through) h f
 
       -- what the subsection adds, before what is to come
-      joined-ahead : {v : Content Part} (w : ContentStands (knownKind (r .id)) s (r .part) v) → (t .done ++ subBytes (r .id) (trim (bare v))) ++ rewriteNames (onward (t .through) h f w .through .to-come) ≡ rewriteNames (t .through .all)
+      joined-ahead : {v : Content Part} (w : ContentStands (kindOf (r .id)) s (r .part) v) → (t .done ++ subBytes (r .id) (trim (bare v))) ++ rewriteNames (onward (t .through) h f w .through .to-come) ≡ rewriteNames (t .through .all)
       joined-ahead {v} w =
           let o = onward (t .through) h f w in
           let split : rewriteNames (t .through .to-come) ≡ subBytes (r .id) (trim (bare v)) ++ rewriteNames (o .through .to-come) = ap rewriteNames (o .split) ∙ names-row (r .id) v (o .through .to-come) in
           append-assoc (t .done) (subBytes (r .id) (trim (bare v))) (rewriteNames (o .through .to-come)) ∙ rw (← split) (t .joined)
 
-      pub names-room : FitsSubsection (r .id) s (r .part) new place
+      pub names-room : FitsSubsection kindOf (r .id) s (r .part) new place
       names-room =
           let k = content-known (t .through) h f in
           let added : List ℕ = subBytes (r .id) (trim (bare (k .value))) in
           let lengths = ap length (sym (joined-ahead (k .stands))) ∙ length-append (t .done ++ added) (rewriteNames (onward (t .through) h f (k .stands) .through .to-come)) in
           record { value = k .value; stands = k .stands; room = omega (arith, lengths, length-append (t .done) added, t .room, t .so-far .next-is, wrote-length (t .so-far)) }
 
-      pub names-more : {after : List ℕ} {place′ : ℕ} → PutsSubsection (r .id) s (r .part) new after place place′ → PuttingNames s c old after place′ (r .next)
+      pub names-more : {after : List ℕ} {place′ : ℕ} → PutsSubsection kindOf (r .id) s (r .part) new after place place′ → PuttingNames kindOf s c old after place′ (r .next)
       names-more p =
           let o = onward (t .through) h f (p .stands) in
           record {
@@ -163,11 +163,11 @@ module _ {s : List ℕ} {c : Cursor} {old new : List ℕ} {place : ℕ} {next : 
 pub ruleset names-written = (names-none, names-put, names-frame, names-less, names-room, names-more, wrote-length, needs)
 
 -- The payload: measured, then copied or written
-module _ {s : List ℕ} {c : Cursor} {needed : ℕ} (m : MeasuresPayload s c needed) {old : List ℕ} where
-  pub payload-short : length old < needed → RewritesNames s c old old (Refused (record { reason = OutputTooShort; offset = record { 0 = needed } }))
+module _ {kindOf : ℕ → AnyKind} {s : List ℕ} {c : Cursor} {needed : ℕ} (m : MeasuresPayload kindOf s c needed) {old : List ℕ} where
+  pub payload-short : length old < needed → RewritesNames kindOf s c old old (Refused (record { reason = OutputTooShort; offset = record { 0 = needed } }))
   payload-short h = record { value = m .value; stands = m .stands; writes = rw (m .long) (writes-short refl (rw (m .long) at h)) }
 
-  pub payload-room : needed ≤ length old → FitsPayload s c old
+  pub payload-room : needed ≤ length old → FitsPayload kindOf s c old
   payload-room h = record { value = m .value; stands = m .stands; room = rw (m .long) at h }
 
   -- as long as it is, it is what it is
@@ -175,16 +175,16 @@ module _ {s : List ℕ} {c : Cursor} {needed : ℕ} (m : MeasuresPayload s c nee
     pub payload-whole-room : needed ≤ length old → FitsWhole s c old
     payload-whole-room h = record { inside = m .stands .inside; room = omega (arith, h, same) }
 
-    pub payload-whole : {new : List ℕ} {end : ℕ} → PutsWhole s c old new end → RewritesNames s c old new (Length end)
+    pub payload-whole : {new : List ℕ} {end : ℕ} → PutsWhole s c old new end → RewritesNames kindOf s c old new (Length end)
     payload-whole p =
         let w = m .stands in
-        let is = payload-tight knownKind (c .at) (left s c) (p .bytes) (w .reads) (omega (arith, m .long, same, part-length (w .inside))) in
+        let is = payload-tight kindOf (c .at) (left s c) (p .bytes) (w .reads) (omega (arith, m .long, same, part-length (w .inside))) in
         record { value = m .value; stands = w; writes = writes-wrote refl (rw (← is) at (p .wrote)) }
 
-pub payload-ordered : {s : List ℕ} {c : Cursor} → KnownPayload s c → c .at ≤ c .end
+pub payload-ordered : {kindOf : ℕ → AnyKind} {s : List ℕ} {c : Cursor} → KnownPayload kindOf s c → c .at ≤ c .end
 payload-ordered k = k .stands .inside .ahead
 
-pub payload-put : {s : List ℕ} {c : Cursor} {old new : List ℕ} {end : ℕ} → PutsPayload s c old new end → RewritesNames s c old new (Length end)
+pub payload-put : {kindOf : ℕ → AnyKind} {s : List ℕ} {c : Cursor} {old new : List ℕ} {end : ℕ} → PutsPayload kindOf s c old new end → RewritesNames kindOf s c old new (Length end)
 payload-put p = record { value = p .value; stands = p .stands; writes = writes-wrote refl (p .wrote) }
 
 pub ruleset payload-written = (payload-short, payload-room, payload-ordered, payload-whole-room, payload-whole, payload-put, wrote-length, needs)

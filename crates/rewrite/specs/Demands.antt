@@ -1,15 +1,17 @@
--- Demand 3, said of what the calls leave: `names` promises to write `canonicalNames p`, `metadata` to write `canonicalMetadata p`, `hints` to write `canonicalHints p`, each by `Writes`; a call that answered with a length n left `take n new`.
+-- Demand 3, said of what the calls leave: `names` promises to write `canonicalNames kindOf p` over its table of ids, `metadata` to write `canonicalMetadata p`, `hints` to write `canonicalHints p`, each by `Writes`; a call that answered with a length n left `take n new`.
 use Prim.Native.Nat.{ℕ}
 use mathlib.Core.List.{List}
 use mathlib.Core.Path.{_≡_, sym, _∙_}
 use lib.ListN.{take}
 use Rattle.format.specs.Reading.{Accepted, verdict}
-use Rattle.format.specs.Names.{knownKind, judgeNames}
-use Rattle.format.specs.Questions.{Question, InRange, ask, asPlace, asBytes, asTold, answered}
+use Rattle.format.specs.Names.{Kind, judgeNames}
+use Rattle.format.specs.Questions.{InRange, ask, asPlace, asBytes, asTold, answered}
+use Rattle.format.specs.declared.Question.{Question}
 use Rattle.format.specs.Metadata.{anyItem, hintItem, judgeMetadata, askMetadata, askHint, hintAnswered}
 use Rattle.format.specs.Canonical.{canonicalNames, canonicalMetadata, canonicalHints}
 use Rattle.format.specs.Outputs.{Writes}
-use Rattle.format.specs.Demands.{ItemQuestion, ItemInRange, itemTold, hintTold, document-names-rewritten, any-metadata-rewritten, hints-rewritten}
+use Rattle.format.specs.Demands.{ItemQuestion, ItemInRange, itemTold, hintTold, questions-rewritten, any-metadata-rewritten, hints-rewritten}
+use Rattle.format.specs.Laws.Questions.{AllPosed}
 use Rattle.format.specs.Laws.Answers.{same-hint-answer}
 use Rattle.format.specs.declared.Answer.{Answer}
 use Rattle.format.specs.declared.HintAnswer.{HintAnswer}
@@ -26,8 +28,8 @@ use Rattle.rewrite.specs.Rewritten.{CallsRewrite, calls-rewrite}
 use Rattle.rewrite.specs.Alike.{SameTold, same-told, accepted-names, accepted-items}
 
 -- "Canonical rewritings of two accepted payloads are equal byte by byte exactly when every allowed question gets the same answer from both. A rewriting is accepted, answers as its original, is never longer, and rewriting it again changes nothing."
-pub names-calls : CallsRewrite (judgeNames knownKind 0) canonicalNames (λ q p. asTold (ask q p)) InRange
-names-calls = calls-rewrite document-names-rewritten
+pub names-calls : (kindOf : ℕ → Kind) → AllPosed kindOf → CallsRewrite (judgeNames kindOf 0) (canonicalNames kindOf) (λ q p. asTold (ask kindOf q p)) InRange
+names-calls kindOf posed = calls-rewrite (questions-rewritten kindOf posed)
 
 pub metadata-calls : CallsRewrite (judgeMetadata anyItem 0) canonicalMetadata (itemTold anyItem) ItemInRange
 metadata-calls = calls-rewrite any-metadata-rewritten
@@ -37,16 +39,17 @@ pub hint-calls : CallsRewrite (judgeMetadata hintItem 0) canonicalHints hintTold
 hint-calls = calls-rewrite hints-rewritten
 
 -- What `names` wrote is accepted by the judging call, and every question's calls tell of it what they tell of the original.
-pub names-accepted : {p old new : List ℕ} {n : ℕ} → Accepted (judgeNames knownKind 0) p → Writes (canonicalNames p) old new (Length n) → (j : NamesJudged) → Judges (take n new) 0 (take n new) j → (places : Places) × (j ≡ NamesAccepted places)
-names-accepted {new = new} {n = n} a w j says =
-    let again = names-calls .leaves-canonical a w .is-accepted in
-    accepted-names j (verdict-is (take n new) 0 (take n new) j says ∙ rw (again .judged))
+module _ (kindOf : ℕ → Kind) (posed : AllPosed kindOf) {p old new : List ℕ} {n : ℕ} (a : Accepted (judgeNames kindOf 0) p) (w : Writes (canonicalNames kindOf p) old new (Length n)) where
+  pub names-accepted : (j : NamesJudged) → Judges kindOf (take n new) 0 (take n new) j → (places : Places) × (j ≡ NamesAccepted places)
+  names-accepted j says =
+      let again = names-calls kindOf posed .leaves-canonical a w .is-accepted in
+      accepted-names j (verdict-is kindOf (take n new) 0 (take n new) j says ∙ rw (again .judged))
 
-pub names-asked : {p old new : List ℕ} {n : ℕ} → Accepted (judgeNames knownKind 0) p → Writes (canonicalNames p) old new (Length n) → (q : Question) (r r′ : Answer) (bytes bytes′ : List ℕ)
-    → answered r ≡ asPlace (ask q p) → bytes ≡ asBytes (ask q p)
-    → answered r′ ≡ asPlace (ask q (take n new)) → bytes′ ≡ asBytes (ask q (take n new))
-    → SameTold r r′ bytes bytes′
-names-asked {p = p} {new = new} {n = n} a w q r r′ bytes bytes′ e b e′ b′ = same-told (ask q p) (ask q (take n new)) r r′ bytes bytes′ e b e′ b′ (names-calls .leaves-canonical a w .answers-alike q)
+  pub names-asked : (q : Question) (r r′ : Answer) (bytes bytes′ : List ℕ)
+      → answered r ≡ asPlace (ask kindOf q p) → bytes ≡ asBytes (ask kindOf q p)
+      → answered r′ ≡ asPlace (ask kindOf q (take n new)) → bytes′ ≡ asBytes (ask kindOf q (take n new))
+      → SameTold r r′ bytes bytes′
+  names-asked q r r′ bytes bytes′ e b e′ b′ = same-told (ask kindOf q p) (ask kindOf q (take n new)) r r′ bytes bytes′ e b e′ b′ (names-calls kindOf posed .leaves-canonical a w .answers-alike q)
 
 -- The same of `metadata`, and of `hints` by likelihood.
 pub metadata-accepted : {p old new : List ℕ} {n : ℕ} → Accepted (judgeMetadata anyItem 0) p → Writes (canonicalMetadata p) old new (Length n) → (j : ItemsJudged) → judged j ≡ verdict (judgeMetadata anyItem 0 (take n new)) → j ≡ ItemsAccepted

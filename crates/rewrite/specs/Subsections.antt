@@ -8,7 +8,7 @@ use Rattle.format.specs.Reading.{got, accepted}
 use Rattle.format.specs.Numbers.{shortest, limit32}
 use Rattle.format.specs.Parts.{Part, sized}
 use Rattle.format.specs.Tables.{Table}
-use Rattle.format.specs.Names.{Content, knownKind, payload}
+use Rattle.format.specs.Names.{Kind, Content, payload}
 use Rattle.format.specs.Canonical.{bare, trim, writePart, writeContent, rewriteNames}
 use Rattle.format.specs.Outputs.{Writes}
 use Rattle.format.specs.declared.Written.{Written}
@@ -50,45 +50,47 @@ pub record FrameStands (s : List ℕ) (c : Cursor) (r : Frame) : Type 0 where
   pub id-is : r .id ≡ getD s (c .at) 0
   pub contents : TakesPart s (behindId c) (record { part = r .part; next = r .next })
 
--- one subsection has room behind `at`; and it is written there
-pub record FitsSubsection (id : ℕ) (s : List ℕ) (part : Cursor) (out : List ℕ) (at : ℕ) : Type 0 where
-  pub value : Content Part
-  pub stands : ContentStands (knownKind id) s part value
-  pub room : at + length (subBytes id (trim (bare value))) ≤ length out
+-- Everything from here on is said over a table of ids
+module _ (kindOf : ℕ → Kind) where
+  -- one subsection has room behind `at`; and it is written there
+  pub record FitsSubsection (id : ℕ) (s : List ℕ) (part : Cursor) (out : List ℕ) (at : ℕ) : Type 0 where
+    pub value : Content Part
+    pub stands : ContentStands (kindOf id) s part value
+    pub room : at + length (subBytes id (trim (bare value))) ≤ length out
 
-pub record PutsSubsection (id : ℕ) (s : List ℕ) (part : Cursor) (old new : List ℕ) (at next : ℕ) : Type 0 where
-  pub value : Content Part
-  pub stands : ContentStands (knownKind id) s part value
-  pub wrote : Wrote old new at next (subBytes id (trim (bare value)))
+  pub record PutsSubsection (id : ℕ) (s : List ℕ) (part : Cursor) (old new : List ℕ) (at next : ℕ) : Type 0 where
+    pub value : Content Part
+    pub stands : ContentStands (kindOf id) s part value
+    pub wrote : Wrote old new at next (subBytes id (trim (bare value)))
 
--- a whole payload, and that its rewriting is no longer
-pub record PayloadStands (s : List ℕ) (c : Cursor) (t : Table (Content Part)) : Type 0 where
-  pub inside : Inside s c
-  pub next : ℕ
-  pub rest : List ℕ
-  pub reads : payload knownKind (c .at) (left s c) ≡ got t next rest
-  pub shorter : length (rewriteNames t) ≤ length (left s c)
+  -- a whole payload, and that its rewriting is no longer
+  pub record PayloadStands (s : List ℕ) (c : Cursor) (t : Table (Content Part)) : Type 0 where
+    pub inside : Inside s c
+    pub next : ℕ
+    pub rest : List ℕ
+    pub reads : payload kindOf (c .at) (left s c) ≡ got t next rest
+    pub shorter : length (rewriteNames t) ≤ length (left s c)
 
-pub record KnownPayload (s : List ℕ) (c : Cursor) : Type 0 where
-  pub value : Table (Content Part)
-  pub stands : PayloadStands s c value
+  pub record KnownPayload (s : List ℕ) (c : Cursor) : Type 0 where
+    pub value : Table (Content Part)
+    pub stands : PayloadStands s c value
 
-pub record MeasuresPayload (s : List ℕ) (c : Cursor) (r : ℕ) : Type 0 where
-  pub value : Table (Content Part)
-  pub stands : PayloadStands s c value
-  pub long : r ≡ length (rewriteNames value)
+  pub record MeasuresPayload (s : List ℕ) (c : Cursor) (r : ℕ) : Type 0 where
+    pub value : Table (Content Part)
+    pub stands : PayloadStands s c value
+    pub long : r ≡ length (rewriteNames value)
 
-pub record FitsPayload (s : List ℕ) (c : Cursor) (out : List ℕ) : Type 0 where
-  pub value : Table (Content Part)
-  pub stands : PayloadStands s c value
-  pub room : length (rewriteNames value) ≤ length out
+  pub record FitsPayload (s : List ℕ) (c : Cursor) (out : List ℕ) : Type 0 where
+    pub value : Table (Content Part)
+    pub stands : PayloadStands s c value
+    pub room : length (rewriteNames value) ≤ length out
 
-pub record PutsPayload (s : List ℕ) (c : Cursor) (old new : List ℕ) (next : ℕ) : Type 0 where
-  pub value : Table (Content Part)
-  pub stands : PayloadStands s c value
-  pub wrote : Wrote old new 0 next (rewriteNames value)
+  pub record PutsPayload (s : List ℕ) (c : Cursor) (old new : List ℕ) (next : ℕ) : Type 0 where
+    pub value : Table (Content Part)
+    pub stands : PayloadStands s c value
+    pub wrote : Wrote old new 0 next (rewriteNames value)
 
-pub record RewritesNames (s : List ℕ) (c : Cursor) (old new : List ℕ) (r : Written) : Type 0 where
-  pub value : Table (Content Part)
-  pub stands : PayloadStands s c value
-  pub writes : Writes (accepted (rewriteNames value)) old new r
+  pub record RewritesNames (s : List ℕ) (c : Cursor) (old new : List ℕ) (r : Written) : Type 0 where
+    pub value : Table (Content Part)
+    pub stands : PayloadStands s c value
+    pub writes : Writes (accepted (rewriteNames value)) old new r

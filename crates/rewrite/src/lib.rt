@@ -5,6 +5,7 @@ mod subsections;
 mod whole;
 
 ghost use Rattle.format.specs.Canonical.{canonicalNames, canonicalMetadata, canonicalHints};
+ghost use Rattle.format.specs.Names.{knownKind};
 ghost use Rattle.format.specs.Outputs.{Writes};
 use format::Written;
 use metadata::Judged;
@@ -14,7 +15,7 @@ use reading::Cursor;
 
 // The canonical form of a name payload.
 pub fn names(p: &[u8], out: &mut [u8]) -> Written
-    ensures { λ r. ⌜ Writes (canonicalNames (now (p .entry))) (now (out .entry)) (now (out .exit)) r ⌝ }
+    ensures { λ r. ⌜ Writes (canonicalNames knownKind (now (p .entry))) (now (out .entry)) (now (out .exit)) r ⌝ }
 {
     let judged = judging::judge(p);
     let judging::Judged::Accepted(_) = judged else {

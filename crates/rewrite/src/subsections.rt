@@ -1,5 +1,6 @@
 // The subsections of a name payload that was accepted: how long what is left of them is, and written in their fewest bytes.
 ghost use mathlib.Core.Path.{_≡_};
+ghost use Rattle.format.specs.Names.{knownKind};
 ghost use Rattle.rewrite.specs.Contents.{leftOf};
 ghost use Rattle.rewrite.specs.Subsections.{smallLeft, lengthLeft, KnownFrame, FrameStands, FitsSubsection, PutsSubsection, KnownPayload, MeasuresPayload, FitsPayload, PutsPayload, RewritesNames};
 use crate::contents::Left;
@@ -57,8 +58,8 @@ fn frame_here(s: &[u8], c: Cursor) -> Frame
 
 // How long what is left of all subsections is.
 fn names_length(s: &[u8], c: Cursor) -> usize
-    requires { ⌜ KnownPayload (now s) c ⌝ }
-    ensures { λ r. ⌜ MeasuresPayload (now (s .entry)) c r ⌝ }
+    requires { ⌜ KnownPayload knownKind (now s) c ⌝ }
+    ensures { λ r. ⌜ MeasuresPayload knownKind (now (s .entry)) c r ⌝ }
 {
     let mut next = c;
     let mut length = 0;
@@ -75,8 +76,8 @@ fn names_length(s: &[u8], c: Cursor) -> usize
 
 // What is left of a subsection, with its id and its size; nothing where nothing is left.
 fn put_subsection(out: &mut [u8], at: usize, id: u8, s: &[u8], part: Cursor) -> usize
-    requires { ⌜ FitsSubsection id (now s) part (now out) at ⌝ }
-    ensures { λ r. ⌜ PutsSubsection id (now (s .entry)) part (now (out .entry)) (now (out .exit)) at r ⌝ }
+    requires { ⌜ FitsSubsection knownKind id (now s) part (now out) at ⌝ }
+    ensures { λ r. ⌜ PutsSubsection knownKind id (now (s .entry)) part (now (out .entry)) (now (out .exit)) at r ⌝ }
 {
     let kind = kind_of(id);
     match content_left(s, part, kind) {
@@ -92,8 +93,8 @@ fn put_subsection(out: &mut [u8], at: usize, id: u8, s: &[u8], part: Cursor) -> 
 
 // What is left of all subsections, from the output's front on.
 fn put_names(out: &mut [u8], s: &[u8], c: Cursor) -> usize
-    requires { ⌜ FitsPayload (now s) c (now out) ⌝ }
-    ensures { λ r. ⌜ PutsPayload (now (s .entry)) c (now (out .entry)) (now (out .exit)) r ⌝ }
+    requires { ⌜ FitsPayload knownKind (now s) c (now out) ⌝ }
+    ensures { λ r. ⌜ PutsPayload knownKind (now (s .entry)) c (now (out .entry)) (now (out .exit)) r ⌝ }
 {
     let mut next = c;
     let mut place = 0;
@@ -107,8 +108,8 @@ fn put_names(out: &mut [u8], s: &[u8], c: Cursor) -> usize
 
 // The whole payload. It is measured first, so that nothing is stored where the output is too short; and where it comes out as long as it is, it is copied.
 pub fn put_payload(p: &[u8], c: Cursor, out: &mut [u8]) -> Written
-    requires { ⌜ KnownPayload (now p) c ⌝ }
-    ensures { λ r. ⌜ RewritesNames (now (p .entry)) c (now (out .entry)) (now (out .exit)) r ⌝ }
+    requires { ⌜ KnownPayload knownKind (now p) c ⌝ }
+    ensures { λ r. ⌜ RewritesNames knownKind (now (p .entry)) c (now (out .entry)) (now (out .exit)) r ⌝ }
 {
     let needed = names_length(p, c);
     if out.len() < needed {

@@ -11,7 +11,9 @@ use lib.ListN.{length}
 use Rattle.format.specs.Bytes.{ascii, same}
 use Rattle.format.specs.Reading.{Judged, accepted}
 use Rattle.format.specs.Parts.{Part}
-use Rattle.format.specs.Questions.{Question, askAt, asPlace, answered}
+use Rattle.format.specs.Names.{Kind}
+use Rattle.format.specs.Questions.{askAt, asPlace, answered}
+use Rattle.format.specs.declared.Question.{Question}
 use Rattle.format.specs.Metadata.{askMetadata, askHint, hintAnswered}
 use Rattle.format.specs.Through.{through, askThrough, metadataSection, itemOf, askMetadataThrough, askHintThrough}
 use Rattle.format.specs.Walk.{nameSection, hintSection, customPayload}
@@ -70,14 +72,14 @@ not-there x m question (Found p) e h = absurd (⊎-elim (λ t. omega arith) (λ 
 not-there x m question (Refused r) e h = rw (place-refused (customPayload x m) e)
 
 -- Names
-module _ (q : Question) (m : List ℕ) (a : Answer) (e : answered a ≡ asPlace (customPayload nameSection m)) where
-  pub name-not-there : (tagOf answer-type.the-type a ≡ 0) ⊎ (tagOf answer-type.the-type a ≡ 2) → answered a ≡ asPlace (askThrough q m)
+module _ (kindOf : ℕ → Kind) (q : Question) (m : List ℕ) (a : Answer) (e : answered a ≡ asPlace (customPayload nameSection m)) where
+  pub name-not-there : (tagOf answer-type.the-type a ≡ 0) ⊎ (tagOf answer-type.the-type a ≡ 2) → answered a ≡ asPlace (askThrough kindOf q m)
   unfolding askThrough
-  name-not-there h = not-there nameSection m (askAt q) a e h
+  name-not-there h = not-there nameSection m (askAt kindOf q) a e h
 
-  pub name-there : (r : Answer) {place : Place} {c : Cursor} → a ≡ Found place → c ≡ cursorOver place → answered r ≡ asPlace (askAt q (c .at) (left m c)) → answered r ≡ asPlace (askThrough q m)
+  pub name-there : (r : Answer) {place : Place} {c : Cursor} → a ≡ Found place → c ≡ cursorOver place → answered r ≡ asPlace (askAt kindOf q (c .at) (left m c)) → answered r ≡ asPlace (askThrough kindOf q m)
   unfolding askThrough
-  name-there r is over says = says ∙ ap asPlace (asked-there nameSection m e is (askAt q) over)
+  name-there r is over says = says ∙ ap asPlace (asked-there nameSection m e is (askAt kindOf q) over)
 
 pub ruleset name-questions = (payload-inside, cursor-inside, name-not-there, name-there, needs)
 

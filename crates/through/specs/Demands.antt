@@ -7,7 +7,9 @@ use lib.ListN.{length, take, drop}
 use Rattle.format.specs.Refusals.{numberOf}
 use Rattle.format.specs.Reading.{Judged, accepted, refused}
 use Rattle.format.specs.Parts.{Part}
-use Rattle.format.specs.Questions.{Question, askAt, asPlace, asBytes, answered}
+use Rattle.format.specs.Names.{Kind}
+use Rattle.format.specs.Questions.{askAt, asPlace, asBytes, answered}
+use Rattle.format.specs.declared.Question.{Question}
 use Rattle.format.specs.Metadata.{askMetadata, askHint, hintAnswered}
 use Rattle.format.specs.Walk.{walk, nameSection, hintSection, customPayload}
 use Rattle.format.specs.Through.{through, askThrough, metadataSection, itemOf, askMetadataThrough, askHintThrough}
@@ -48,9 +50,9 @@ module _ (section : List ℕ) (question : ℕ → List ℕ → Judged (Option Pa
   }
 
 -- Demand 2 through a module. "Asked through an accepted module without the section, each gets none." "A payload asked through its module is judged after the walk and counts from the module's start."
-pub name-call-through : (q : Question) (m : List ℕ) (r : Answer) (bytes : List ℕ) → answered r ≡ asPlace (askThrough q m) → bytes ≡ asBytes (askThrough q m) → CallThrough nameSection (askAt q) m r bytes
+pub name-call-through : (kindOf : ℕ → Kind) (q : Question) (m : List ℕ) (r : Answer) (bytes : List ℕ) → answered r ≡ asPlace (askThrough kindOf q m) → bytes ≡ asBytes (askThrough kindOf q m) → CallThrough nameSection (askAt kindOf q) m r bytes
 unfolding askThrough
-name-call-through q m r bytes e b = through-call nameSection (askAt q) m r bytes (λ x h. names-through .very-bytes q m h) e b
+name-call-through kindOf q m r bytes e b = through-call nameSection (askAt kindOf q) m r bytes (λ x h. names-through kindOf .very-bytes q m h) e b
 
 pub metadata-call-through : (format : List ℕ) (f : FunctionIndex) (at : CodeOffset) (m : List ℕ) (r : Answer) (bytes : List ℕ) → answered r ≡ asPlace (askMetadataThrough format f at m) → bytes ≡ asBytes (askMetadataThrough format f at m) → CallThrough (metadataSection format) (askMetadata (itemOf format) f at) m r bytes
 unfolding askMetadataThrough

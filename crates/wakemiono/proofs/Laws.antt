@@ -8,7 +8,7 @@ use borrow.Author.Needs.{needs}
 use denote.Enum.Declared.{tagOf}
 use Rattle.format.specs.Refusals.{numberOf}
 use Rattle.format.specs.Reading.{Judged as Judgement, verdict}
-use Rattle.format.specs.Names.{knownKind, judgeNames}
+use Rattle.format.specs.Names.{Kind, judgeNames}
 use Rattle.format.specs.Metadata.{hintAnswered}
 use Rattle.format.specs.Outputs.{writtenAs, Writes}
 use Rattle.format.specs.Questions.{answered}
@@ -19,6 +19,7 @@ use Rattle.format.specs.declared.Hint.the-variants.{Unlikely, Likely}
 use Rattle.format.specs.declared.HintAnswer.{HintAnswer}
 use Rattle.format.specs.declared.HintAnswer.the-variants.{None as NoHint, Found as AHint, Refused as NotHinted}
 use Rattle.format.specs.declared.Place.{Place}
+use Rattle.format.specs.declared.Question.{Question}
 use Rattle.format.specs.declared.Refusal.{Refusal}
 use Rattle.format.specs.declared.Written.{Written}
 use Rattle.format.specs.declared.Written.the-variants.{Length, Refused as NotWritten}
@@ -45,6 +46,7 @@ use Rattle.walk.specs.declared.survey.SectionPlace.{SectionPlace}
 use Rattle.walk.proofs.survey.SectionAnswer as section-type
 use Rattle.walk.proofs.Tags.{no-section}
 use Rattle.wakemiono.specs.Boundary.{wmNone, wmFound, wmRefused, wmPlace, wmSection, wmCount, wmJudged, wmHinted, wmHint, WmWrites}
+use Rattle.wakemiono.specs.Calls.{wm-name, wm-name-in}
 use Rattle.wakemiono.specs.declared.WmAnswer.{WmAnswer}
 
 pub refusal-is : (r : Refusal) (n : ℕ) → n ≡ numberOf (r .reason) → record { kind = 2; code = n; offset = r .offset .0; length = 0 } ≡ wmRefused (numberOf (r .reason)) (r .offset .0)
@@ -143,8 +145,8 @@ says-place a x y e q = e ∙ ap wmPlace q
 pub says-judged : (a : WmAnswer) (n : ℕ) (x y : Judgement (Unit {0})) → a ≡ wmJudged n x → x ≡ y → a ≡ wmJudged n y
 says-judged a n x y e q = e ∙ ap (wmJudged n) q
 
-pub says-names : (s : List ℕ) (a : WmAnswer) (n : ℕ) (j : NamesJudged) → a ≡ wmJudged n (verdictOf j) → Judges s 0 s j → a ≡ wmJudged n (verdict (judgeNames knownKind 0 s))
-says-names s a n j e h = e ∙ ap (wmJudged n) (verdict-is s 0 s j h)
+pub says-names : (kindOf : ℕ → Kind) (s : List ℕ) (a : WmAnswer) (n : ℕ) (j : NamesJudged) → a ≡ wmJudged n (verdictOf j) → Judges kindOf s 0 s j → a ≡ wmJudged n (verdict (judgeNames kindOf 0 s))
+says-names kindOf s a n j e h = e ∙ ap (wmJudged n) (verdict-is kindOf s 0 s j h)
 
 pub says-hint : (a : WmAnswer) (x y : Judgement (Option Hint)) → a ≡ wmHint x → x ≡ y → a ≡ wmHint y
 says-hint a x y e q = e ∙ ap wmHint q
@@ -152,4 +154,11 @@ says-hint a x y e q = e ∙ ap wmHint q
 pub says-written : {wanted : Judgement (List ℕ)} {old new : List ℕ} {a : WmAnswer} (w : Written) → a ≡ wmCount (writtenAs w) → Writes wanted old new w → WmWrites wanted old new a
 says-written w e h = record { says = e ∙ ap wmCount (h .says); leaves = h .leaves }
 
-pub ruleset calls = (says-count, says-section, says-place, says-judged, says-names, says-hint, says-written, needs)
+-- one question under two names
+pub asked-so : (p : List ℕ) (a : WmAnswer) {q r : Question} → q ≡ r → wm-name q p a → wm-name r p a
+asked-so p a e h = rw e at h
+
+pub asked-so-through : (m : List ℕ) (a : WmAnswer) {q r : Question} → q ≡ r → wm-name-in q m a → wm-name-in r m a
+asked-so-through m a e h = rw e at h
+
+pub ruleset calls = (asked-so, asked-so-through, says-count, says-section, says-place, says-judged, says-names, says-hint, says-written, needs)

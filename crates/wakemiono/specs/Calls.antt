@@ -8,7 +8,8 @@ use Rattle.format.specs.Lists.{functionNames}
 use Rattle.format.specs.Metadata.{anyItem, hintItem, judgeMetadata, askMetadata, askHint}
 use Rattle.format.specs.Names.{knownKind, judgeNames}
 use Rattle.format.specs.Options.{mapSome}
-use Rattle.format.specs.Questions.{Question, asPlace, ask}
+use Rattle.format.specs.Questions.{asPlace, ask}
+use Rattle.format.specs.declared.Question.{Question}
 use Rattle.format.specs.Reading.{mapJudged, verdict}
 use Rattle.format.specs.Through.{askThrough, askMetadataThrough, askHintThrough}
 use Rattle.format.specs.Walk.{sectionCount, sectionAt, customPayload}
@@ -28,9 +29,9 @@ wm-custom name bytes a = a ≡ wmPlace (asPlace (customPayload name bytes))
 abbrev pub wm-names-judge : List ℕ → WmAnswer → Type 0
 wm-names-judge payload a = a ≡ wmJudged (length payload) (verdict (judgeNames knownKind 0 payload))
 
--- The questions to a name payload, one for each call: wm_module_name asks moduleName, wm_function_name functionName (record { 0 = function }), wm_type_name typeName (record { 0 = index }), wm_tag_name tagName (record { 0 = tag }), wm_local_name localName (record { 0 = function }) (record { 0 = local }), wm_field_name fieldName (record { 0 = index }) (record { 0 = field }), wm_kept keptContents id
+-- The questions to a name payload, one for each call: wm_module_name asks ModuleName, wm_function_name FunctionName (record { 0 = function }), wm_type_name TypeName (record { 0 = index }), wm_tag_name TagName (record { 0 = tag }), wm_local_name LocalName (record { 0 = function }) (record { 0 = local }), wm_field_name FieldName (record { 0 = index }) (record { 0 = field }), wm_kept KeptContents id
 abbrev pub wm-name : Question → List ℕ → WmAnswer → Type 0
-wm-name q payload a = a ≡ wmPlace (asPlace (ask q payload))
+wm-name q payload a = a ≡ wmPlace (asPlace (ask knownKind q payload))
 
 abbrev pub wm-metadata-judge : List ℕ → WmAnswer → Type 0
 wm-metadata-judge payload a = a ≡ wmJudged (length payload) (verdict (judgeMetadata anyItem 0 payload))
@@ -46,7 +47,7 @@ wm-hint function offset payload a = a ≡ wmHint (askHint (record { 0 = function
 
 -- The same questions through a module: wm_module_name_in and the others with `_in`
 abbrev pub wm-name-in : Question → List ℕ → WmAnswer → Type 0
-wm-name-in q bytes a = a ≡ wmPlace (asPlace (askThrough q bytes))
+wm-name-in q bytes a = a ≡ wmPlace (asPlace (askThrough knownKind q bytes))
 
 abbrev pub wm-metadata-in : (format : List ℕ) (function offset : ℕ) → List ℕ → WmAnswer → Type 0
 wm-metadata-in format function offset bytes a = a ≡ wmPlace (asPlace (askMetadataThrough format (record { 0 = function }) (record { 0 = offset }) bytes))
@@ -56,7 +57,7 @@ wm-hint-in function offset bytes a = a ≡ wmHint (askHintThrough (record { 0 = 
 
 -- The calls that write are promised of the output before and after, too: `old` and `new`
 abbrev pub wm-names-canonical : (payload old new : List ℕ) → WmAnswer → Type 0
-wm-names-canonical payload old new a = WmWrites (canonicalNames payload) old new a
+wm-names-canonical payload old new a = WmWrites (canonicalNames knownKind payload) old new a
 
 abbrev pub wm-metadata-canonical : (payload old new : List ℕ) → WmAnswer → Type 0
 wm-metadata-canonical payload old new a = WmWrites (canonicalMetadata payload) old new a

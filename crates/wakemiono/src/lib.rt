@@ -3,7 +3,8 @@ ghost use mathlib.Core.Path.{_≡_};
 ghost use lib.ListN.{length};
 ghost use Rattle.format.specs.Metadata.{hintAnswered};
 ghost use Rattle.format.specs.Outputs.{writtenAs};
-ghost use Rattle.format.specs.Questions.{answered, moduleName, functionName, typeName, tagName, localName, fieldName, keptContents};
+ghost use Rattle.format.specs.Questions.{answered};
+ghost use Rattle.format.specs.declared.Question.the-variants.{ModuleName, FunctionName, TypeName, TagName, LocalName, FieldName, KeptContents};
 ghost use Rattle.format.specs.Refusals.{numberOf};
 ghost use Rattle.metadata.specs.Judgements;
 ghost use Rattle.names.specs.Places.{verdictOf};
@@ -17,6 +18,7 @@ use format::FunctionIndex;
 use format::Hint;
 use format::HintAnswer;
 use format::LocalIndex;
+use format::Question;
 use format::Refusal;
 use format::TagIndex;
 use format::TypeIndex;
@@ -211,53 +213,72 @@ pub extern "C" fn wm_names_judge(payload: &[u8]) -> WmAnswer
     of_names_judged(judging::judge(payload), payload.len())
 }
 
+fn local_name(function: u32, local: u32) -> Question
+    ensures { λ q. ⌜ q ≡ LocalName (record { 0 = function }) (record { 0 = local }) ⌝ }
+{
+    Question::LocalName(FunctionIndex(function), LocalIndex(local))
+}
+
+fn field_name(index: u32, field: u32) -> Question
+    ensures { λ q. ⌜ q ≡ FieldName (record { 0 = index }) (record { 0 = field }) ⌝ }
+{
+    Question::FieldName(TypeIndex(index), FieldIndex(field))
+}
+
+// A question to a name payload.
+fn asked(payload: &[u8], q: Question) -> WmAnswer
+    ensures { λ a. ⌜ wm-name q (now (payload .entry)) a ⌝ }
+{
+    of_answer(names::ask(payload, q))
+}
+
 #[no_mangle]
 pub extern "C" fn wm_module_name(payload: &[u8]) -> WmAnswer
-    ensures { λ a. ⌜ wm-name moduleName (now (payload .entry)) a ⌝ }
+    ensures { λ a. ⌜ wm-name ModuleName (now (payload .entry)) a ⌝ }
 {
-    of_answer(names::module_name(payload))
+    asked(payload, Question::ModuleName)
 }
 
 #[no_mangle]
 pub extern "C" fn wm_function_name(payload: &[u8], function: u32) -> WmAnswer
-    ensures { λ a. ⌜ wm-name (functionName (record { 0 = function })) (now (payload .entry)) a ⌝ }
+    ensures { λ a. ⌜ wm-name (FunctionName (record { 0 = function })) (now (payload .entry)) a ⌝ }
 {
-    of_answer(names::function_name(payload, FunctionIndex(function)))
+    asked(payload, Question::FunctionName(FunctionIndex(function)))
 }
 
 #[no_mangle]
 pub extern "C" fn wm_type_name(payload: &[u8], index: u32) -> WmAnswer
-    ensures { λ a. ⌜ wm-name (typeName (record { 0 = index })) (now (payload .entry)) a ⌝ }
+    ensures { λ a. ⌜ wm-name (TypeName (record { 0 = index })) (now (payload .entry)) a ⌝ }
 {
-    of_answer(names::type_name(payload, TypeIndex(index)))
+    asked(payload, Question::TypeName(TypeIndex(index)))
 }
 
 #[no_mangle]
 pub extern "C" fn wm_tag_name(payload: &[u8], tag: u32) -> WmAnswer
-    ensures { λ a. ⌜ wm-name (tagName (record { 0 = tag })) (now (payload .entry)) a ⌝ }
+    ensures { λ a. ⌜ wm-name (TagName (record { 0 = tag })) (now (payload .entry)) a ⌝ }
 {
-    of_answer(names::tag_name(payload, TagIndex(tag)))
+    asked(payload, Question::TagName(TagIndex(tag)))
 }
 
 #[no_mangle]
 pub extern "C" fn wm_local_name(payload: &[u8], function: u32, local: u32) -> WmAnswer
-    ensures { λ a. ⌜ wm-name (localName (record { 0 = function }) (record { 0 = local })) (now (payload .entry)) a ⌝ }
+    ensures { λ a. ⌜ wm-name (LocalName (record { 0 = function }) (record { 0 = local })) (now (payload .entry)) a ⌝ }
 {
-    of_answer(names::local_name(payload, FunctionIndex(function), LocalIndex(local)))
+    asked(payload, local_name(function, local))
 }
 
 #[no_mangle]
 pub extern "C" fn wm_field_name(payload: &[u8], index: u32, field: u32) -> WmAnswer
-    ensures { λ a. ⌜ wm-name (fieldName (record { 0 = index }) (record { 0 = field })) (now (payload .entry)) a ⌝ }
+    ensures { λ a. ⌜ wm-name (FieldName (record { 0 = index }) (record { 0 = field })) (now (payload .entry)) a ⌝ }
 {
-    of_answer(names::field_name(payload, TypeIndex(index), FieldIndex(field)))
+    asked(payload, field_name(index, field))
 }
 
 #[no_mangle]
 pub extern "C" fn wm_kept(payload: &[u8], id: u8) -> WmAnswer
-    ensures { λ a. ⌜ wm-name (keptContents id) (now (payload .entry)) a ⌝ }
+    ensures { λ a. ⌜ wm-name (KeptContents id) (now (payload .entry)) a ⌝ }
 {
-    of_answer(names::kept(payload, id))
+    asked(payload, Question::KeptContents(id))
 }
 
 #[no_mangle]
@@ -288,53 +309,60 @@ pub extern "C" fn wm_hint(payload: &[u8], function: u32, offset: u32) -> WmAnswe
     of_hint(metadata::hint(payload, FunctionIndex(function), CodeOffset(offset)))
 }
 
+// The same through a module.
+fn asked_through(bytes: &[u8], q: Question) -> WmAnswer
+    ensures { λ a. ⌜ wm-name-in q (now (bytes .entry)) a ⌝ }
+{
+    of_answer(through::ask(bytes, q))
+}
+
 #[no_mangle]
 pub extern "C" fn wm_module_name_in(bytes: &[u8]) -> WmAnswer
-    ensures { λ a. ⌜ wm-name-in moduleName (now (bytes .entry)) a ⌝ }
+    ensures { λ a. ⌜ wm-name-in ModuleName (now (bytes .entry)) a ⌝ }
 {
-    of_answer(through::module_name(bytes))
+    asked_through(bytes, Question::ModuleName)
 }
 
 #[no_mangle]
 pub extern "C" fn wm_function_name_in(bytes: &[u8], function: u32) -> WmAnswer
-    ensures { λ a. ⌜ wm-name-in (functionName (record { 0 = function })) (now (bytes .entry)) a ⌝ }
+    ensures { λ a. ⌜ wm-name-in (FunctionName (record { 0 = function })) (now (bytes .entry)) a ⌝ }
 {
-    of_answer(through::function_name(bytes, FunctionIndex(function)))
+    asked_through(bytes, Question::FunctionName(FunctionIndex(function)))
 }
 
 #[no_mangle]
 pub extern "C" fn wm_type_name_in(bytes: &[u8], index: u32) -> WmAnswer
-    ensures { λ a. ⌜ wm-name-in (typeName (record { 0 = index })) (now (bytes .entry)) a ⌝ }
+    ensures { λ a. ⌜ wm-name-in (TypeName (record { 0 = index })) (now (bytes .entry)) a ⌝ }
 {
-    of_answer(through::type_name(bytes, TypeIndex(index)))
+    asked_through(bytes, Question::TypeName(TypeIndex(index)))
 }
 
 #[no_mangle]
 pub extern "C" fn wm_tag_name_in(bytes: &[u8], tag: u32) -> WmAnswer
-    ensures { λ a. ⌜ wm-name-in (tagName (record { 0 = tag })) (now (bytes .entry)) a ⌝ }
+    ensures { λ a. ⌜ wm-name-in (TagName (record { 0 = tag })) (now (bytes .entry)) a ⌝ }
 {
-    of_answer(through::tag_name(bytes, TagIndex(tag)))
+    asked_through(bytes, Question::TagName(TagIndex(tag)))
 }
 
 #[no_mangle]
 pub extern "C" fn wm_local_name_in(bytes: &[u8], function: u32, local: u32) -> WmAnswer
-    ensures { λ a. ⌜ wm-name-in (localName (record { 0 = function }) (record { 0 = local })) (now (bytes .entry)) a ⌝ }
+    ensures { λ a. ⌜ wm-name-in (LocalName (record { 0 = function }) (record { 0 = local })) (now (bytes .entry)) a ⌝ }
 {
-    of_answer(through::local_name(bytes, FunctionIndex(function), LocalIndex(local)))
+    asked_through(bytes, local_name(function, local))
 }
 
 #[no_mangle]
 pub extern "C" fn wm_field_name_in(bytes: &[u8], index: u32, field: u32) -> WmAnswer
-    ensures { λ a. ⌜ wm-name-in (fieldName (record { 0 = index }) (record { 0 = field })) (now (bytes .entry)) a ⌝ }
+    ensures { λ a. ⌜ wm-name-in (FieldName (record { 0 = index }) (record { 0 = field })) (now (bytes .entry)) a ⌝ }
 {
-    of_answer(through::field_name(bytes, TypeIndex(index), FieldIndex(field)))
+    asked_through(bytes, field_name(index, field))
 }
 
 #[no_mangle]
 pub extern "C" fn wm_kept_in(bytes: &[u8], id: u8) -> WmAnswer
-    ensures { λ a. ⌜ wm-name-in (keptContents id) (now (bytes .entry)) a ⌝ }
+    ensures { λ a. ⌜ wm-name-in (KeptContents id) (now (bytes .entry)) a ⌝ }
 {
-    of_answer(through::kept(bytes, id))
+    asked_through(bytes, Question::KeptContents(id))
 }
 
 #[no_mangle]

@@ -1,5 +1,6 @@
 // Runs the worked cases of writing from lists through the code: payloads written into an output, what is left there, and the payload read back. What it prints is held to the file stdout.
 use format::FunctionIndex;
+use format::Question;
 use names::judging;
 use saying::UNTOUCHED;
 use saying::say_answer;
@@ -30,15 +31,15 @@ fn read_back() {
     say_names(b"what was written", judging::judge(payload));
     say_answer(
         b"its function 0",
-        names::function_name(payload, FunctionIndex(0)),
+        names::ask(payload, Question::FunctionName(FunctionIndex(0))),
     );
     say_answer(
         b"its function 1",
-        names::function_name(payload, FunctionIndex(1)),
+        names::ask(payload, Question::FunctionName(FunctionIndex(1))),
     );
     say_answer(
         b"its function 3",
-        names::function_name(payload, FunctionIndex(3)),
+        names::ask(payload, Question::FunctionName(FunctionIndex(3))),
     );
 }
 

@@ -15,7 +15,9 @@ use Rattle.format.specs.Options.{mapSome}
 use Rattle.format.specs.Parts.{Part, placeOf}
 use Rattle.format.specs.Tables.{Table, row, lookup, mapTable}
 use Rattle.format.specs.Names.{Kind, Content, single, names, namesBy, whole, subsections, payload, judgeNames}
-use Rattle.format.specs.Questions.{Query, itsName, itsContents, nameOf, nameWithin, answerIn, answer, Allowed, anId, anIndex, twoIndices, anyId, asPlace, asTold, answered}
+use Rattle.format.specs.Questions.{answerIn, answer, Allowed, anId, anIndex, twoIndices, anyId, asPlace, asTold, answered}
+use Rattle.format.specs.declared.Query.{Query}
+use Rattle.format.specs.declared.Query.the-variants.{ItsName, ItsContents, NameOf, NameWithin}
 use Rattle.format.specs.Metadata.{hintAnswered}
 use Rattle.format.specs.Canonical.{bare}
 use Rattle.format.specs.Laws.Outcomes.{got-value, not-accepted, accepted-is, byTest, judged, refused-exactly}
@@ -34,22 +36,22 @@ use Rattle.format.specs.declared.Answer.the-variants.{None, Found, Refus
 
 bare-in : (q : Query) (c : Content Part) → answerIn q (bare c) ≡ mapSome (λ p. p .bytes) (answerIn q c)
 unfolding bare
-bare-in itsName (single x) = refl
-bare-in itsName (names t) = refl
-bare-in itsName (namesBy t) = refl
-bare-in itsName (whole x) = refl
-bare-in itsContents (single x) = refl
-bare-in itsContents (names t) = refl
-bare-in itsContents (namesBy t) = refl
-bare-in itsContents (whole x) = refl
-bare-in (nameOf k) (single x) = refl
-bare-in (nameOf k) (names t) = lookup-map (λ p. p .bytes) k t
-bare-in (nameOf k) (namesBy t) = refl
-bare-in (nameOf k) (whole x) = refl
-bare-in (nameWithin k j) (single x) = refl
-bare-in (nameWithin k j) (names t) = refl
-bare-in (nameWithin k j) (namesBy t) = rw (lookup-map (mapTable (λ p. p .bytes)) k t) (byOption (lookup k t) (λ e. rw e) (λ u e. rw e (lookup-map (λ p. p .bytes) j u)))
-bare-in (nameWithin k j) (whole x) = refl
+bare-in ItsName (single x) = refl
+bare-in ItsName (names t) = refl
+bare-in ItsName (namesBy t) = refl
+bare-in ItsName (whole x) = refl
+bare-in ItsContents (single x) = refl
+bare-in ItsContents (names t) = refl
+bare-in ItsContents (namesBy t) = refl
+bare-in ItsContents (whole x) = refl
+bare-in (NameOf k) (single x) = refl
+bare-in (NameOf k) (names t) = lookup-map (λ p. p .bytes) k t
+bare-in (NameOf k) (namesBy t) = refl
+bare-in (NameOf k) (whole x) = refl
+bare-in (NameWithin k j) (single x) = refl
+bare-in (NameWithin k j) (names t) = refl
+bare-in (NameWithin k j) (namesBy t) = rw (lookup-map (mapTable (λ p. p .bytes)) k t) (byOption (lookup k t) (λ e. rw e) (λ u e. rw e (lookup-map (λ p. p .bytes) j u)))
+bare-in (NameWithin k j) (whole x) = refl
 
 pub answer-bare : (id : ℕ) (q : Query) (t : Table (Content Part)) → answer id q (mapTable bare t) ≡ mapSome (λ p. p .bytes) (answer id q t)
 unfolding answer
@@ -68,28 +70,28 @@ too-large {t} k s h = byOption (lookup k t) (λ e. e) (λ v e. absurd (omega (ar
 
 -- what is asked of a subsection is allowed, or gets none
 asked-or-none {ℓ} : {C : Type ℓ} (kindOf : ℕ → Kind) (id : ℕ) (q : Query) {k : Kind} {c : Content (List ℕ)} → id < 256 → kindOf id ≡ k → ContentFine k c → (Allowed kindOf id q → C) → (answerIn q c ≡ none → C) → C
-asked-or-none kindOf id itsName b e (singleFine h) f g = f (anId e)
-asked-or-none kindOf id itsName b e (namesFine h) f g = g refl
-asked-or-none kindOf id itsName b e (namesByFine h) f g = g refl
-asked-or-none kindOf id itsName b e wholeFine f g = g refl
-asked-or-none kindOf id (nameOf k) b e (singleFine h) f g = g refl
-asked-or-none kindOf id (nameOf k) b e (namesFine h) f g =
+asked-or-none kindOf id ItsName b e (singleFine h) f g = f (anId e)
+asked-or-none kindOf id ItsName b e (namesFine h) f g = g refl
+asked-or-none kindOf id ItsName b e (namesByFine h) f g = g refl
+asked-or-none kindOf id ItsName b e wholeFine f g = g refl
+asked-or-none kindOf id (NameOf k) b e (singleFine h) f g = g refl
+asked-or-none kindOf id (NameOf k) b e (namesFine h) f g =
     byTest (ltb k limit32) (λ t. f (anIndex e (ltb-true k limit32 t))) (λ t. g (too-large k (h .sorted) (ltb-false k limit32 t)))
-asked-or-none kindOf id (nameOf k) b e (namesByFine h) f g = g refl
-asked-or-none kindOf id (nameOf k) b e wholeFine f g = g refl
-asked-or-none kindOf id (nameWithin k j) b e (singleFine h) f g = g refl
-asked-or-none kindOf id (nameWithin k j) b e (namesFine h) f g = g refl
-asked-or-none kindOf id (nameWithin k j) b e (namesByFine {t = t} h) f g =
+asked-or-none kindOf id (NameOf k) b e (namesByFine h) f g = g refl
+asked-or-none kindOf id (NameOf k) b e wholeFine f g = g refl
+asked-or-none kindOf id (NameWithin k j) b e (singleFine h) f g = g refl
+asked-or-none kindOf id (NameWithin k j) b e (namesFine h) f g = g refl
+asked-or-none kindOf id (NameWithin k j) b e (namesByFine {t = t} h) f g =
     byOption (lookup k t)
     (λ n. g (rw n))
     (λ u n. byTest (ltb j limit32)
     (λ s. f (twoIndices e (lookup-fine k (h .sorted) n .0) (ltb-true j limit32 s)))
     (λ s. g (rw n (too-large j (lookup-fine k (h .sorted) n .1 .sorted) (ltb-false j limit32 s)))))
-asked-or-none kindOf id (nameWithin k j) b e wholeFine f g = g refl
-asked-or-none kindOf id itsContents b e (singleFine h) f g = g refl
-asked-or-none kindOf id itsContents b e (namesFine h) f g = g refl
-asked-or-none kindOf id itsContents b e (namesByFine h) f g = g refl
-asked-or-none kindOf id itsContents b e wholeFine f g = f (anyId b)
+asked-or-none kindOf id (NameWithin k j) b e wholeFine f g = g refl
+asked-or-none kindOf id ItsContents b e (singleFine h) f g = g refl
+asked-or-none kindOf id ItsContents b e (namesFine h) f g = g refl
+asked-or-none kindOf id ItsContents b e (namesByFine h) f g = g refl
+asked-or-none kindOf id ItsContents b e wholeFine f g = f (anyId b)
 
 module _ (kindOf : ℕ → Kind) where
   -- the ids of a payload of bytes are bytes

@@ -10,8 +10,9 @@ use Rattle.format.specs.Bytes.{Bytes}
 use Rattle.format.specs.Reading.{accepted, Accepted}
 use Rattle.format.specs.Tables.{Table, lookup, mapTable}
 use Rattle.format.specs.Names.{Kind, Content, payload, judgeNames}
-use Rattle.format.specs.Questions.{Query, answerIn, answer, Allowed, asked, asTold}
-use Rattle.format.specs.Canonical.{keepRows, trim, bare, writeContent, writeSubsections, rewriteNames, canonical}
+use Rattle.format.specs.Questions.{answerIn, answer, Allowed, asked, asTold}
+use Rattle.format.specs.declared.Query.{Query}
+use Rattle.format.specs.Canonical.{keepRows, trim, bare, writeContent, writeSubsections, rewriteNames, canonicalNames}
 use Rattle.format.specs.Laws.Outcomes.{accepted-is, judged}
 use Rattle.format.specs.Laws.Options.{byOption}
 use Rattle.format.specs.Laws.Codecs.{Fits32, Sorted, end, next, writePart-mono}
@@ -89,11 +90,11 @@ module _ (kindOf : ℕ → Kind) where
       let there : judgeNames kindOf 0 bs ≡ accepted v = rw (c .written, e) in
       ap (mapTable bare) (accepted-is (sym (a .judged) ∙ there)) ∙ q
 
-  pub canonical-is : {bs : List ℕ} (a : AcceptedNames bs) → canonical kindOf bs ≡ accepted (rewriteNames (a .value))
-  unfolding canonical
+  pub canonical-is : {bs : List ℕ} (a : AcceptedNames bs) → canonicalNames kindOf bs ≡ accepted (rewriteNames (a .value))
+  unfolding canonicalNames
   canonical-is a = rw (a .judged)
 
-  pub canonical-stays : {bs : List ℕ} → Canonical bs → canonical kindOf bs ≡ accepted bs
+  pub canonical-stays : {bs : List ℕ} → Canonical bs → canonicalNames kindOf bs ≡ accepted bs
   unfolding rewriteNames
   canonical-stays c =
       let a = canonical-accepted c in
@@ -115,22 +116,23 @@ module _ (kindOf : ℕ → Kind) where
   unfolding rewriteNames
   rewriting-shorter a = omega (arith, subsections-shorter (read-whole a .sorted), read-whole a .shorter)
 
-  -- two payloads have one rewriting exactly where all allowed questions get the same answers
-  pub same-rewriting : {x y : List ℕ} → Bytes x → Bytes y → AcceptedNames x → AcceptedNames y → (canonical kindOf x ≡ canonical kindOf y) ↔ ((id : ℕ) (q : Query) → Allowed kindOf id q → asTold (asked kindOf id q 0 x) ≡ asTold (asked kindOf id q 0 y))
-  unfolding rewriteNames
-  same-rewriting {x} {y} bx by a b = (to, from)
-    where
-      to : canonical kindOf x ≡ canonical kindOf y → (id : ℕ) (q : Query) → Allowed kindOf id q → asTold (asked kindOf id q 0 x) ≡ asTold (asked kindOf id q 0 y)
-      to e id q _ =
-          let one = accepted-is (sym (canonical-is a) ∙ e ∙ canonical-is b) in
-          sym (rewriting-told a id q) ∙ ap (λ bs. asTold (asked kindOf id q 0 bs)) one ∙ rewriting-told b id q
+  -- payloads with one rewriting answer alike, whatever is asked
+  pub same-answers : {x y : List ℕ} (a : AcceptedNames x) (b : AcceptedNames y) → canonicalNames kindOf x ≡ canonicalNames kindOf y → (id : ℕ) (q : Query) → asTold (asked kindOf id q 0 x) ≡ asTold (asked kindOf id q 0 y)
+  same-answers a b e id q =
+      let one = accepted-is (sym (canonical-is a) ∙ e ∙ canonical-is b) in
+      sym (rewriting-told a id q) ∙ ap (λ bs. asTold (asked kindOf id q 0 bs)) one ∙ rewriting-told b id q
 
+  -- two payloads have one rewriting exactly where all allowed questions get the same answers
+  pub same-rewriting : {x y : List ℕ} → Bytes x → Bytes y → AcceptedNames x → AcceptedNames y → (canonicalNames kindOf x ≡ canonicalNames kindOf y) ↔ ((id : ℕ) (q : Query) → Allowed kindOf id q → asTold (asked kindOf id q 0 x) ≡ asTold (asked kindOf id q 0 y))
+  unfolding rewriteNames
+  same-rewriting {x} {y} bx by a b = (λ e id q _. same-answers a b e id q, from)
+    where
       alike : ((id : ℕ) (q : Query) → Allowed kindOf id q → asTold (asked kindOf id q 0 x) ≡ asTold (asked kindOf id q 0 y)) → (id : ℕ) (q : Query) → answer id q (held a) ≡ answer id q (held b)
       alike h id q =
           let told : Allowed kindOf id q → answer id q (held a) ≡ answer id q (held b) = λ l. accepted-is (sym (told-is a id q) ∙ h id q l ∙ told-is b id q) in
           allowed-or-none kindOf a bx id q told (λ n. allowed-or-none kindOf b by id q told (λ m. n ∙ sym m))
 
-      from : ((id : ℕ) (q : Query) → Allowed kindOf id q → asTold (asked kindOf id q 0 x) ≡ asTold (asked kindOf id q 0 y)) → canonical kindOf x ≡ canonical kindOf y
+      from : ((id : ℕ) (q : Query) → Allowed kindOf id q → asTold (asked kindOf id q 0 x) ≡ asTold (asked kindOf id q 0 y)) → canonicalNames kindOf x ≡ canonicalNames kindOf y
       from h =
           let sa = read-whole a .sorted in
           let sb = read-whole b .sorted in

@@ -9,7 +9,10 @@ use Rattle.format.specs.Reading.{got, Reader, filling, Judged, accepted,
 use Rattle.format.specs.Parts.{Part, name, remaining}
 use Rattle.format.specs.Tables.{Table, lookup, table}
 use Rattle.format.specs.Names.{Kind, oneName, nameMap, indirectMap, kept, Content, single, names, namesBy, whole, knownKind, contents, subsections, payload, judgeNames}
-use Rattle.format.specs.Questions.{Query, itsName, itsContents, nameOf, nameWithin, answerIn, answer, asked, Question, idOf, queryOf, askAt}
+use Rattle.format.specs.Questions.{answerIn, answer, asked, idOf, queryOf, askAt}
+use Rattle.format.specs.declared.Question.{Question}
+use Rattle.format.specs.declared.Query.{Query}
+use Rattle.format.specs.declared.Query.the-variants.{ItsName, ItsContents, NameOf, NameWithin}
 use Rattle.format.specs.Metadata.{metadata, judgeMetadata, itemAt, askMetadata}
 use Rattle.format.specs.Walk.{preamble, begins, Custom, custom, Section, Seen, nothing, seeing, sections, framing, walk, payloadOf, payloadIn, nameSection, customPayload}
 use Rattle.format.specs.Through.{orNone, through, askThrough, metadataSection, itemOf, askMetadataThrough}
@@ -47,22 +50,22 @@ subsections-in kindOf (suc most) least all o (id ∷ bs) l e =
     (subsections-in kindOf most (suc id) all o₁ r₁ (sized-located .after all (suc o) bs p o₁ r₁ l₁ e₁) e₃))
 
 answer-in : {all : List ℕ} {c : Content Part} (q : Query) → ContentIn all c → {p : Part} → answerIn q c ≡ some p → PartIn all p
-answer-in itsName (singleIn h) e = rw (← some-is e) h
-answer-in itsName (namesIn h) e = absurd (not-some e)
-answer-in itsName (namesByIn h) e = absurd (not-some e)
-answer-in itsName (wholeIn h) e = absurd (not-some e)
-answer-in itsContents (singleIn h) e = absurd (not-some e)
-answer-in itsContents (namesIn h) e = absurd (not-some e)
-answer-in itsContents (namesByIn h) e = absurd (not-some e)
-answer-in itsContents (wholeIn h) e = rw (← some-is e) h
-answer-in (nameOf k) (singleIn h) e = absurd (not-some e)
-answer-in (nameOf k) (namesIn h) e = rows-found k h e
-answer-in (nameOf k) (namesByIn h) e = absurd (not-some e)
-answer-in (nameOf k) (wholeIn h) e = absurd (not-some e)
-answer-in (nameWithin k j) (singleIn h) e = absurd (not-some e)
-answer-in (nameWithin k j) (namesIn h) e = absurd (not-some e)
-answer-in (nameWithin k j) (namesByIn {t = t} h) e = inThen (lookup k t) _ e λ u e₁ e₂. rows-found j (rows-found k h e₁) e₂
-answer-in (nameWithin k j) (wholeIn h) e = absurd (not-some e)
+answer-in ItsName (singleIn h) e = rw (← some-is e) h
+answer-in ItsName (namesIn h) e = absurd (not-some e)
+answer-in ItsName (namesByIn h) e = absurd (not-some e)
+answer-in ItsName (wholeIn h) e = absurd (not-some e)
+answer-in ItsContents (singleIn h) e = absurd (not-some e)
+answer-in ItsContents (namesIn h) e = absurd (not-some e)
+answer-in ItsContents (namesByIn h) e = absurd (not-some e)
+answer-in ItsContents (wholeIn h) e = rw (← some-is e) h
+answer-in (NameOf k) (singleIn h) e = absurd (not-some e)
+answer-in (NameOf k) (namesIn h) e = rows-found k h e
+answer-in (NameOf k) (namesByIn h) e = absurd (not-some e)
+answer-in (NameOf k) (wholeIn h) e = absurd (not-some e)
+answer-in (NameWithin k j) (singleIn h) e = absurd (not-some e)
+answer-in (NameWithin k j) (namesIn h) e = absurd (not-some e)
+answer-in (NameWithin k j) (namesByIn {t = t} h) e = inThen (lookup k t) _ e λ u e₁ e₂. rows-found j (rows-found k h e₁) e₂
+answer-in (NameWithin k j) (wholeIn h) e = absurd (not-some e)
 
 pub name-lies : (kindOf : ℕ → Kind) (id : ℕ) (q : Query) (all : List ℕ) (o : ℕ) (bs : List ℕ) {p : Part} → Lies all o bs → asked kindOf id q o bs ≡ accepted (some p) → PartIn all p
 unfolding asked judgeNames payload answer
@@ -138,9 +141,9 @@ through-lies x question m h e =
     (λ n. absurd (not-some (accepted-is (rw n at e₂))))
     (λ q n. h (q .at) (q .bytes) (payload-lies x m (rw n at e₁)) (rw n at e₂))
 
-pub name-lies-through : (q : Question) (m : List ℕ) {p : Part} → askThrough q m ≡ accepted (some p) → PartIn m p
+pub name-lies-through : (kindOf : ℕ → Kind) (q : Question) (m : List ℕ) {p : Part} → askThrough kindOf q m ≡ accepted (some p) → PartIn m p
 unfolding askThrough askAt
-name-lies-through q m e = through-lies nameSection (askAt q) m (λ o bs l e₁. name-lies knownKind (idOf q) (queryOf q) m o bs l e₁) e
+name-lies-through kindOf q m e = through-lies nameSection (askAt kindOf q) m (λ o bs l e₁. name-lies kindOf (idOf q) (queryOf q) m o bs l e₁) e
 
 item-of-located : (format : List ℕ) → Located (itemOf format) PartIn
 unfolding itemOf

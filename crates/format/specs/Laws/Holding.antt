@@ -10,7 +10,9 @@ use lib.Dec.{eqb}
 use Rattle.format.specs.Options.{thenSome}
 use Rattle.format.specs.Tables.{Table, nil, row, lookup}
 use Rattle.format.specs.Names.{Kind, Content, single, names, namesBy, whole}
-use Rattle.format.specs.Questions.{Query, itsName, itsContents, nameOf, nameWithin, answerIn, answer}
+use Rattle.format.specs.Questions.{answerIn, answer}
+use Rattle.format.specs.declared.Query.{Query}
+use Rattle.format.specs.declared.Query.the-variants.{ItsName, ItsContents, NameOf, NameWithin}
 use Rattle.format.specs.Holding.{Has, first, later, HasWithin, Holds, theName, theEntry, theInner, theContents}
 use Rattle.format.specs.Laws.Outcomes.{byTest}
 use Rattle.format.specs.Laws.Options.{not-some, some-is, byOption, inThen}
@@ -51,22 +53,22 @@ module _ {A : Type 0} {P : ℕ → A → Type 0} {Q : ℕ → Table A → Type 0
 -- a subsection's answer
 module _ {t : Table (Content (List ℕ))} where
   held-in : (id : ℕ) (q : Query) (c : Content (List ℕ)) {x : List ℕ} → Has id c t → answerIn q c ≡ some x → Holds id q t x
-  held-in id itsName (single y) h e = rw (← some-is e) (theName h)
-  held-in id itsName (names m) h e = absurd (not-some e)
-  held-in id itsName (namesBy m) h e = absurd (not-some e)
-  held-in id itsName (whole y) h e = absurd (not-some e)
-  held-in id itsContents (single y) h e = absurd (not-some e)
-  held-in id itsContents (names m) h e = absurd (not-some e)
-  held-in id itsContents (namesBy m) h e = absurd (not-some e)
-  held-in id itsContents (whole y) h e = rw (← some-is e) (theContents h)
-  held-in id (nameOf k) (single y) h e = absurd (not-some e)
-  held-in id (nameOf k) (names m) h e = theEntry h (lookup-has k m e)
-  held-in id (nameOf k) (namesBy m) h e = absurd (not-some e)
-  held-in id (nameOf k) (whole y) h e = absurd (not-some e)
-  held-in id (nameWithin k j) (single y) h e = absurd (not-some e)
-  held-in id (nameWithin k j) (names m) h e = absurd (not-some e)
-  held-in id (nameWithin k j) (namesBy m) h e = inThen (lookup k m) _ e λ u e₁ e₂. theInner h (record { group = u; outer = lookup-has k m e₁; inner = lookup-has j u e₂ })
-  held-in id (nameWithin k j) (whole y) h e = absurd (not-some e)
+  held-in id ItsName (single y) h e = rw (← some-is e) (theName h)
+  held-in id ItsName (names m) h e = absurd (not-some e)
+  held-in id ItsName (namesBy m) h e = absurd (not-some e)
+  held-in id ItsName (whole y) h e = absurd (not-some e)
+  held-in id ItsContents (single y) h e = absurd (not-some e)
+  held-in id ItsContents (names m) h e = absurd (not-some e)
+  held-in id ItsContents (namesBy m) h e = absurd (not-some e)
+  held-in id ItsContents (whole y) h e = rw (← some-is e) (theContents h)
+  held-in id (NameOf k) (single y) h e = absurd (not-some e)
+  held-in id (NameOf k) (names m) h e = theEntry h (lookup-has k m e)
+  held-in id (NameOf k) (namesBy m) h e = absurd (not-some e)
+  held-in id (NameOf k) (whole y) h e = absurd (not-some e)
+  held-in id (NameWithin k j) (single y) h e = absurd (not-some e)
+  held-in id (NameWithin k j) (names m) h e = absurd (not-some e)
+  held-in id (NameWithin k j) (namesBy m) h e = inThen (lookup k m) _ e λ u e₁ e₂. theInner h (record { group = u; outer = lookup-has k m e₁; inner = lookup-has j u e₂ })
+  held-in id (NameWithin k j) (whole y) h e = absurd (not-some e)
 
 names-sorted : {k : Kind} {m : Table (List ℕ)} → ContentFine k (names m) → TableFine NameFine m
 names-sorted (namesFine h) = h

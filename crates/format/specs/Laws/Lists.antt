@@ -14,7 +14,10 @@ use Rattle.format.specs.Numbers.{shortest, limit32}
 use Rattle.format.specs.Text.{utf8}
 use Rattle.format.specs.Tables.{Table, nil, row, size, lookup}
 use Rattle.format.specs.Names.{Kind, nameMap, names, known, knownKind}
-use Rattle.format.specs.Questions.{Query, answer, asked, Question, moduleName, functionName, typeName, tagName, localName, fieldName, keptContents, idOf, queryOf, askAt, ask, asTold}
+use Rattle.format.specs.Questions.{answer, asked, idOf, queryOf, askAt, ask, asTold}
+use Rattle.format.specs.declared.Question.{Question}
+use Rattle.format.specs.declared.Question.the-variants.{ModuleName, FunctionName, TypeName, TagName, LocalName, FieldName, KeptContents}
+use Rattle.format.specs.declared.Query.{Query}
 use Rattle.format.specs.Holding.{Has, first, later, Lists, firstListed, laterListed}
 use Rattle.format.specs.Canonical.{writePart, writeRows, writeTable, writeContent, writeSubsections, canonicalNames}
 use Rattle.format.specs.Lists.{Indices, sum, listed, unsortedAt, badTextAt, unless, provided, subsection, functionNames}
@@ -112,37 +115,32 @@ module _ {is ns text bs : List ℕ} (w : Written is ns text bs) where
         told-is kindOf a id q ∙ ap accepted (ap (answer id q) (canonical-held kindOf lists-canonical a) ∙ norm-answers kindOf one-subsection id q)
 
 -- Asked in the document's words
-map-kind : knownKind 1 ≡ nameMap
-unfolding knownKind known lookup
-map-kind = refl
-
-answer-listed : (t : Table (List ℕ)) (k : FunctionIndex) → answer (idOf (functionName k)) (queryOf (functionName k)) (row 1 (names t) nil) ≡ lookup (k .0) t
-unfolding answer lookup idOf queryOf
+answer-listed : (t : Table (List ℕ)) (k : FunctionIndex) → answer (idOf (FunctionName k)) (queryOf (FunctionName k)) (row 1 (names t) nil) ≡ lookup (k .0) t
+unfolding answer lookup
 answer-listed t k = refl
 
-answer-other : (t : Table (List ℕ)) (q : Question) → ((k : FunctionIndex) → q ≡ functionName k → lookup (k .0) t ≡ none) → answer (idOf q) (queryOf q) (row 1 (names t) nil) ≡ none
-unfolding answer lookup idOf queryOf
-answer-other t moduleName h = refl
-answer-other t (functionName k) h = h k refl
-answer-other t (typeName k) h = refl
-answer-other t (tagName k) h = refl
-answer-other t (localName k j) h = refl
-answer-other t (fieldName k j) h = refl
-answer-other t (keptContents id) h = byTest (eqb id 1) (λ e. rw e) (λ e. rw e)
+answer-other : (t : Table (List ℕ)) (q : Question) → ((k : FunctionIndex) → q ≡ FunctionName k → lookup (k .0) t ≡ none) → answer (idOf q) (queryOf q) (row 1 (names t) nil) ≡ none
+unfolding answer lookup
+answer-other t ModuleName h = refl
+answer-other t (FunctionName k) h = h k refl
+answer-other t (TypeName k) h = refl
+answer-other t (TagName k) h = refl
+answer-other t (LocalName k j) h = refl
+answer-other t (FieldName k j) h = refl
+answer-other t (KeptContents id) h = byTest (eqb id 1) (λ e. rw e) (λ e. rw e)
 
-module _ {is ns text bs : List ℕ} (w : Written is ns text bs) where
+module _ (kindOf : ℕ → Kind) (one : kindOf 1 ≡ nameMap) {is ns text bs : List ℕ} (w : Written is ns text bs) where
   -- each listed index gives its own text
-  pub listed-told : (k : FunctionIndex) (x : List ℕ) → Lists (k .0) x is ns text → asTold (ask (functionName k) bs) ≡ accepted (some x)
+  pub listed-told : (k : FunctionIndex) (x : List ℕ) → Lists (k .0) x is ns text → asTold (ask kindOf (FunctionName k) bs) ≡ accepted (some x)
   unfolding ask askAt
-  listed-told k x l = lists-told w knownKind map-kind (idOf (functionName k)) (queryOf (functionName k)) ∙ ap accepted (answer-listed (listed is ns text) k ∙ listed-exactly w (k .0) x .1 l)
+  listed-told k x l = lists-told w kindOf one (idOf (FunctionName k)) (queryOf (FunctionName k)) ∙ ap accepted (answer-listed (listed is ns text) k ∙ listed-exactly w (k .0) x .1 l)
 
   -- every other question gets none
-  pub other-told : (q : Question) → ((k : FunctionIndex) (x : List ℕ) → q ≡ functionName k → Lists (k .0) x is ns text → ⊥) → asTold (ask q bs) ≡ accepted none
+  pub other-told : (q : Question) → ((k : FunctionIndex) (x : List ℕ) → q ≡ FunctionName k → Lists (k .0) x is ns text → ⊥) → asTold (ask kindOf q bs) ≡ accepted none
   unfolding ask askAt
   other-told q h =
-      lists-told w knownKind map-kind (idOf q) (queryOf q)
+      lists-told w kindOf one (idOf q) (queryOf q)
       ∙ ap accepted (answer-other (listed is ns text) q (λ k e. none-exactly (lookup (k .0) (listed is ns text)) (λ x. listed-exactly w (k .0) x) .1 (λ x l. h k x e l)))
 
-  pub lists-stay : canonicalNames bs ≡ accepted bs
-  unfolding canonicalNames
-  lists-stay = canonical-stays knownKind (lists-canonical w knownKind map-kind)
+  pub lists-stay : canonicalNames kindOf bs ≡ accepted bs
+  lists-stay = canonical-stays kindOf (lists-canonical w kindOf one)

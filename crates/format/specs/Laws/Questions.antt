@@ -1,4 +1,4 @@
--- The document's questions are exactly those that its table of ids allows.
+-- All that a table of ids allows is asked by one of the questions.
 use Prim.Native.Nat.{ℕ, _<_}
 use mathlib.Core.List.{List}
 use mathlib.Core.Option.{some}
@@ -9,19 +9,13 @@ use lib.Dec.{eqb}
 use Rattle.format.specs.Numbers.{limit32}
 use Rattle.format.specs.Tables.{lookup}
 use Rattle.format.specs.Names.{Kind, oneName, nameMap, indirectMap, kept, known, knownKind}
-use Rattle.format.specs.Questions.{Query, itsName, nameOf, nameWithin, Allowed, anId, anIndex, twoIndices, anyId, Question, moduleName, functionName, typeName, tagName, localName, fieldName, keptContents, idOf, queryOf, InRange, asked, askAt, ask, asTold}
+use Rattle.format.specs.Questions.{Allowed, anId, anIndex, twoIndices, anyId, idOf, queryOf, InRange, asked, askAt, ask, asTold}
+use Rattle.format.specs.declared.Question.{Question}
+use Rattle.format.specs.declared.Question.the-variants.{ModuleName, FunctionName, TypeName, TagName, LocalName, FieldName, KeptContents}
+use Rattle.format.specs.declared.Query.{Query}
+use Rattle.format.specs.declared.Query.the-variants.{ItsName, NameOf, NameWithin}
 use Rattle.format.specs.Laws.Outcomes.{byTest}
 use Rattle.format.specs.Laws.Options.{not-some, some-is, byOption}
-
-pub question-allowed : (q : Question) → InRange q → Allowed knownKind (idOf q) (queryOf q)
-unfolding InRange idOf queryOf knownKind known lookup
-question-allowed moduleName h = anId refl
-question-allowed (functionName k) h = anIndex refl h
-question-allowed (typeName k) h = anIndex refl h
-question-allowed (tagName k) h = anIndex refl h
-question-allowed (localName k j) h = twoIndices refl (h .0) (h .1)
-question-allowed (fieldName k j) h = twoIndices refl (h .0) (h .1)
-question-allowed (keptContents id) h = anyId h
 
 -- the rows of the table
 data Known : ℕ → Kind → Type 0 where
@@ -55,29 +49,32 @@ pub record Posed (id : ℕ) (q : Query) : Type 0 where
   pub its-id : idOf question ≡ id
   pub its-query : queryOf question ≡ q
 
-one-posed : {id : ℕ} → Known id oneName → Posed id itsName
-unfolding InRange idOf queryOf
-one-posed modules = record { question = moduleName; fits = tt; its-id = refl; its-query = refl }
+one-posed : {id : ℕ} → Known id oneName → Posed id ItsName
+unfolding InRange
+one-posed modules = record { question = ModuleName; fits = tt; its-id = refl; its-query = refl }
 
-map-posed : {id k : ℕ} → Known id nameMap → k < limit32 → Posed id (nameOf k)
-unfolding InRange idOf queryOf
-map-posed {k = k} functions h = record { question = functionName (record { 0 = k }); fits = h; its-id = refl; its-query = refl }
-map-posed {k = k} types h = record { question = typeName (record { 0 = k }); fits = h; its-id = refl; its-query = refl }
-map-posed {k = k} tags h = record { question = tagName (record { 0 = k }); fits = h; its-id = refl; its-query = refl }
+map-posed : {id k : ℕ} → Known id nameMap → k < limit32 → Posed id (NameOf k)
+unfolding InRange
+map-posed {k = k} functions h = record { question = FunctionName (record { 0 = k }); fits = h; its-id = refl; its-query = refl }
+map-posed {k = k} types h = record { question = TypeName (record { 0 = k }); fits = h; its-id = refl; its-query = refl }
+map-posed {k = k} tags h = record { question = TagName (record { 0 = k }); fits = h; its-id = refl; its-query = refl }
 
-indirect-posed : {id k j : ℕ} → Known id indirectMap → k < limit32 → j < limit32 → Posed id (nameWithin k j)
-unfolding InRange idOf queryOf
-indirect-posed {k = k} {j = j} locals h g = record { question = localName (record { 0 = k }) (record { 0 = j }); fits = (h, g); its-id = refl; its-query = refl }
-indirect-posed {k = k} {j = j} fields h g = record { question = fieldName (record { 0 = k }) (record { 0 = j }); fits = (h, g); its-id = refl; its-query = refl }
+indirect-posed : {id k j : ℕ} → Known id indirectMap → k < limit32 → j < limit32 → Posed id (NameWithin k j)
+unfolding InRange
+indirect-posed {k = k} {j = j} locals h g = record { question = LocalName (record { 0 = k }) (record { 0 = j }); fits = (h, g); its-id = refl; its-query = refl }
+indirect-posed {k = k} {j = j} fields h g = record { question = FieldName (record { 0 = k }) (record { 0 = j }); fits = (h, g); its-id = refl; its-query = refl }
 
-pub allowed-posed : {id : ℕ} {q : Query} → Allowed knownKind id q → Posed id q
-unfolding InRange idOf queryOf
-allowed-posed (anId {id = id} e) = one-posed (known-kind id oneName e (λ n. let z : _≡_ {A = ℕ} 0 1 = cc in omega arith))
-allowed-posed (anIndex {id = id} e h) = map-posed (known-kind id nameMap e (λ n. let z : _≡_ {A = ℕ} 0 1 = cc in omega arith)) h
-allowed-posed (twoIndices {id = id} e h g) = indirect-posed (known-kind id indirectMap e (λ n. let z : _≡_ {A = ℕ} 0 1 = cc in omega arith)) h g
-allowed-posed (anyId {id = id} h) = record { question = keptContents id; fits = h; its-id = refl; its-query = refl }
+abbrev pub AllPosed : (ℕ → Kind) → Type 0
+AllPosed kindOf = (id : ℕ) (q : Query) → Allowed kindOf id q → Posed id q
+
+pub allowed-posed : AllPosed knownKind
+unfolding InRange
+allowed-posed id q (anId e) = one-posed (known-kind id oneName e (λ n. let z : _≡_ {A = ℕ} 0 1 = cc in omega arith))
+allowed-posed id q (anIndex e h) = map-posed (known-kind id nameMap e (λ n. let z : _≡_ {A = ℕ} 0 1 = cc in omega arith)) h
+allowed-posed id q (twoIndices e h g) = indirect-posed (known-kind id indirectMap e (λ n. let z : _≡_ {A = ℕ} 0 1 = cc in omega arith)) h g
+allowed-posed id q (anyId h) = record { question = KeptContents id; fits = h; its-id = refl; its-query = refl }
 
 -- so what holds of all questions holds of all that is allowed
-pub posed-told : {id : ℕ} {q : Query} → Posed id q → (x y : List ℕ) → ((a : Question) → InRange a → asTold (ask a x) ≡ asTold (ask a y)) → asTold (asked knownKind id q 0 x) ≡ asTold (asked knownKind id q 0 y)
+pub posed-told : (kindOf : ℕ → Kind) {id : ℕ} {q : Query} → Posed id q → (x y : List ℕ) → ((a : Question) → InRange a → asTold (ask kindOf a x) ≡ asTold (ask kindOf a y)) → asTold (asked kindOf id q 0 x) ≡ asTold (asked kindOf id q 0 y)
 unfolding ask askAt
-posed-told p x y h = let told = h (p .question) (p .fits) in rw (p .its-id, p .its-query) at told
+posed-told kindOf p x y h = let told = h (p .question) (p .fits) in rw (p .its-id, p .its-query) at told

@@ -8,7 +8,9 @@ use lib.ListN.{length}
 use Rattle.format.specs.Options.{thenSome}
 use Rattle.format.specs.Tables.{Table, nil, row, lookup}
 use Rattle.format.specs.Names.{Kind, oneName, nameMap, indirectMap, kept, Content, single, names, namesBy, whole}
-use Rattle.format.specs.Questions.{Query, itsName, itsContents, nameOf, nameWithin, answerIn}
+use Rattle.format.specs.Questions.{answerIn}
+use Rattle.format.specs.declared.Query.{Query}
+use Rattle.format.specs.declared.Query.the-variants.{ItsName, ItsContents, NameOf, NameWithin}
 use Rattle.format.specs.Canonical.{writePart, writeTable, unlessEmpty, keepRows, trim, writeContent}
 use Rattle.format.specs.Laws.Options.{some-is, inThen}
 use Rattle.format.specs.Laws.Codecs.{TableFine}
@@ -54,23 +56,23 @@ rows-then (row k v t) make g h = refl
 
 no-names : (q : Query) → answerIn {X = List ℕ} q (names nil) ≡ none
 unfolding lookup
-no-names itsName = refl
-no-names itsContents = refl
-no-names (nameOf k) = refl
-no-names (nameWithin k j) = refl
+no-names ItsName = refl
+no-names ItsContents = refl
+no-names (NameOf k) = refl
+no-names (NameWithin k j) = refl
 
 no-groups : (q : Query) → answerIn {X = List ℕ} q (namesBy nil) ≡ none
 unfolding lookup
-no-groups itsName = refl
-no-groups itsContents = refl
-no-groups (nameOf k) = refl
-no-groups (nameWithin k j) = refl
+no-groups ItsName = refl
+no-groups ItsContents = refl
+no-groups (NameOf k) = refl
+no-groups (NameWithin k j) = refl
 
 groups-answered : {t : Table (Table (List ℕ))} → TableFine (TableFine NameFine) t → (q : Query) → answerIn q (namesBy (keepRows unlessEmpty t)) ≡ answerIn q (namesBy t)
-groups-answered h itsName = refl
-groups-answered h itsContents = refl
-groups-answered h (nameOf k) = refl
-groups-answered h (nameWithin k j) = groups-answer (h .sorted) k j
+groups-answered h ItsName = refl
+groups-answered h ItsContents = refl
+groups-answered h (NameOf k) = refl
+groups-answered h (NameWithin k j) = groups-answer (h .sorted) k j
 
 pub trim-answer : {k : Kind} {c : Content (List ℕ)} → ContentFine k c → (q : Query) → thenSome (trim c) (answerIn q) ≡ answerIn q c
 trim-answer (singleFine h) q = refl
@@ -92,15 +94,15 @@ trim-shorter wholeFine e = rw (← some-is e) (omega arith)
 
 -- answers tell contents apart
 pub norm-loud : {k : Kind} {c : Content (List ℕ)} → ContentNorm k c → (q : Query) × (x : List ℕ) × (answerIn q c ≡ some x)
-norm-loud (singleNorm {x = x} h) = (itsName, x, refl)
-norm-loud (namesNorm h) = let (k, x, e) = row-found (h .rows) in (nameOf k, x, e)
+norm-loud (singleNorm {x = x} h) = (ItsName, x, refl)
+norm-loud (namesNorm h) = let (k, x, e) = row-found (h .rows) in (NameOf k, x, e)
 norm-loud (namesByNorm n h) =
-    let (k, j, x, e) = groups-loud NameFine n h in (nameWithin k j, x, e)
-norm-loud (wholeNorm {x = x}) = (itsContents, x, refl)
+    let (k, j, x, e) = groups-loud NameFine n h in (NameWithin k j, x, e)
+norm-loud (wholeNorm {x = x}) = (ItsContents, x, refl)
 
 pub norm-sure : {k : Kind} {c d : Content (List ℕ)} → ContentNorm k c → ContentNorm k d → ((q : Query) → answerIn q c ≡ answerIn q d) → c ≡ d
-norm-sure (singleNorm a) (singleNorm b) h = ap single (some-is (h itsName))
-norm-sure (namesNorm a) (namesNorm b) h = ap names (same-lookups (a .fine .sorted) (b .fine .sorted) (λ k. h (nameOf k)))
+norm-sure (singleNorm a) (singleNorm b) h = ap single (some-is (h ItsName))
+norm-sure (namesNorm a) (namesNorm b) h = ap names (same-lookups (a .fine .sorted) (b .fine .sorted) (λ k. h (NameOf k)))
 norm-sure (namesByNorm n a) (namesByNorm m b) h =
-    ap namesBy (groups-sure NameFine a b (λ k j. h (nameWithin k j)))
-norm-sure wholeNorm wholeNorm h = ap whole (some-is (h itsContents))
+    ap namesBy (groups-sure NameFine a b (λ k j. h (NameWithin k j)))
+norm-sure wholeNorm wholeNorm h = ap whole (some-is (h ItsContents))

@@ -2,7 +2,7 @@
 use Prim.Native.Nat.{ℕ}
 use mathlib.Core.List.{List}
 use Rattle.format.specs.Determined.{Determines, equal-determined}
-use Rattle.format.specs.Questions.{moduleName, functionName, typeName, tagName, localName, fieldName, keptContents}
+use Rattle.format.specs.declared.Question.the-variants.{ModuleName, FunctionName, TypeName, TagName, LocalName, FieldName, KeptContents}
 use Rattle.format.specs.Reading.{Judged}
 use Rattle.wakemiono.proofs.Same.{wm-writes-same}
 use Rattle.wakemiono.specs.Boundary.{WmWrites}
@@ -25,25 +25,25 @@ wm-custom-determined bytes name = equal-determined _
 pub wm-names-judge-determined : (payload : List ℕ) → Determines (λ (r : WmAnswer). wm-names-judge payload r)
 wm-names-judge-determined payload = equal-determined _
 
-pub wm-module-name-determined : (payload : List ℕ) → Determines (λ (r : WmAnswer). wm-name moduleName payload r)
+pub wm-module-name-determined : (payload : List ℕ) → Determines (λ (r : WmAnswer). wm-name ModuleName payload r)
 wm-module-name-determined payload = equal-determined _
 
-pub wm-function-name-determined : (payload : List ℕ) (function : ℕ) → Determines (λ (r : WmAnswer). wm-name (functionName (record { 0 = function })) payload r)
+pub wm-function-name-determined : (payload : List ℕ) (function : ℕ) → Determines (λ (r : WmAnswer). wm-name (FunctionName (record { 0 = function })) payload r)
 wm-function-name-determined payload function = equal-determined _
 
-pub wm-type-name-determined : (payload : List ℕ) (index : ℕ) → Determines (λ (r : WmAnswer). wm-name (typeName (record { 0 = index })) payload r)
+pub wm-type-name-determined : (payload : List ℕ) (index : ℕ) → Determines (λ (r : WmAnswer). wm-name (TypeName (record { 0 = index })) payload r)
 wm-type-name-determined payload index = equal-determined _
 
-pub wm-tag-name-determined : (payload : List ℕ) (tag : ℕ) → Determines (λ (r : WmAnswer). wm-name (tagName (record { 0 = tag })) payload r)
+pub wm-tag-name-determined : (payload : List ℕ) (tag : ℕ) → Determines (λ (r : WmAnswer). wm-name (TagName (record { 0 = tag })) payload r)
 wm-tag-name-determined payload tag = equal-determined _
 
-pub wm-local-name-determined : (payload : List ℕ) (function local : ℕ) → Determines (λ (r : WmAnswer). wm-name (localName (record { 0 = function }) (record { 0 = local })) payload r)
+pub wm-local-name-determined : (payload : List ℕ) (function local : ℕ) → Determines (λ (r : WmAnswer). wm-name (LocalName (record { 0 = function }) (record { 0 = local })) payload r)
 wm-local-name-determined payload function local = equal-determined _
 
-pub wm-field-name-determined : (payload : List ℕ) (index field : ℕ) → Determines (λ (r : WmAnswer). wm-name (fieldName (record { 0 = index }) (record { 0 = field })) payload r)
+pub wm-field-name-determined : (payload : List ℕ) (index field : ℕ) → Determines (λ (r : WmAnswer). wm-name (FieldName (record { 0 = index }) (record { 0 = field })) payload r)
 wm-field-name-determined payload index field = equal-determined _
 
-pub wm-kept-determined : (payload : List ℕ) (id : ℕ) → Determines (λ (r : WmAnswer). wm-name (keptContents id) payload r)
+pub wm-kept-determined : (payload : List ℕ) (id : ℕ) → Determines (λ (r : WmAnswer). wm-name (KeptContents id) payload r)
 wm-kept-determined payload id = equal-determined _
 
 pub wm-metadata-judge-determined : (payload : List ℕ) → Determines (λ (r : WmAnswer). wm-metadata-judge payload r)
@@ -58,25 +58,25 @@ wm-metadata-determined payload function offset = equal-determined _
 pub wm-hint-determined : (payload : List ℕ) (function offset : ℕ) → Determines (λ (r : WmAnswer). wm-hint function offset payload r)
 wm-hint-determined payload function offset = equal-determined _
 
-pub wm-module-name-in-determined : (bytes : List ℕ) → Determines (λ (r : WmAnswer). wm-name-in moduleName bytes r)
+pub wm-module-name-in-determined : (bytes : List ℕ) → Determines (λ (r : WmAnswer). wm-name-in ModuleName bytes r)
 wm-module-name-in-determined bytes = equal-determined _
 
-pub wm-function-name-in-determined : (bytes : List ℕ) (function : ℕ) → Determines (λ (r : WmAnswer). wm-name-in (functionName (record { 0 = function })) bytes r)
+pub wm-function-name-in-determined : (bytes : List ℕ) (function : ℕ) → Determines (λ (r : WmAnswer). wm-name-in (FunctionName (record { 0 = function })) bytes r)
 wm-function-name-in-determined bytes function = equal-determined _
 
-pub wm-type-name-in-determined : (bytes : List ℕ) (index : ℕ) → Determines (λ (r : WmAnswer). wm-name-in (typeName (record { 0 = index })) bytes r)
+pub wm-type-name-in-determined : (bytes : List ℕ) (index : ℕ) → Determines (λ (r : WmAnswer). wm-name-in (TypeName (record { 0 = index })) bytes r)
 wm-type-name-in-determined bytes index = equal-determined _
 
-pub wm-tag-name-in-determined : (bytes : List ℕ) (tag : ℕ) → Determines (λ (r : WmAnswer). wm-name-in (tagName (record { 0 = tag })) bytes r)
+pub wm-tag-name-in-determined : (bytes : List ℕ) (tag : ℕ) → Determines (λ (r : WmAnswer). wm-name-in (TagName (record { 0 = tag })) bytes r)
 wm-tag-name-in-determined bytes tag = equal-determined _
 
-pub wm-local-name-in-determined : (bytes : List ℕ) (function local : ℕ) → Determines (λ (r : WmAnswer). wm-name-in (localName (record { 0 = function }) (record { 0 = local })) bytes r)
+pub wm-local-name-in-determined : (bytes : List ℕ) (function local : ℕ) → Determines (λ (r : WmAnswer). wm-name-in (LocalName (record { 0 = function }) (record { 0 = local })) bytes r)
 wm-local-name-in-determined bytes function local = equal-determined _
 
-pub wm-field-name-in-determined : (bytes : List ℕ) (index field : ℕ) → Determines (λ (r : WmAnswer). wm-name-in (fieldName (record { 0 = index }) (record { 0 = field })) bytes r)
+pub wm-field-name-in-determined : (bytes : List ℕ) (index field : ℕ) → Determines (λ (r : WmAnswer). wm-name-in (FieldName (record { 0 = index }) (record { 0 = field })) bytes r)
 wm-field-name-in-determined bytes index field = equal-determined _
 
-pub wm-kept-in-determined : (bytes : List ℕ) (id : ℕ) → Determines (λ (r : WmAnswer). wm-name-in (keptContents id) bytes r)
+pub wm-kept-in-determined : (bytes : List ℕ) (id : ℕ) → Determines (λ (r : WmAnswer). wm-name-in (KeptContents id) bytes r)
 wm-kept-in-determined bytes id = equal-determined _
 
 pub wm-metadata-in-determined : (bytes format : List ℕ) (function offset : ℕ) → Determines (λ (r : WmAnswer). wm-metadata-in format function offset bytes r)

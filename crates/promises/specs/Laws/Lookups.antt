@@ -9,7 +9,8 @@ use Rattle.format.specs.Holding.{Has, HasWithin, Holds, theName, theEntry, theI
 use Rattle.format.specs.Metadata.{dataOf, hintItem, judgeMetadata, askHint}
 use Rattle.format.specs.Names.{Content, single, names, namesBy, whole}
 use Rattle.format.specs.Parts.{Part}
-use Rattle.format.specs.Questions.{asPlace, itsName, itsContents, nameOf, nameWithin}
+use Rattle.format.specs.Questions.{asPlace}
+use Rattle.format.specs.declared.Query.the-variants.{ItsName, ItsContents, NameOf, NameWithin}
 use Rattle.format.specs.Reading.{Judged, accepted}
 use Rattle.format.specs.Tables.{Table}
 use Rattle.format.specs.declared.CodeOffset.{CodeOffset}
@@ -70,14 +71,14 @@ module _ (f : FunctionIndex) (at : CodeOffset) (p : List ℕ) (a : WmAnswer) (me
 
 -- What is held, as the rows that hold it
 module _ {X : Type 0} {t : Table (Content X)} {x : X} (id : ℕ) where
-  pub name-held : Holds id itsName t x ↔ Has id (single x) t
+  pub name-held : Holds id ItsName t x ↔ Has id (single x) t
   name-held = (elim [ theName h ↦ h ], λ h. theName h)
 
-  pub contents-held : Holds id itsContents t x ↔ Has id (whole x) t
+  pub contents-held : Holds id ItsContents t x ↔ Has id (whole x) t
   contents-held = (elim [ theContents h ↦ h ], λ h. theContents h)
 
-  pub entry-held : (k : ℕ) → Holds id (nameOf k) t x ↔ ((m : Table X) × Has id (names m) t × Has k x m)
+  pub entry-held : (k : ℕ) → Holds id (NameOf k) t x ↔ ((m : Table X) × Has id (names m) t × Has k x m)
   entry-held k = (elim [ theEntry {m = m} h g ↦ (m, h, g) ], λ r. theEntry (r .1) (r .2))
 
-  pub inner-held : (k j : ℕ) → Holds id (nameWithin k j) t x ↔ ((m : Table (Table X)) × Has id (namesBy m) t × ((u : Table X) × Has k u m × Has j x u))
+  pub inner-held : (k j : ℕ) → Holds id (NameWithin k j) t x ↔ ((m : Table (Table X)) × Has id (namesBy m) t × ((u : Table X) × Has k u m × Has j x u))
   inner-held k j = (elim [ theInner {m = m} h g ↦ (m, h, within-held .0 g) ], λ r. theInner (r .1) (within-held .1 (r .2)))

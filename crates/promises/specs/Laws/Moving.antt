@@ -16,7 +16,10 @@ use Rattle.format.specs.Names.{Kind, oneName, nameMap, indirectMap, kept, Conte
 use Rattle.format.specs.Numbers.{groups, number}
 use Rattle.format.specs.Options.{thenSome, mapSome, isSome}
 use Rattle.format.specs.Parts.{Part, sized, name, remaining, goOn, cut}
-use Rattle.format.specs.Questions.{Query, itsName, itsContents, nameOf, nameWithin, answerIn, answer, asked, Question, idOf, queryOf, askAt}
+use Rattle.format.specs.Questions.{answerIn, answer, asked, idOf, queryOf, askAt}
+use Rattle.format.specs.declared.Question.{Question}
+use Rattle.format.specs.declared.Query.{Query}
+use Rattle.format.specs.declared.Query.the-variants.{ItsName, ItsContents, NameOf, NameWithin}
 use Rattle.format.specs.Reading.{Outcome, got, stop, Reader, andThen, _>>_, checked, atEnd, filling, Judged, accepted, refused, judge, mapJudged}
 use Rattle.format.specs.Tables.{Table, lookup, mapTable, rows, table}
 use Rattle.format.specs.Text.{utf8}
@@ -157,28 +160,28 @@ within-moves k i j t = rw (lookup-map (mapTable (movePart k)) i t) (byOption (lo
 
 answer-in-moves : (k : ℕ) (q : Query) (c : Content Part) → answerIn q (moveContent k c) ≡ mapSome (movePart k) (answerIn q c)
 unfolding moveContent
-answer-in-moves k itsName (single x) = refl
-answer-in-moves k itsName (names t) = refl
-answer-in-moves k itsName (namesBy t) = refl
-answer-in-moves k itsName (whole x) = refl
-answer-in-moves k itsContents (single x) = refl
-answer-in-moves k itsContents (names t) = refl
-answer-in-moves k itsContents (namesBy t) = refl
-answer-in-moves k itsContents (whole x) = refl
-answer-in-moves k (nameOf i) (single x) = refl
-answer-in-moves k (nameOf i) (names t) = lookup-map (movePart k) i t
-answer-in-moves k (nameOf i) (namesBy t) = refl
-answer-in-moves k (nameOf i) (whole x) = refl
-answer-in-moves k (nameWithin i j) (single x) = refl
-answer-in-moves k (nameWithin i j) (names t) = refl
-answer-in-moves k (nameWithin i j) (namesBy t) = within-moves k i j t
-answer-in-moves k (nameWithin i j) (whole x) = refl
+answer-in-moves k ItsName (single x) = refl
+answer-in-moves k ItsName (names t) = refl
+answer-in-moves k ItsName (namesBy t) = refl
+answer-in-moves k ItsName (whole x) = refl
+answer-in-moves k ItsContents (single x) = refl
+answer-in-moves k ItsContents (names t) = refl
+answer-in-moves k ItsContents (namesBy t) = refl
+answer-in-moves k ItsContents (whole x) = refl
+answer-in-moves k (NameOf i) (single x) = refl
+answer-in-moves k (NameOf i) (names t) = lookup-map (movePart k) i t
+answer-in-moves k (NameOf i) (namesBy t) = refl
+answer-in-moves k (NameOf i) (whole x) = refl
+answer-in-moves k (NameWithin i j) (single x) = refl
+answer-in-moves k (NameWithin i j) (names t) = refl
+answer-in-moves k (NameWithin i j) (namesBy t) = within-moves k i j t
+answer-in-moves k (NameWithin i j) (whole x) = refl
 
 answer-moves : (k id : ℕ) (q : Query) (t : Table (Content Part)) → answer id q (mapTable (moveContent k) t) ≡ mapSome (movePart k) (answer id q t)
 unfolding answer
 answer-moves k id q t = rw (lookup-map (moveContent k) id t) (byOption (lookup id t) (λ e. rw e) (λ c e. rw e (answer-in-moves k q c)))
 
-pub name-asked-moves : (q : Question) (k : ℕ) (p : List ℕ) → askAt q k p ≡ movedJudged (mapSome (movePart k)) k (askAt q 0 p)
+pub name-asked-moves : (q : Question) (k : ℕ) (p : List ℕ) → askAt knownKind q k p ≡ movedJudged (mapSome (movePart k)) k (askAt knownKind q 0 p)
 unfolding askAt asked
 name-asked-moves q k p = ap (mapJudged (answer (idOf q) (queryOf q))) (names-move k p) ∙ map-moved (answer (idOf q) (queryOf q)) (mapTable (moveContent k)) (mapSome (movePart k)) k (judgeNames knownKind 0 p) (answer-moves k (idOf q) (queryOf q))
 

@@ -8,7 +8,7 @@ use native.Mathlib.Omega.{arith}
 use lib.Dec.{ltb, leb, eqb}
 use lib.ListN.{length, getElem?}
 use Rattle.format.specs.Bytes.{ascii, same}
-use Rattle.format.specs.Canonical.{rewriteNames, canonical, canonicalNames, rewriteMetadata, canonicalOf, canonicalMetadata, canonicalHints, writeContent}
+use Rattle.format.specs.Canonical.{rewriteNames, canonicalNames, rewriteMetadata, canonicalOf, canonicalMetadata, canonicalHints, writeContent}
 use Rattle.format.specs.Laws.Outcomes.{not-accepted, byTest, refused-exactly}
 use Rattle.format.specs.Lists.{sum, listed, unsortedAt, badTextAt, unless, provided, functionNames}
 use Rattle.format.specs.Metadata.{hintOf, anyItem, hintItem, metadata, judgeMetadata, itemAt, askMetadata, hintIn, askHint}
@@ -17,7 +17,8 @@ use Rattle.format.specs.Numbers.{groups, number, limit32}
 use Rattle.format.specs.Options.{isSome}
 use Rattle.format.specs.Outputs.{fitting, writeAnswer}
 use Rattle.format.specs.Parts.{Part, sized, name, remaining, goOn}
-use Rattle.format.specs.Questions.{Question, idOf, queryOf, answer, asked, askAt, ask}
+use Rattle.format.specs.Questions.{idOf, queryOf, answer, asked, askAt, ask}
+use Rattle.format.specs.declared.Question.{Question}
 use Rattle.format.specs.Reading.{Outcome, got, stop, Reader, andThen, _>>_, checked, atEnd, filling, Judged, accepted, refused, judge, judgedThen, mapJudged, verdict}
 use Rattle.format.specs.Refusals.{numberOf}
 use Rattle.format.specs.Tables.{rows, table}
@@ -146,7 +147,7 @@ names-fair : (at : ℕ) (p : List ℕ) → FairlyJudged (judgeNames knownKind at
 unfolding judgeNames payload
 names-fair at p = fairly-judged (payload knownKind at p) (subsections-fair knownKind (length p) 0 at p)
 
-name-at-fair : (q : Question) (at : ℕ) (p : List ℕ) → FairlyJudged (askAt q at p)
+name-at-fair : (q : Question) (at : ℕ) (p : List ℕ) → FairlyJudged (askAt knownKind q at p)
 unfolding askAt asked
 name-at-fair q at p = fairly-mapped (answer (idOf q) (queryOf q)) (judgeNames knownKind at p) (names-fair at p)
 
@@ -190,7 +191,7 @@ metadata-verdict-fair p = fairly-mapped (λ _. tt) (judgeMetadata anyItem 0 p) (
 pub hints-verdict-fair : (p : List ℕ) → FairlyJudged (verdict (judgeMetadata hintItem 0 p))
 hints-verdict-fair p = fairly-mapped (λ _. tt) (judgeMetadata hintItem 0 p) (hints-fair p)
 
-pub name-asked-fair : (q : Question) (p : List ℕ) → FairlyJudged (ask q p)
+pub name-asked-fair : (q : Question) (p : List ℕ) → FairlyJudged (ask knownKind q p)
 unfolding ask
 name-asked-fair q p = name-at-fair q 0 p
 
@@ -263,9 +264,9 @@ through-fair x question m fair = fairly-then (customPayload x m) _ (custom-paylo
     there none = fairly-accepted
     there (some p) = fair (p .at) (p .bytes)
 
-pub name-through-fair : (q : Question) (m : List ℕ) → FairlyJudged (askThrough q m)
+pub name-through-fair : (q : Question) (m : List ℕ) → FairlyJudged (askThrough knownKind q m)
 unfolding askThrough
-name-through-fair q m = through-fair nameSection (askAt q) m (name-at-fair q)
+name-through-fair q m = through-fair nameSection (askAt knownKind q) m (name-at-fair q)
 
 item-of-fair : (format : List ℕ) (o : ℕ) (bs : List ℕ) → Fair (itemOf format o bs)
 unfolding itemOf
@@ -284,8 +285,8 @@ pub written-fair : (room : ℕ) (wanted : Judged (List ℕ)) → FairlyJudged wa
 unfolding writeAnswer fitting
 written-fair room wanted fair = fairly-mapped length (judgedThen wanted _) (fairly-then wanted _ fair λ bs. byTest (leb (length bs) room) (λ t. rw t fairly-accepted) (λ t. rw t (fairly-refused (omega arith, omega arith))))
 
-pub canonical-names-fair : (p : List ℕ) → FairlyJudged (canonicalNames p)
-unfolding canonicalNames canonical
+pub canonical-names-fair : (p : List ℕ) → FairlyJudged (canonicalNames knownKind p)
+unfolding canonicalNames
 canonical-names-fair p = fairly-mapped rewriteNames (judgeNames knownKind 0 p) (names-fair 0 p)
 
 pub canonical-metadata-fair : (p : List ℕ) → FairlyJudged (canonicalMetadata p)

@@ -16,7 +16,9 @@ use Rattle.format.specs.Laws.Places.{lies-there, lies-inside}
 use Rattle.format.specs.Metadata.{anyItem, hintItem, metadata, judgeMetadata, askMetadata, askHint}
 use Rattle.format.specs.Options.{mapSome}
 use Rattle.format.specs.Parts.{Part}
-use Rattle.format.specs.Questions.{Question, askAt, ask, asPlace}
+use Rattle.format.specs.Names.{knownKind}
+use Rattle.format.specs.Questions.{askAt, ask, asPlace}
+use Rattle.format.specs.declared.Question.{Question}
 use Rattle.format.specs.Reading.{Judged, accepted, refused, judgedThen, verdict}
 use Rattle.format.specs.Tables.{Table}
 use Rattle.format.specs.Through.{orNone, through, askThrough, metadataSection, itemOf, askMetadataThrough, askHintThrough}
@@ -97,9 +99,9 @@ places-through x question moves m a c e d = (
   through-moved (λ j. wmPlace (asPlace j)) question x m a c e d (λ k p. rw (moves k p) (place-moved k (question 0 p))),
 )
 
-pub name-through : (q : Question) → PutThrough (ascii "name") (λ p b. b ≡ wmPlace (asPlace (ask q p))) (λ m a. a ≡ wmPlace (asPlace (askThrough q m)))
+pub name-through : (q : Question) → PutThrough (ascii "name") (λ p b. b ≡ wmPlace (asPlace (ask knownKind q p))) (λ m a. a ≡ wmPlace (asPlace (askThrough knownKind q m)))
 unfolding askThrough nameSection ask
-name-through q = places-through (ascii "name") (askAt q) (name-asked-moves q)
+name-through q = places-through (ascii "name") (askAt knownKind q) (name-asked-moves q)
 
 pub hint-through : (f : FunctionIndex) (o : CodeOffset) → PutThrough (ascii "metadata.code.branch_hint") (λ p b. b ≡ wmHint (askHint f o 0 p)) (λ m a. a ≡ wmHint (askHintThrough f o m))
 unfolding askHintThrough hintSection

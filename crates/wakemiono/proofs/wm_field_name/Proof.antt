@@ -5,11 +5,11 @@ use Rattle.wakemiono.proofs.wm_field_name.Tie as tie
 field-name-requires : tie.Need-field-name-requires
 field-name-requires c κs = search calls
 
-of-answer-requires : tie.Need-of-answer-requires
-of-answer-requires c κs = search calls
+asked-requires : tie.Need-asked-requires
+asked-requires c κs = search calls
 
 returns : tie.Need-returns
 returns c = search calls
 
 pub wm-field-name-spec : {M : Type 1} → statement M
-wm-field-name-spec = tie.close (tie.spec field-name-requires of-answer-requires returns)
+wm-field-name-spec = tie.close (tie.spec field-name-requires asked-requires returns)

@@ -5,11 +5,11 @@ use Rattle.wakemiono.proofs.wm_local_name_in.Tie as tie
 local-name-requires : tie.Need-local-name-requires
 local-name-requires c κs = search calls
 
-of-answer-requires : tie.Need-of-answer-requires
-of-answer-requires c κs = search calls
+asked-through-requires : tie.Need-asked-through-requires
+asked-through-requires c κs = search calls
 
 returns : tie.Need-returns
 returns c = search calls
 
 pub wm-local-name-in-spec : {M : Type 1} → statement M
-wm-local-name-in-spec = tie.close (tie.spec local-name-requires of-answer-requires returns)
+wm-local-name-in-spec = tie.close (tie.spec local-name-requires asked-through-requires returns)

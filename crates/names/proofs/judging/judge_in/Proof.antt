@@ -1,10 +1,11 @@
 use Prim.Native.Nat.{_-_}
+use Rattle.format.specs.Names.{knownKind}
 use Rattle.names.proofs.JudgeLaws.{Turn, judge-turns}
 use Rattle.names.proofs.judging.judge_in.Statement.{statement}
 use Rattle.names.proofs.judging.judge_in.Tie as tie
 
 abbrev Inv-loop : tie.InvT-loop
-Inv-loop s next₀ least₀ places₀ next least places = Turn s next₀ next least places
+Inv-loop s next₀ least₀ places₀ next least places = Turn knownKind s next₀ next least places
 
 abbrev μ-loop : tie.MeasureT-loop
 μ-loop s next₀ least₀ places₀ next least places = next .end - next .at

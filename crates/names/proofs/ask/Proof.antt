@@ -1,0 +1,12 @@
+use Rattle.names.proofs.AskLaws.{asked-all}
+use Rattle.names.proofs.ask.Statement.{statement}
+use Rattle.names.proofs.ask.Tie as tie
+
+ask-in-requires : tie.Need-ask-in-requires
+ask-in-requires c κs = search asked-all
+
+returns : tie.Need-returns
+returns c = search asked-all
+
+pub ask-spec : {M : Type 1} → statement M
+ask-spec = tie.close (tie.spec ask-in-requires returns)
