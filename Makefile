@@ -1,5 +1,5 @@
 # What can be done here. `make help` says it in words.
-.PHONY: help list lib install test bench prove fmt
+.PHONY: help list lib install test bench prove proofs fmt
 
 export FILE ?= examples/small.wasm
 export PREFIX ?= /usr/local
@@ -14,6 +14,8 @@ help:
 	@echo 'make bench   counts the instructions that the library and the second reader execute, as a table and as'
 	@echo '             docs/bench.tsv'
 	@echo 'make prove   proves what changed since the last proof'
+	@echo 'make proofs  CRATES="names walk" makes their proof files anew, those that only search; without CRATES it'
+	@echo '             says which proof files are made by hand'
 	@echo 'make fmt     lays out every source file'
 
 list:
@@ -34,6 +36,9 @@ bench:
 prove:
 	@tools/need rt
 	@rt check
+
+proofs:
+	@tools/proofs $(CRATES)
 
 fmt:
 	@tools/need rt

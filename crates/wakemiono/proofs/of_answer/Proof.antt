@@ -24,13 +24,4 @@ returns-3 : tie.Need-returns-3
 returns-3 c = search fields
 
 pub of-answer-spec : {M : Type 1} → statement M
-of-answer-spec =
-    tie.close
-    (tie.spec
-    enum-told
-    enum-known-answer
-    of-refusal-requires
-    enum-known-answer-2
-    returns
-    returns-2
-    returns-3)
+of-answer-spec = tie.close (tie.spec enum-told enum-known-answer of-refusal-requires enum-known-answer-2 returns returns-2 returns-3)

@@ -18,5 +18,4 @@ returns-2 : tie.Need-returns-2
 returns-2 c = search fields
 
 pub of-count-spec : {M : Type 1} → statement M
-of-count-spec =
-    tie.close (tie.spec enum-known-c of-refusal-requires enum-known-c-2 returns returns-2)
+of-count-spec = tie.close (tie.spec enum-known-c of-refusal-requires enum-known-c-2 returns returns-2)

@@ -27,14 +27,4 @@ returns-3 : tie.Need-returns-3
 returns-3 c = search fields
 
 pub of-hint-spec : {M : Type 1} → statement M
-of-hint-spec =
-    tie.close
-    (tie.spec
-    enum-told
-    enum-known-answer
-    of-refusal-requires
-    enum-known-answer-2
-    of-likelihood-requires
-    returns
-    returns-2
-    returns-3)
+of-hint-spec = tie.close (tie.spec enum-told enum-known-answer of-refusal-requires enum-known-answer-2 of-likelihood-requires returns returns-2 returns-3)

@@ -21,6 +21,4 @@ returns-2 : tie.Need-returns-2
 returns-2 c = search fields
 
 pub of-judged-spec : {M : Type 1} → statement M
-of-judged-spec =
-    tie.close
-    (tie.spec enum-known-judged of-refusal-requires enum-told all-of-requires returns returns-2)
+of-judged-spec = tie.close (tie.spec enum-known-judged of-refusal-requires enum-told all-of-requires returns returns-2)

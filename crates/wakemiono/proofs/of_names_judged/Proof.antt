@@ -21,6 +21,4 @@ returns-2 : tie.Need-returns-2
 returns-2 c = search fields
 
 pub of-names-judged-spec : {M : Type 1} → statement M
-of-names-judged-spec =
-    tie.close
-    (tie.spec enum-known-judged of-refusal-requires enum-told all-of-requires returns returns-2)
+of-names-judged-spec = tie.close (tie.spec enum-known-judged of-refusal-requires enum-told all-of-requires returns returns-2)

@@ -27,14 +27,4 @@ returns-3 : tie.Need-returns-3
 returns-3 c = search fields
 
 pub of-section-spec : {M : Type 1} → statement M
-of-section-spec =
-    tie.close
-    (tie.spec
-    enum-told
-    enum-known-s
-    of-refusal-requires
-    enum-known-s-2
-    cast-t6
-    returns
-    returns-2
-    returns-3)
+of-section-spec = tie.close (tie.spec enum-told enum-known-s of-refusal-requires enum-known-s-2 cast-t6 returns returns-2 returns-3)

@@ -21,6 +21,4 @@ returns-2 : tie.Need-returns-2
 returns-2 c = search fields
 
 pub of-written-spec : {M : Type 1} → statement M
-of-written-spec =
-    tie.close
-    (tie.spec enum-known-w of-refusal-requires enum-known-w-2 all-of-requires returns returns-2)
+of-written-spec = tie.close (tie.spec enum-known-w of-refusal-requires enum-known-w-2 all-of-requires returns returns-2)

@@ -15,5 +15,4 @@ returns : tie.Need-returns
 returns c = search calls
 
 pub wm-function-names-write-spec : {M : Type 1} → statement M
-wm-function-names-write-spec =
-    tie.close (tie.spec function-names-requires of-written-requires same-length returns)
+wm-function-names-write-spec = tie.close (tie.spec function-names-requires of-written-requires same-length returns)

@@ -15,5 +15,4 @@ returns : tie.Need-returns
 returns c = search calls
 
 pub wm-hints-canonical-spec : {M : Type 1} → statement M
-wm-hints-canonical-spec =
-    tie.close (tie.spec hints-requires of-written-requires same-length returns)
+wm-hints-canonical-spec = tie.close (tie.spec hints-requires of-written-requires same-length returns)

@@ -15,5 +15,4 @@ returns : tie.Need-returns
 returns c = search calls
 
 pub wm-metadata-canonical-spec : {M : Type 1} → statement M
-wm-metadata-canonical-spec =
-    tie.close (tie.spec metadata-requires of-written-requires same-length returns)
+wm-metadata-canonical-spec = tie.close (tie.spec metadata-requires of-written-requires same-length returns)

@@ -15,5 +15,4 @@ returns : tie.Need-returns
 returns c = search calls
 
 pub wm-names-canonical-spec : {M : Type 1} → statement M
-wm-names-canonical-spec =
-    tie.close (tie.spec names-requires of-written-requires same-length returns)
+wm-names-canonical-spec = tie.close (tie.spec names-requires of-written-requires same-length returns)

@@ -21,5 +21,4 @@ returns-2 : tie.Need-returns-2
 returns-2 c = search map-steps
 
 pub named-spec : {M : Type 1} → statement M
-named-spec =
-    tie.close (tie.spec enum-told enum-known-place table-requires ended-requires returns returns-2)
+named-spec = tie.close (tie.spec enum-told enum-known-place table-requires ended-requires returns returns-2)

@@ -36,17 +36,4 @@ returns-4 : tie.Need-returns-4
 returns-4 c = search content-steps
 
 pub content-spec : {M : Type 1} → statement M
-content-spec =
-    tie.close
-    (tie.spec
-    enum-told
-    one-name-requires
-    enum-told-2
-    name-map-requires
-    enum-told-3
-    indirect-map-requires
-    enum-told-4
-    returns
-    returns-2
-    returns-3
-    returns-4)
+content-spec = tie.close (tie.spec enum-told one-name-requires enum-told-2 name-map-requires enum-told-3 indirect-map-requires enum-told-4 returns returns-2 returns-3 returns-4)

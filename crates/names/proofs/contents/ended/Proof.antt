@@ -30,15 +30,4 @@ returns-3 : tie.Need-returns-3
 returns-3 c = search ended-steps
 
 pub ended-spec : {M : Type 1} → statement M
-ended-spec =
-    tie.close
-    (tie.spec
-    enum-known-found
-    enum-known-found-2
-    filled-requires
-    enum-known-found-3
-    sub-length
-    filled-requires-2
-    returns
-    returns-2
-    returns-3)
+ended-spec = tie.close (tie.spec enum-known-found enum-known-found-2 filled-requires enum-known-found-3 sub-length filled-requires-2 returns returns-2 returns-3)

@@ -21,6 +21,4 @@ returns-2 : tie.Need-returns-2
 returns-2 c = search one-steps
 
 pub one-name-spec : {M : Type 1} → statement M
-one-name-spec =
-    tie.close
-    (tie.spec name-requires enum-known-r enum-known-name ended-requires returns returns-2)
+one-name-spec = tie.close (tie.spec name-requires enum-known-r enum-known-name ended-requires returns returns-2)

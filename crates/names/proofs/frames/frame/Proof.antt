@@ -33,16 +33,4 @@ returns-4 : tie.Need-returns-4
 returns-4 c = search frame-steps
 
 pub frame-spec : {M : Type 1} → statement M
-frame-spec =
-    tie.close
-    (tie.spec
-    returns
-    shared-slice-read-id
-    wide-requires
-    returns-2
-    add-t18
-    sized-requires
-    enum-known-r
-    enum-known-part
-    returns-3
-    returns-4)
+frame-spec = tie.close (tie.spec returns shared-slice-read-id wide-requires returns-2 add-t18 sized-requires enum-known-r enum-known-part returns-3 returns-4)

@@ -36,17 +36,4 @@ returns-4 : tie.Need-returns-4
 returns-4 c = search subsection-steps
 
 pub subsection-spec : {M : Type 1} → statement M
-subsection-spec =
-    tie.close
-    (tie.spec
-    frame-requires
-    enum-known-r
-    enum-told
-    enum-known-id
-    kind-of-requires
-    content-requires
-    enum-known-r-2
-    returns
-    returns-2
-    returns-3
-    returns-4)
+subsection-spec = tie.close (tie.spec frame-requires enum-known-r enum-told enum-known-id kind-of-requires content-requires enum-known-r-2 returns returns-2 returns-3 returns-4)

@@ -46,20 +46,4 @@ loop-again : tie.Need-loop-again Inv-loop μ-loop
 loop-again c = search find-turns
 
 pub find-spec : {M : Type 1} → statement M
-find-spec =
-    tie.close
-    (tie.spec
-    Inv-loop
-    μ-loop
-    loop-holds
-    frame-requires
-    enum-told
-    returns
-    enum-told-2
-    returns-2
-    enum-known-k
-    returns-3
-    cast-least
-    add-least
-    loop-less
-    loop-again)
+find-spec = tie.close (tie.spec Inv-loop μ-loop loop-holds frame-requires enum-told returns enum-told-2 returns-2 enum-known-k returns-3 cast-least add-least loop-less loop-again)

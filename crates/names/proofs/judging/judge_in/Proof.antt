@@ -47,20 +47,4 @@ loop-again : tie.Need-loop-again Inv-loop μ-loop
 loop-again c = search judge-turns
 
 pub judge-in-spec : {M : Type 1} → statement M
-judge-in-spec =
-    tie.close
-    (tie.spec
-    Inv-loop
-    μ-loop
-    loop-holds
-    subsection-requires
-    enum-known-r
-    returns
-    enum-told
-    returns-2
-    enum-known-id
-    placed-requires
-    cast-least
-    add-least
-    loop-less
-    loop-again)
+judge-in-spec = tie.close (tie.spec Inv-loop μ-loop loop-holds subsection-requires enum-known-r returns enum-told returns-2 enum-known-id placed-requires cast-least add-least loop-less loop-again)

@@ -54,23 +54,4 @@ returns-4 : tie.Need-returns-4
 returns-4 c = search answers
 
 pub answer-spec : {M : Type 1} → statement M
-answer-spec =
-    tie.close
-    (tie.spec
-    id-requires
-    query-requires
-    enum-told
-    place-of-requires
-    the-name-requires
-    enum-known-k
-    place-of-requires-2
-    named-requires
-    enum-known-k-2
-    place-of-requires-3
-    named-within-requires
-    enum-told-2
-    kept-requires
-    returns
-    returns-2
-    returns-3
-    returns-4)
+answer-spec = tie.close (tie.spec id-requires query-requires enum-told place-of-requires the-name-requires enum-known-k place-of-requires-2 named-requires enum-known-k-2 place-of-requires-3 named-within-requires enum-told-2 kept-requires returns returns-2 returns-3 returns-4)

@@ -24,13 +24,4 @@ returns-2 : tie.Need-returns-2
 returns-2 c = search questions
 
 pub ask-in-spec : {M : Type 1} → statement M
-ask-in-spec =
-    tie.close
-    (tie.spec
-    judge-in-requires
-    enum-known-judged
-    enum-told
-    refusal-of-requires
-    returns
-    answer-requires
-    returns-2)
+ask-in-spec = tie.close (tie.spec judge-in-requires enum-known-judged enum-told refusal-of-requires returns answer-requires returns-2)

@@ -21,6 +21,4 @@ returns-2 : tie.Need-returns-2
 returns-2 c = search kept-questions
 
 pub kept-spec : {M : Type 1} → statement M
-kept-spec =
-    tie.close
-    (tie.spec kind-of-requires enum-told find-requires all-kept-requires returns returns-2)
+kept-spec = tie.close (tie.spec kind-of-requires enum-told find-requires all-kept-requires returns returns-2)
