@@ -17,7 +17,7 @@ use Rattle.format.specs.declared.Question.{Question}
 use Rattle.format.specs.declared.Question.the-variants.{FunctionName}
 use Rattle.format.specs.declared.Query.{Query}
 use Rattle.format.specs.Holding.{HasWithin, Holds, Lists, Covers}
-use Rattle.format.specs.Walk.{preamble, Section, walk, nameSection, hintSection, customPayload}
+use Rattle.format.specs.Walk.{preamble, Section, walk, nameSection, branchHint, hintSection, customPayload}
 use Rattle.format.specs.Metadata.{dataOf, anyItem, hintItem, judgeMetadata, itemAt, askMetadata, hintIn, askHint}
 use Rattle.format.specs.Through.{through, askThrough, metadataSection, itemOf, askMetadataThrough, askHintThrough}
 use Rattle.format.specs.Canonical.{bare, bareItems, rewriteNames, canonicalNames, rewriteMetadata, canonicalOf, canonicalMetadata, canonicalHints, writePart}
@@ -270,7 +270,7 @@ metadata-through = record {
 }
 
 -- hints through a module are the data of `metadata.code.branch_hint`, seen as hints
-pub hints-through : (f : FunctionIndex) (at : CodeOffset) (m : List ℕ) → askHintThrough f at m ≡ mapJudged hintIn (askMetadataThrough (ascii "branch_hint") f at m)
+pub hints-through : (f : FunctionIndex) (at : CodeOffset) (m : List ℕ) → askHintThrough f at m ≡ mapJudged hintIn (askMetadataThrough branchHint f at m)
 unfolding askHintThrough askMetadataThrough metadataSection itemOf hintSection ascii same askHint hintIn
 hints-through f at m = through-map hintSection hintIn (askMetadata hintItem f at) m refl
 

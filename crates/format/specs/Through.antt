@@ -3,10 +3,10 @@ use Prim.Native.Nat.{ℕ}
 use mathlib.Core.Bool.{cond}
 use mathlib.Core.List.{List, _++_}
 use mathlib.Core.Option.{Option, none, some}
-use Rattle.format.specs.Bytes.{ascii, same}
+use Rattle.format.specs.Bytes.{same}
 use Rattle.format.specs.Reading.{Reader, Judged, accepted, judgedThen}
 use Rattle.format.specs.Parts.{Part}
-use Rattle.format.specs.Walk.{nameSection, hintSection, customPayload}
+use Rattle.format.specs.Walk.{nameSection, metadataPrefix, branchHint, hintSection, customPayload}
 use Rattle.format.specs.Names.{Kind}
 use Rattle.format.specs.Questions.{askAt}
 use Rattle.format.specs.declared.Question.{Question}
@@ -28,10 +28,10 @@ askThrough kindOf q m = through nameSection (askAt kindOf q) m
 
 -- metadata.code.T, where T = branch_hint is read by the rules of hints
 unfoldable pub metadataSection : List ℕ → List ℕ
-metadataSection format = ascii "metadata.code." ++ format
+metadataSection format = metadataPrefix ++ format
 
 unfoldable pub itemOf : List ℕ → Reader Part
-itemOf format = cond (same format (ascii "branch_hint")) hintItem anyItem
+itemOf format = cond (same format branchHint) hintItem anyItem
 
 unfoldable pub askMetadataThrough : List ℕ → FunctionIndex → CodeOffset → List ℕ → Judged (Option Part)
 askMetadataThrough format f at m = through (metadataSection format) (askMetadata (itemOf format) f at) m

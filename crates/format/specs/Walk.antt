@@ -1,10 +1,10 @@
 -- The framing of a module. The first 8 bytes are 00 61 73 6D 01 00 00 00. Then sections to the end: id byte, size number, that many bytes of contents. Assumes nothing.
 use Prim.Native.Nat.{ℕ, zero, suc}
-use mathlib.Core.Bool.{Bool, false, not, cond, _&&_, _||_}
-use mathlib.Core.List.{List, [], _∷_}
+use mathlib.Core.Bool.{Bool, true, false, not, cond, _&&_, _||_}
+use mathlib.Core.List.{List, [], _∷_, _++_, map}
 use mathlib.Core.Option.{Option, none, some}
 use lib.Dec.{ltb, leb, eqb}
-use lib.ListN.{length, drop, getElem?}
+use lib.ListN.{length, drop, getD, getElem?}
 use Rattle.format.specs.Bytes.{ascii, same}
 use Rattle.format.specs.Reading.{_>>=_, _>>_, got, Reader, return, refuse, checked, Judged, judge, mapJudged}
 use Rattle.format.specs.Options.{orElse}
@@ -20,9 +20,25 @@ begins [] o bs = got tt o bs
 begins (x ∷ xs) o [] = refuse NoPreamble 0 o []
 begins (x ∷ xs) o (b ∷ bs) = cond (eqb x b) (begins xs (suc o) bs) (refuse NoPreamble 0 o bs)
 
--- Ids are 0 to 12. Id 0 is custom; the others occur at most once, in increasing order of id
+-- The order of sections. Ids are 0 to 12: id 0 is custom, the others occur at most once, in this order
+abbrev pub order : List ℕ
+order = 1 ∷ 2 ∷ 3 ∷ 4 ∷ 5 ∷ 6 ∷ 7 ∷ 8 ∷ 9 ∷ 10 ∷ 11 ∷ 12 ∷ []
+
+abbrev pub greatest : List ℕ → ℕ
+greatest [] = 0
+greatest (x ∷ xs) = let g = greatest xs in cond (leb g x) x g
+
 unfoldable pub greatestId : ℕ
-greatestId = 12
+greatestId = greatest order
+
+-- where a number stands in a list whose first place is k: 0 if it stands nowhere
+abbrev pub placeFrom : ℕ → List ℕ → ℕ → ℕ
+placeFrom k [] n = 0
+placeFrom k (x ∷ xs) n = cond (eqb n x) k (placeFrom (suc k) xs n)
+
+-- where an id stands in the order, counted from 1
+unfoldable pub rank : ℕ → ℕ
+rank id = placeFrom 1 order id
 
 unfoldable pub isCustom : ℕ → Bool
 isCustom id = eqb id 0
@@ -32,10 +48,6 @@ isCode id = eqb id 10
 
 unfoldable pub isData : ℕ → Bool
 isData id = eqb id 11
-
--- where an id stands in the order
-unfoldable pub rank : ℕ → ℕ
-rank id = id
 
 -- a custom section's contents begin with a name; the rest is its payload
 pub record Custom : Type 0 where
@@ -57,8 +69,42 @@ isCalled x (some c) = same x (c .name .bytes)
 unfoldable pub nameSection : List ℕ
 nameSection = ascii "name"
 
+-- metadata.code.T: the section of a format of code metadata
+abbrev pub metadataPrefix : List ℕ
+metadataPrefix = ascii "metadata.code."
+
+abbrev pub branchHint : List ℕ
+branchHint = ascii "branch_hint"
+
 unfoldable pub hintSection : List ℕ
-hintSection = ascii "metadata.code.branch_hint"
+hintSection = metadataPrefix ++ branchHint
+
+-- The custom sections that the walk tracks, a row each: what they are called, and whether they must stand before code
+pub record Tracked : Type 0 where
+  pub name : List ℕ
+  pub beforeCode : Bool
+
+abbrev pub tracked : List Tracked
+tracked =
+    record { name = nameSection; beforeCode = false }
+    ∷ record { name = hintSection; beforeCode = true }
+    ∷ []
+
+-- the row of `name`; rows are counted from 0
+abbrev pub nameRow : ℕ
+nameRow = 0
+
+abbrev pub beforeCode : ℕ → Bool
+beforeCode row = getD (map (λ (t : Tracked). t .beforeCode) tracked) row false
+
+-- the first row of a name that is so, where the first of all is k
+abbrev pub rowFrom : ℕ → List Tracked → (List ℕ → Bool) → Option ℕ
+rowFrom k [] isSo = none
+rowFrom k (t ∷ ts) isSo = cond (isSo (t .name)) (some k) (rowFrom (suc k) ts isSo)
+
+-- the row of a section: none for one that is not tracked
+abbrev pub rowOf : Option Custom → Option ℕ
+rowOf c = rowFrom 0 tracked (λ x. isCalled x c)
 
 -- a section: its id, the offset of the id byte, the contents, and what they are if it is custom
 pub record Section : Type 0 where
@@ -67,22 +113,24 @@ pub record Section : Type 0 where
   pub contents : Part
   pub custom : Option Custom
 
--- What the rules need to know of the sections before: the rank of the last that is not custom, and which of these there were
+-- What the rules need to know of the sections before: the rank of the last that is not custom, whether there was code, and of each row whether it was there
 pub record Seen : Type 0 where
   pub rank : ℕ
   pub code : Bool
-  pub name : Bool
-  pub hints : Bool
+  pub there : ℕ → Bool
 
 unfoldable pub nothing : Seen
-nothing = record { rank = 0; code = false; name = false; hints = false }
+nothing = record { rank = 0; code = false; there = λ row. false }
+
+abbrev pub isRow : Option ℕ → ℕ → Bool
+isRow none row = false
+isRow (some k) row = eqb k row
 
 unfoldable pub seeing : Seen → Section → Seen
 seeing seen s = record {
   rank = cond (isCustom (s .id)) (seen .rank) (rank (s .id));
   code = seen .code || isCode (s .id);
-  name = seen .name || isCalled nameSection (s .custom);
-  hints = seen .hints || isCalled hintSection (s .custom);
+  there = λ row. seen .there row || isRow (rowOf (s .custom)) row;
 }
 
 -- What the id decides, before the size is read: no data after `name`. Refusals 5, 6 and 8 give the id byte
@@ -90,14 +138,14 @@ unfoldable pub idRules : Seen → ℕ → ℕ → Reader (Unit {0})
 idRules seen at id = do
   checked (leb id greatestId) SectionUnknown at
   checked (isCustom id || ltb (seen .rank) (rank id)) SectionOrder at
-  checked (not (isData id && seen .name)) SectionTooLate at
+  checked (not (isData id && seen .there nameRow)) SectionTooLate at
 
--- What a custom section's name decides: at most one `name` and at most one `metadata.code.branch_hint`; no hints after code. Refusals 7 and 8 give the id byte
-unfoldable pub nameRules : Seen → ℕ → Option Custom → Reader (Unit {0})
-nameRules seen at c = do
-  checked (not (isCalled nameSection c && seen .name)) SectionTwice at
-  checked (not (isCalled hintSection c && seen .hints)) SectionTwice at
-  checked (not (isCalled hintSection c && seen .code)) SectionTooLate at
+-- What a custom section's row decides, once its name is read. Refusals 7 and 8 give the id byte
+unfoldable pub nameRules : Seen → ℕ → Option ℕ → Reader (Unit {0})
+nameRules seen at none = return tt
+nameRules seen at (some row) = do
+  checked (not (seen .there row)) SectionTwice at
+  checked (not (beforeCode row && seen .code)) SectionTooLate at
 
 -- one section, whose id byte stands at an offset
 unfoldable pub section : Seen → ℕ → ℕ → Reader Section
@@ -105,7 +153,7 @@ section seen at id = do
   idRules seen at id
   part ← sized
   c ← inside (custom id) part
-  nameRules seen at c
+  nameRules seen at (rowOf c)
   return (record { id = id; at = at; contents = part; custom = c })
 
 -- one step from section to section: none at the end

@@ -7,6 +7,8 @@ pub mod Encodings
 pub mod Lists
 pub mod Names
 pub mod Metadata
+pub mod Ranks
+pub mod Rows
 pub mod Order
 pub mod Checks
 pub mod Modules

@@ -1,10 +1,11 @@
 -- The frame of a module (WebAssembly specification, 5.5 Modules), with the order of its sections as the rules want it. Assumes nothing.
-use Prim.Native.Nat.{ℕ, _≤_, _<_}
+use Prim.Native.Nat.{ℕ}
+use mathlib.Core.Bool.{true}
 use mathlib.Core.List.{List, [], _∷_, _++_}
 use mathlib.Core.Logic.{_≢_}
 use mathlib.Core.Option.{Option, none, some}
 use mathlib.Core.Path.{_≡_}
-use Rattle.format.specs.Bytes.{ascii}
+use Rattle.format.specs.Walk.{nameSection, Tracked, tracked}
 use Rattle.grammar.specs.Lists.{Sized}
 use Rattle.grammar.specs.Names.{Name}
 
@@ -35,39 +36,36 @@ pub data Sections : List ℕ → List Section → Type 0 where
   noSection : Sections [] []
   aSection : {bs others : List ℕ} {s : Section} {ss : List Section} → Framed bs s → Sections others ss → Sections (bs ++ others) (s ∷ ss)
 
--- a section among others, and two sections of which the first stands before the second
-pub data Among (t : Section) : List Section → Type 0 where
-  here : {ss : List Section} → Among t (t ∷ ss)
-  further : {s : Section} {ss : List Section} → Among t ss → Among t (s ∷ ss)
+-- one among others, and two of which the first stands before the second
+pub data Among {A : Type 0} (y : A) : List A → Type 0 where
+  here : {xs : List A} → Among y (y ∷ xs)
+  further : {x : A} {xs : List A} → Among y xs → Among y (x ∷ xs)
 
-pub data Before (s t : Section) : List Section → Type 0 where
-  fromHere : {ss : List Section} → Among t ss → Before s t (s ∷ ss)
-  fromFurther : {r : Section} {ss : List Section} → Before s t ss → Before s t (r ∷ ss)
+pub data Before {A : Type 0} (x y : A) : List A → Type 0 where
+  fromHere : {xs : List A} → Among y xs → Before x y (x ∷ xs)
+  fromFurther : {z : A} {xs : List A} → Before x y xs → Before x y (z ∷ xs)
 
 -- a custom section of a name
 pub record Called (x : List ℕ) (s : Section) : Type 0 where
   pub payload : List ℕ
   pub is : s .custom ≡ some (record { name = x; payload = payload })
 
-abbrev pub NameSection : Section → Type 0
-NameSection s = Called (ascii "name") s
-
-abbrev pub HintSection : Section → Type 0
-HintSection s = Called (ascii "metadata.code.branch_hint") s
+-- the order of the sections that are not custom
+abbrev pub sectionOrder : List ℕ
+sectionOrder = 1 ∷ 2 ∷ 3 ∷ 4 ∷ 5 ∷ 6 ∷ 7 ∷ 8 ∷ 9 ∷ 10 ∷ 11 ∷ 12 ∷ []
 
 -- What the rules say of every section, and of every two
 pub record Ordered (ss : List Section) : Type 0 where
   -- "Ids are 0 to 12."
-  pub known : (s : Section) → Among s ss → s .id ≤ 12
+  pub known : (s : Section) → Among s ss → Among (s .id) (0 ∷ sectionOrder)
   -- "Those from 1 to 12 occur at most once, in increasing order of id."
-  pub increasing : (s t : Section) → Before s t ss → s .id ≢ 0 → t .id ≢ 0 → s .id < t .id
+  pub increasing : (s t : Section) → Before s t ss → s .id ≢ 0 → t .id ≢ 0 → Before (s .id) (t .id) sectionOrder
   -- "At most one `name` section and at most one `metadata.code.branch_hint`"
-  pub one-name : (s t : Section) → Before s t ss → NameSection s → NameSection t → ⊥
-  pub one-hints : (s t : Section) → Before s t ss → HintSection s → HintSection t → ⊥
+  pub one-of-each : (x : Tracked) → Among x tracked → (s t : Section) → Before s t ss → Called (x .name) s → Called (x .name) t → ⊥
   -- "no data section (11) after `name`"
-  pub data-before-name : (s t : Section) → Before s t ss → NameSection s → t .id ≢ 11
+  pub data-before-name : (s t : Section) → Before s t ss → Called nameSection s → t .id ≢ 11
   -- "no `metadata.code.branch_hint` after code (10)"
-  pub hints-before-code : (s t : Section) → Before s t ss → s .id ≡ 10 → HintSection t → ⊥
+  pub before-code : (x : Tracked) → Among x tracked → x .beforeCode ≡ true → (s t : Section) → Before s t ss → s .id ≡ 10 → Called (x .name) t → ⊥
 
 -- module ::= magic version sections
 pub data Module : List ℕ → List Section → Type 0 where

@@ -201,36 +201,23 @@ count-put count p q = wrote-join p q
 
 pub ruleset counts = (count-put, needs)
 
--- the payloads' lines, as the code has the names and the labels
-abbrev nameBytes : List ℕ
-nameBytes = 110 ∷ 97 ∷ 109 ∷ 101 ∷ []
-
-abbrev hintBytes : List ℕ
-hintBytes = 109 ∷ 101 ∷ 116 ∷ 97 ∷ 100 ∷ 97 ∷ 116 ∷ 97 ∷ 46 ∷ 99 ∷ 111 ∷ 100 ∷ 101 ∷ 46 ∷ 98 ∷ 114 ∷ 97 ∷ 110 ∷ 99 ∷ 104 ∷ 95 ∷ 104 ∷ 105 ∷ 110 ∷ 116 ∷ []
-
-abbrev hintsLabel : List ℕ
-hintsLabel = 104 ∷ 105 ∷ 110 ∷ 116 ∷ 115 ∷ []
-
+-- the payloads' lines
 place-line : (label : String) (x : Option Part) → placeLine (ascii label) (mapSome placeOf x) ≡ payloadLine label x
 unfolding placeLine payloadLine labelled line piece ascii
 place-line label none = refl
 place-line label (some p) = refl
 
-name-line : (ss : List AnySection) → customLine nameBytes nameBytes ss ≡ payloadLine "name" (payloadIn nameSection ss)
-unfolding customLine nameSection ascii
-name-line ss = place-line "name" (payloadIn nameBytes ss)
-
-hints-line : (ss : List AnySection) → customLine hintBytes hintsLabel ss ≡ payloadLine "hints" (payloadIn hintSection ss)
-unfolding customLine hintSection ascii
-hints-line ss = place-line "hints" (payloadIn hintBytes ss)
+custom-line : {x name l : List ℕ} (label : String) → x ≡ name → l ≡ ascii label → (ss : List AnySection) → customLine x l ss ≡ payloadLine label (payloadIn name ss)
+unfolding customLine
+custom-line {name = name} label is labels ss = rw (is, labels) (place-line label (payloadIn name ss))
 
 -- All lines of a module that is accepted
 module _ (m : List ℕ) (count : ℕ) (e : accepted count ≡ sectionCount m) where
-  pub accepted-put : {a b c d new : List ℕ} {i j k next : ℕ} → Wrote a b 0 i (countLine count) → Adds m sectionLines b c i j → Adds m (customLine nameBytes nameBytes) c d j k → Adds m (customLine hintBytes hintsLabel) d new k next → Wrote a new 0 next (printed (walk m))
+  pub accepted-put : {a b c d new x y p q : List ℕ} {i j k next : ℕ} → Wrote a b 0 i (countLine count) → Adds m sectionLines b c i j → Adds m (customLine x p) c d j k → Adds m (customLine y q) d new k next → x ≡ nameSection → p ≡ ascii "name" → y ≡ hintSection → q ≡ ascii "hints" → Wrote a new 0 next (printed (walk m))
   unfolding printed sectionCount countLine
-  accepted-put w s n h =
+  accepted-put w s n h names label hints label₂ =
       mapped length (walk m) (sym e) λ ss e₁ e₂.
-      rw (e₁, e₂, ← name-line ss, ← hints-line ss) (wrote-join w (wrote-join (s .says ss e₁) (wrote-join (n .says ss e₁) (h .says ss e₁))))
+      rw (e₁, e₂, ← custom-line "name" names label ss, ← custom-line "hints" hints label₂ ss) (wrote-join w (wrote-join (s .says ss e₁) (wrote-join (n .says ss e₁) (h .says ss e₁))))
 
 pub ruleset accepts = (accepted-put, needs)
 

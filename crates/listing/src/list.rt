@@ -1,5 +1,5 @@
 // The listing of a module: it is judged and counted first, then its lines are written.
-ghost use mathlib.Core.List.{[], _∷_};
+ghost use mathlib.Core.List.{[], _∷_, _++_};
 ghost use mathlib.Core.Path.{_≡_};
 ghost use Prim.Native.Nat.{_≤_, _+_, _*_};
 ghost use lib.ListN.{length};
@@ -18,6 +18,9 @@ use format::Offset;
 use format::Reason;
 use format::Refusal;
 use walk::Counted;
+use walk::rows::BRANCH_HINT;
+use walk::rows::METADATA;
+use walk::rows::NAME_SECTION;
 use walk::step::Began;
 use walk::step::Step;
 use walk::step::Walk;
@@ -45,13 +48,13 @@ fn put_answer(out: &mut [u8], at: usize, label: &[u8], answer: Answer) -> usize
     }
 }
 
-// Where the payload of the first custom section of a name lies.
-fn put_custom(m: &[u8], name: &[u8], label: &[u8], out: &mut [u8], at: usize) -> usize
+// Where the payload of the first custom section of a name lies. The name stands in two slices.
+fn put_custom(m: &[u8], front: &[u8], rest: &[u8], label: &[u8], out: &mut [u8], at: usize) -> usize
     requires { ⌜ at + length (now label) + 43 ≤ length (now out) ⌝ }
-    ensures { λ r. ⌜ Adds (now (m .entry)) (customLine (now (name .entry)) (now (label .entry))) (now (out .entry)) (now (out .exit)) at r ⌝ }
+    ensures { λ r. ⌜ Adds (now (m .entry)) (customLine (now (front .entry) ++ now (rest .entry)) (now (label .entry))) (now (out .entry)) (now (out .exit)) at r ⌝ }
     ensures { λ r. ⌜ r ≤ at + length (now (label .entry)) + 43 ⌝ }
 {
-    let answer = walk::custom(m, name);
+    let answer = walk::custom_joined(m, front, rest);
     put_answer(out, at, label, answer)
 }
 
@@ -112,8 +115,8 @@ fn put_accepted(m: &[u8], count: usize, out: &mut [u8]) -> usize
 {
     let counted = put_count(out, count);
     let listed = put_sections(m, out, counted);
-    let named = put_custom(m, b"name", b"name", out, listed);
-    put_custom(m, b"metadata.code.branch_hint", b"hints", out, named)
+    let named = put_custom(m, b"", &NAME_SECTION, b"name", out, listed);
+    put_custom(m, &METADATA, &BRANCH_HINT, b"hints", out, named)
 }
 
 // The whole listing. The room holds that of the longest module.

@@ -10,8 +10,11 @@ use mathlib.Core.Option.{none, some}
 use mathlib.Core.Path.{_≡_}
 -- the length of a list, its first n elements, the list without them, and the element at a position, counted from 0 (`some`, or `none` past the last)
 use lib.ListN.{length, take, drop, getElem?}
--- WHAT IS LENT. Bytes are a list of numbers, and `Bytes p` says that each is below 256. `ascii s` are the bytes of a text.
-use Rattle.format.specs.Bytes.{Bytes, ascii}
+-- WHAT IS LENT. Bytes are a list of numbers, and `Bytes p` says that each is below 256.
+use Rattle.format.specs.Bytes.{Bytes}
+-- THE SECTIONS that are asked, by the bytes of their names: `nameSection` is name, `metadataSection format` is metadata.code. with the format behind it, `branchHint` is the format branch_hint, and `hintSection` its section.
+use Rattle.format.specs.Walk.{nameSection, branchHint, hintSection}
+use Rattle.format.specs.Through.{metadataSection}
 -- WHAT COMES BACK. Each call answers with a record of four numbers: `kind` (0 none, 1 found, 2 refused, 3 unlikely, 4 likely), `code`, `offset` and `length`. `wmNone` is four times 0; `wmFound code offset length` is the answer of kind 1 with these; `wmRefused n at` is the answer of kind 2 with the refusal's number n as its code, its offset `at` and the length 0.
 use Rattle.wakemiono.specs.declared.WmAnswer.{WmAnswer}
 use Rattle.wakemiono.specs.Boundary.{wmNone, wmFound, wmRefused}
@@ -205,11 +208,11 @@ PutThrough section asking asking-in = (m : List ℕ) (a c : WmAnswer) → asking
     × ((b : WmAnswer) → c .kind ≡ 1 → asking (take (c .length) (drop (c .offset) m)) b → Moved (c .offset) b a)
 
 pub record AsksThrough : Type 0 where
-  pub names : (q : Question) → PutThrough (ascii "name") (wm-name q) (wm-name-in q)
-  pub hints : (function offset : ℕ) → PutThrough (ascii "metadata.code.branch_hint") (wm-hint function offset) (wm-hint-in function offset)
-  pub metadata : (format : List ℕ) → format ≢ ascii "branch_hint" → (function offset : ℕ) → PutThrough (ascii "metadata.code." ++ format) (wm-metadata function offset) (wm-metadata-in format function offset)
+  pub names : (q : Question) → PutThrough nameSection (wm-name q) (wm-name-in q)
+  pub hints : (function offset : ℕ) → PutThrough hintSection (wm-hint function offset) (wm-hint-in function offset)
+  pub metadata : (format : List ℕ) → format ≢ branchHint → (function offset : ℕ) → PutThrough (metadataSection format) (wm-metadata function offset) (wm-metadata-in format function offset)
   -- of hints, as metadata: the refusal of wm_hints_judge, and else the answer of wm_metadata
-  pub hint-data : (function offset : ℕ) → PutThrough (ascii "metadata.code.branch_hint") (λ p b. (j : WmAnswer) × wm-hints-judge p j × (j .kind ≡ 2 → b ≡ j) × (j .kind ≡ 1 → wm-metadata function offset p b)) (wm-metadata-in (ascii "branch_hint") function offset)
+  pub hint-data : (function offset : ℕ) → PutThrough hintSection (λ p b. (j : WmAnswer) × wm-hints-judge p j × (j .kind ≡ 2 → b ≡ j) × (j .kind ≡ 1 → wm-metadata function offset p b)) (wm-metadata-in branchHint function offset)
 
 -- Names from lists. What the lists give for a question: for a function whose index is listed, its own stretch of the text; for any other question nothing
 abbrev pub Listed : (indices lengths text : List ℕ) → Question → List ℕ → Type 0

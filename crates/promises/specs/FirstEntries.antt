@@ -98,7 +98,7 @@ abbrev pub section-rows : List (Row (List ℕ) (Judged ℕ))
 section-rows =
     hex "00 61 73 6D 01 00 00 00 01 00" demands accepted 1 ∷
     hex "00 61 73 6D 01 00 00 00 01 00 01 00" demands refused 6 10 ∷
-    hex "00 61 73 6D 01 00 00 00 01 00 0D 00" demands refused 5 10 ∷
+    hex "00 61 73 6D 01 00 00 00 01 00 FF 00" demands refused 5 10 ∷
     hex "00 61 73 6D 01 00 00 00 01 00 02 01" demands refused 2 11 ∷
     hex "00 61 73 6D 01 00 00 00 00 05 04 6E 61 6D 65" demands accepted 1 ∷
     hex "00 61 73 6D 01 00 00 00 00 05 04 6E 61 6D 65 00 05 04 6E 61 6D 65" demands refused 7 15 ∷

@@ -1,12 +1,11 @@
 -- Wrong programs in the place of the public functions that the calls stand on: one that gives the same whatever it is given, one that never refuses, one that always does. Each promise rules them out.
 use Prim.Native.Nat.{ℕ}
 use mathlib.Core.Bool.{Bool, true, false, cond, _||_}
-use mathlib.Core.List.{List, []}
-use mathlib.Core.Option.{Option, none, some}
+use mathlib.Core.List.{[]}
+use mathlib.Core.Option.{some}
 use mathlib.Core.Path.{_≡_, refl, ap}
 use lib.Dec.{eqb}
 use lib.ListN.{length}
-use Rattle.format.specs.Bytes.{ascii, same}
 use Rattle.format.specs.Names.{Kind, oneName, nameMap, indirectMap, kept, known, knownKind}
 use Rattle.format.specs.Numbers.{fewest, shortest}
 use Rattle.format.specs.Questions.{idOf}
@@ -14,7 +13,7 @@ use Rattle.format.specs.declared.Question.the-variants.{ModuleName, KeptContent
 use Rattle.format.specs.Reading.{Outcome, got, stop, Judged, accepted, refused}
 use Rattle.format.specs.Refusals.{numberOf}
 use Rattle.format.specs.Tables.{Table, nil, row, lookup}
-use Rattle.format.specs.Walk.{Custom, greatestId, isCustom, isData, rank, isCalled, nameSection, hintSection, idRules, nameRules}
+use Rattle.format.specs.Walk.{greatestId, isCustom, isData, rank, nameRow, isRow, idRules, nameRules}
 use Rattle.format.specs.declared.Reason.the-variants.{NoPreamble, PastItsPart}
 use Rattle.names.specs.Contents.{kindMeant}
 use Rattle.names.specs.Places.{placesOf, placedAt, replaced, Puts, refusalIn}
@@ -24,9 +23,9 @@ use Rattle.names.specs.declared.places.Places.{Places}
 use Rattle.tables.specs.declared.Held.{Held}
 use Rattle.tables.specs.declared.Held.the-variants.{Nothing as Absent, Part as At}
 use Rattle.reading.specs.declared.Cursor.{Cursor}
-use Rattle.walk.specs.Sections.{seenOf, ruling, IdRuled, isName, isHints, NameRuled, Sees}
+use Rattle.walk.specs.Sections.{bit, seenOf, ruling, IdRuled, rowCalled, NameRuled, Sees}
 use Rattle.walk.specs.declared.rules.Called.{Called}
-use Rattle.walk.specs.declared.rules.Called.the-variants.{Name, Hints, Other}
+use Rattle.walk.specs.declared.rules.Called.the-variants.{Row, Other}
 use Rattle.walk.specs.declared.rules.Seen.{Seen}
 use Rattle.walk.specs.declared.rules.Verdict.{Verdict}
 use Rattle.promises.specs.RuledOut.{RuledOut, Refuses, Accepts, Tells, by-input, by-two-inputs}
@@ -93,7 +92,7 @@ refusedAt at = Refused (record { reason = PastItsPart; offset = record { 0 = at 
 pub refusal-of : (at : ℕ) → RuledOut (λ judged r. r ≡ refusalIn judged) (λ _ r. r .offset .0 ≡ at)
 refusal-of at = by-two-inputs {says = λ r. r .offset .0} (λ judged r meets. ap (λ r. r .offset .0) meets) (λ o. some o) (eqb 0) (refusedAt 0) (refusedAt 1) refl refl refl refl at
 
--- walk: never against an id, or always. 13 is no section; 1 may be the first
+-- walk: never against an id, or always. 255 is no section; 1 may be the first
 abbrev cameOut : Outcome (Unit {0}) → Judged (Unit {0})
 cameOut (got v o bs) = accepted v
 cameOut (stop n at) = refused n at
@@ -102,7 +101,7 @@ abbrev ruled : Verdict → Judged (Unit {0})
 ruled v = cameOut (ruling v 0 0 [])
 
 abbrev nothingSeen : Seen
-nothingSeen = record { rank = 0; code = false; name = false; hints = false }
+nothingSeen = record { rank = 0; code = false; there = 0 }
 
 id-told : Tells (λ (x : Seen × ℕ) v. IdRuled (x .0) (x .1) v) ruled (λ x. cameOut (idRules (seenOf (x .0)) 0 (x .1) 0 []))
 id-told x v meets = ap cameOut (meets .says 0 0 [])
@@ -113,40 +112,20 @@ judge-id-refuses = by-input id-told (λ j. Refuses j) (nothingSeen, 1) (λ h. h)
 
 pub judge-id-accepts : RuledOut (λ (x : Seen × ℕ) v. IdRuled (x .0) (x .1) v) (λ _ v. Accepts (ruled v))
 unfolding greatestId isCustom isData rank idRules
-judge-id-accepts = by-input id-told (λ j. Accepts j) (nothingSeen, 13) (λ h. h)
+judge-id-accepts = by-input id-told (λ j. Accepts j) (nothingSeen, 255) (λ h. h)
 
 -- walk: never against a name, or always. A second section called name is one too many
-abbrev bearing : List ℕ → Option Custom
-bearing name = some (record { name = record { at = 0; bytes = name }; payload = record { at = 0; bytes = [] } })
-
-abbrev bearer : Called → Option Custom
-bearer Name = bearing nameSection
-bearer Hints = bearing hintSection
-bearer Other = none
-
-bears-name : (c : Called) → isCalled nameSection (bearer c) ≡ isName c
-unfolding ascii same isCalled nameSection hintSection
-bears-name Name = refl
-bears-name Hints = refl
-bears-name Other = refl
-
-bears-hints : (c : Called) → isCalled hintSection (bearer c) ≡ isHints c
-unfolding ascii same isCalled nameSection hintSection
-bears-hints Name = refl
-bears-hints Hints = refl
-bears-hints Other = refl
-
-name-told : Tells (λ (x : Seen × Called) v. NameRuled (x .0) (x .1) v) ruled (λ x. cameOut (nameRules (seenOf (x .0)) 0 (bearer (x .1)) 0 []))
-name-told x v meets = ap cameOut (meets .says (bearer (x .1)) (bears-name (x .1)) (bears-hints (x .1)) 0 0 [])
+name-told : Tells (λ (x : Seen × Called) v. NameRuled (x .0) (x .1) v) ruled (λ x. cameOut (nameRules (seenOf (x .0)) 0 (rowCalled (x .1)) 0 []))
+name-told x v meets = ap cameOut (meets .says 0 0 [])
 
 pub judge-name-refuses : RuledOut (λ (x : Seen × Called) v. NameRuled (x .0) (x .1) v) (λ _ v. Refuses (ruled v))
-unfolding ascii same isCalled nameSection hintSection nameRules
-judge-name-refuses = by-input name-told (λ j. Refuses j) (nothingSeen, Name) (λ h. h)
+unfolding nameRules
+judge-name-refuses = by-input name-told (λ j. Refuses j) (nothingSeen, Row nameRow) (λ h. h)
 
 pub judge-name-accepts : RuledOut (λ (x : Seen × Called) v. NameRuled (x .0) (x .1) v) (λ _ v. Accepts (ruled v))
-unfolding ascii same isCalled nameSection hintSection nameRules
-judge-name-accepts = by-input name-told (λ j. Accepts j) (record { rank = 0; code = false; name = true; hints = false }, Name) (λ h. h)
+unfolding nameRules
+judge-name-accepts = by-input name-told (λ j. Accepts j) (record { rank = 0; code = false; there = 1 }, Row nameRow) (λ h. h)
 
 -- walk: the name section is never seen, or always
-pub see : (seen : Bool) → RuledOut (λ (x : Seen × ℕ × Called) r. Sees (x .0) (x .1) (x .2) r) (λ _ r. r .name ≡ seen)
-see seen = by-two-inputs {says = λ r. r .name} {wanted = λ x. x .0 .name || isName (x .2)} (λ x r meets. meets .name-is) (λ b. some b) (λ b. b) (nothingSeen, 0, Name) (nothingSeen, 0, Other) refl refl refl refl seen
+pub see : (seen : Bool) → RuledOut (λ (x : Seen × ℕ × Called) r. Sees (x .0) (x .1) (x .2) r) (λ _ r. bit (r .there) nameRow ≡ seen)
+see seen = by-two-inputs {says = λ r. bit (r .there) nameRow} {wanted = λ x. bit (x .0 .there) nameRow || isRow (rowCalled (x .2)) nameRow} (λ x r meets. meets .there-is .says nameRow) (λ b. some b) (λ b. b) (nothingSeen, 0, Row nameRow) (nothingSeen, 0, Other) refl refl refl refl seen

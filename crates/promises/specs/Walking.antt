@@ -46,7 +46,7 @@ module _ {Result : Type 0} (promise : List ℕ → Result → Type 0) (says : Re
 
 count-verdicts : Verdicts (λ m. sectionCount m)
 unfolding module′ hex digit preamble begins greatestId isCustom isData rank isCode nothing seeing idRules nameRules isCalled nameSection hintSection section sections framing walk sectionCount number groups sized custom
-count-verdicts = record { fine = module′ ""; bad = refuses (hex "") 1 0; worse = refuses (module′ "0D 00") 5 8; is-fine = λ h. h; is-bad = refl; is-worse = refl; apart = refl }
+count-verdicts = record { fine = module′ ""; bad = refuses (hex "") 1 0; worse = refuses (module′ "FF 00") 5 8; is-fine = λ h. h; is-bad = refl; is-worse = refl; apart = refl }
 
 module _ {Result : Type 0} {promise : List ℕ → Result → Type 0} {says : Result → Judged ℕ} (tells : Tells promise says sectionCount) where
   -- no section, and one
@@ -108,7 +108,7 @@ unfolding module′ hex digit ascii same utf8 continues following wellFormed pre
 custom-payload = place-calls _ (place-answers _
     (finds (module′ "00 02 01 78", ascii "x") 12)
     (finds (module′ "00 03 01 78 AA", ascii "x") 12)
-    (refuses (module′ "00 02 01 78 0D 00", ascii "x") 5 12)
+    (refuses (module′ "00 02 01 78 FF 00", ascii "x") 5 12)
     (refuses (module′ "00 02 01 78 00 02 01 FF", ascii "x") 4 15)
     refl refl refl refl refl)
 
@@ -117,7 +117,7 @@ unfolding module′ hex digit ascii same utf8 continues following wellFormed pre
 custom-joined = answers-rightly (λ x r meets. meets) (place-answers _
     (finds (module′ "00 03 02 78 79", ascii "x", ascii "y") 13)
     (finds (module′ "00 04 02 78 79 AA", ascii "x", ascii "y") 13)
-    (refuses (module′ "00 03 02 78 79 0D 00", ascii "x", ascii "y") 5 13)
+    (refuses (module′ "00 03 02 78 79 FF 00", ascii "x", ascii "y") 5 13)
     (refuses (module′ "00 03 02 78 79 00 02 01 FF", ascii "x", ascii "y") 4 16)
     refl refl refl refl refl)
 
@@ -164,14 +164,14 @@ step-told x (Refused r) meets = ap goesOn (meets .means)
 
 -- behind the preamble, with nothing seen
 abbrev start : Walk
-start = record { at = 8; seen = record { rank = 0; code = false; name = false; hints = false } }
+start = record { at = 8; seen = record { rank = 0; code = false; there = 0 } }
 
 step-answers : Answers stepWanted (λ next. next) 10 (eqb 10)
 unfolding module′ hex digit preamble greatestId isCustom isData rank isCalled nameSection hintSection idRules nameRules section step number groups sized custom
 step-answers = record {
   empty = finds (module′ "01 00", start) 10;
   more = finds (module′ "01 01 AA", start) 11;
-  bad = refuses (module′ "0D 00", start) 5 8;
+  bad = refuses (module′ "FF 00", start) 5 8;
   worse = refuses (module′ "01 01", start) 2 9;
   is-empty = refl;
   is-more = refl;

@@ -8,7 +8,7 @@ use native.Mathlib.Omega.{arith}
 use borrow.Author.Needs.{needs}
 use denote.Enum.Declared.{tagOf}
 use lib.ListN.{length}
-use Rattle.format.specs.Bytes.{ascii, same}
+use Rattle.format.specs.Bytes.{same}
 use Rattle.format.specs.Reading.{Judged, accepted}
 use Rattle.format.specs.Parts.{Part}
 use Rattle.format.specs.Names.{Kind}
@@ -16,7 +16,7 @@ use Rattle.format.specs.Questions.{askAt, asPlace, answered}
 use Rattle.format.specs.declared.Question.{Question}
 use Rattle.format.specs.Metadata.{askMetadata, askHint, hintAnswered}
 use Rattle.format.specs.Through.{through, askThrough, metadataSection, itemOf, askMetadataThrough, askHintThrough}
-use Rattle.format.specs.Walk.{nameSection, hintSection, customPayload}
+use Rattle.format.specs.Walk.{nameSection, branchHint, hintSection, customPayload}
 use Rattle.format.specs.Laws.Answers.{place-none, place-found, place-refused}
 use Rattle.format.specs.Laws.Found.{payload-lies}
 use Rattle.format.specs.Laws.Outcomes.{byTest}
@@ -86,7 +86,7 @@ pub ruleset name-questions = (payload-inside, cursor-inside, name-not-there, nam
 -- Metadata
 item-is : (format : List ℕ) → readerOf (itemCalled format) ≡ itemOf format
 unfolding itemCalled itemOf
-item-is format = byTest (same format (ascii "branch_hint")) (λ t. rw t) (λ t. rw t)
+item-is format = byTest (same format branchHint) (λ t. rw t) (λ t. rw t)
 
 module _ (format : List ℕ) (f : FunctionIndex) (at : CodeOffset) (m : List ℕ) (a : Answer) (e : answered a ≡ asPlace (customPayload (metadataSection format) m)) where
   pub data-not-there : (tagOf answer-type.the-type a ≡ 0) ⊎ (tagOf answer-type.the-type a ≡ 2) → answered a ≡ asPlace (askMetadataThrough format f at m)

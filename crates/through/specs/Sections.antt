@@ -2,7 +2,8 @@
 use Prim.Native.Nat.{ℕ, _+_}
 use mathlib.Core.Bool.{cond}
 use mathlib.Core.List.{List}
-use Rattle.format.specs.Bytes.{ascii, same}
+use Rattle.format.specs.Bytes.{same}
+use Rattle.format.specs.Walk.{branchHint}
 use Rattle.format.specs.declared.Place.{Place}
 use Rattle.reading.specs.declared.Cursor.{Cursor}
 use Rattle.tables.specs.declared.Item.{Item}
@@ -14,4 +15,4 @@ cursorOver p = record { at = p .offset .0; end = p .offset .0 + p .length }
 
 -- of T = branch_hint they are hints
 unfoldable pub itemCalled : List ℕ → Item
-itemCalled format = cond (same format (ascii "branch_hint")) Hint Data
+itemCalled format = cond (same format branchHint) Hint Data

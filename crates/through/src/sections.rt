@@ -11,26 +11,29 @@ use format::Place;
 use reading::Cursor;
 use tables::Item;
 use walk::called::is_called;
+use walk::rows::BRANCH_HINT;
+use walk::rows::METADATA;
+use walk::rows::NAME_SECTION;
 
 // Where the names lie.
 pub fn name_section(m: &[u8]) -> Answer
     ensures { λ r. ⌜ answered r ≡ asPlace (customPayload nameSection (now (m .entry))) ⌝ }
 {
-    walk::custom(m, b"name")
+    walk::custom(m, &NAME_SECTION)
 }
 
 // Where the branch hints lie.
 pub fn hint_section(m: &[u8]) -> Answer
     ensures { λ r. ⌜ answered r ≡ asPlace (customPayload hintSection (now (m .entry))) ⌝ }
 {
-    walk::custom(m, b"metadata.code.branch_hint")
+    walk::custom_joined(m, &METADATA, &BRANCH_HINT)
 }
 
 // Where the metadata of a format lies.
 pub fn metadata_section(m: &[u8], format: &[u8]) -> Answer
     ensures { λ r. ⌜ answered r ≡ asPlace (customPayload (metadataSection (now (format .entry))) (now (m .entry))) ⌝ }
 {
-    walk::custom_joined(m, b"metadata.code.", format)
+    walk::custom_joined(m, &METADATA, format)
 }
 
 // How the items of a format are read: branch hints have rules of their own.
@@ -41,7 +44,7 @@ pub fn item_of(format: &[u8]) -> Item
         at: 0,
         end: format.len(),
     };
-    if is_called(format, all, b"branch_hint") {
+    if is_called(format, all, &BRANCH_HINT) {
         return Item::Hint;
     }
     Item::Data

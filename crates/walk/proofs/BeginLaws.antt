@@ -15,6 +15,7 @@ use Rattle.format.specs.Walk.{preamble, begins, nothing}
 use Rattle.format.specs.Laws.Outcomes.{byTest}
 use Rattle.format.specs.declared.Reason.the-variants.{NoPreamble}
 use Rattle.walk.specs.Steps.{Begins}
+use Rattle.walk.proofs.BitLaws.{zero-bits}
 use Rattle.walk.specs.declared.step.Began.the-variants.{At, Refused}
 
 -- as the code has it
@@ -49,9 +50,9 @@ module _ {m : List ℕ} where
   too-short h = record { means = sym (begins-short preambleBytes 0 m h); seen = tt }
 
   module _ {b : Bool} (h : 8 ≤ length m) (e : b ≡ same preambleBytes (slice 0 8 m)) where
-    pub begun : b ≡ true → Begins m (At (record { at = 8; seen = record { rank = 0; code = false; name = false; hints = false } }))
+    pub begun : b ≡ true → Begins m (At (record { at = 8; seen = record { rank = 0; code = false; there = 0 } }))
     unfolding preamble nothing
-    begun t = record { means = sym (begins-same preambleBytes 0 m h (sym e ∙ t)); seen = (refl, h) }
+    begun t = record { means = sym (begins-same preambleBytes 0 m h (sym e ∙ t)); seen = ((λ i. record { rank = 0; code = false; there = λ row. zero-bits row i }), h) }
 
     pub not-begun : b ≡ false → Begins m (Refused (record { reason = NoPreamble; offset = record { 0 = 0 } }))
     unfolding preamble

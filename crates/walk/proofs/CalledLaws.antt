@@ -11,15 +11,11 @@ use borrow.Author.Tests.{eq-eqb, ne-eqb}
 use lib.Dec.{eqb}
 use lib.ListN.{length, getD, take, drop, length-append}
 use lib.Seq.{slice, slice-cons, slice-empty, length-slice, drop-cons, drop-length, drop-drop, take-take}
-use Rattle.format.specs.Bytes.{ascii, same}
-use Rattle.format.specs.Walk.{nameSection, hintSection}
-use Rattle.format.specs.Laws.Bytes.{same-true}
+use Rattle.format.specs.Bytes.{same}
 use Rattle.format.specs.Laws.Outcomes.{byTest, and-false}
 use Rattle.reading.specs.Cursors.{Inside, left}
 use Rattle.reading.specs.declared.Cursor.{Cursor}
 use Rattle.reading.proofs.PartSteps.{take-drop}
-use Rattle.walk.specs.Sections.{Calls}
-use Rattle.walk.specs.declared.rules.Called.the-variants.{Name, Hints, Other}
 
 -- lists of other lengths are not the same
 lengths-differ : (x y : List ℕ) → (length x ≡ length y → ⊥) → same x y ≡ false
@@ -101,28 +97,3 @@ module _ (s : List ℕ) (part : Cursor) (front rest : List ℕ) (i : Inside s pa
           with-true false = refl
 
 pub ruleset joined = (other-sum, rest-differs, front-decides, needs)
-
--- The two names that the rules know, as the code has them
-abbrev nameBytes : List ℕ
-nameBytes = 110 ∷ 97 ∷ 109 ∷ 101 ∷ []
-
-abbrev hintBytes : List ℕ
-hintBytes = 109 ∷ 101 ∷ 116 ∷ 97 ∷ 100 ∷ 97 ∷ 116 ∷ 97 ∷ 46 ∷ 99 ∷ 111 ∷ 100 ∷ 101 ∷ 46 ∷ 98 ∷ 114 ∷ 97 ∷ 110 ∷ 99 ∷ 104 ∷ 95 ∷ 104 ∷ 105 ∷ 110 ∷ 116 ∷ []
-
-module _ {x : List ℕ} {r : Bool} where
-  pub calls-name : r ≡ same nameBytes x → r ≡ true → Calls x Name
-  unfolding nameSection hintSection ascii same
-  calls-name e t =
-      let is = same-true nameBytes x (sym e ∙ t) in
-      rw (← is) (record { as-name = refl; as-hints = refl })
-
-  module _ {q : Bool} (e : r ≡ same nameBytes x) (t : r ≡ false) (f : q ≡ same hintBytes x) where
-    pub calls-hints : q ≡ true → Calls x Hints
-    unfolding nameSection hintSection ascii
-    calls-hints u = record { as-name = sym e ∙ t; as-hints = sym f ∙ u }
-
-    pub calls-other : q ≡ false → Calls x Other
-    unfolding nameSection hintSection ascii
-    calls-other u = record { as-name = sym e ∙ t; as-hints = sym f ∙ u }
-
-pub ruleset calls = (calls-name, calls-hints, calls-other, needs)

@@ -1,4 +1,6 @@
 pub mod Tags
+pub mod BitLaws
+pub mod RowLaws
 pub mod RuleLaws
 pub mod CalledLaws
 pub mod StepLaws

@@ -1,100 +1,146 @@
 -- The walk's rules by their tests.
-use Prim.Native.Nat.{ℕ, _≤_, _<_}
-use mathlib.Core.Bool.{Bool, true, false, cond, _||_}
-use mathlib.Core.Path.{_≡_, refl}
+use Prim.Native.Nat.{ℕ, zero, suc, _+_, _*_, _%_, _^_, _≤_, _<_}
+use mathlib.Core.Bool.{Bool, true, false, cond, _&&_, _||_}
+use mathlib.Core.List.{List, [], _∷_}
+use mathlib.Core.Path.{_≡_, refl, sym, ap, _∙_}
 use borrow.Author.Needs.{needs}
-use borrow.Author.Tests.{le-leb, lt-leb, lt-ltb, le-ltb, eq-eqb, ne-eqb}
+use borrow.Author.Tests.{ltb-true, ltb-false, leb-true, leb-false, le-leb, lt-leb, lt-ltb, le-ltb, eqb-true, eq-eqb, ne-eqb}
 use denote.Enum.Declared.{tagOf}
 use native.Mathlib.Omega.{arith}
-use lib.Dec.{eqb}
+use lib.Dec.{ltb, leb, eqb}
+use lib.Bits.{bitOr}
+use lib.ListN.{length, getD}
 use Rattle.walk.proofs.rules.Called as called
-use Rattle.format.specs.Walk.{greatestId, isCustom, isCode, isData, rank, idRules, nameRules}
+use Rattle.format.specs.Walk.{greatest, greatestId, isCustom, isCode, isData, order, placeFrom, rank, tracked, nameRow, beforeCode, idRules, nameRules}
+use Rattle.format.specs.Laws.Outcomes.{byTest, onBoth}
 use Rattle.format.specs.declared.Reason.the-variants.{SectionUnknown, SectionOrder, SectionTwice, SectionTooLate}
-use Rattle.walk.specs.Sections.{IdRuled, NameRuled}
+use Rattle.walk.specs.Sections.{bit, IdRuled, InTable, NameRuled, ThereAfter}
+use Rattle.walk.proofs.BitLaws.{shifted-bit, with-bit}
 use Rattle.walk.specs.declared.rules.Seen.{Seen}
 use Rattle.walk.specs.declared.rules.Verdict.the-variants.{Fine, Against}
 use Rattle.walk.specs.declared.rules.Called.{Called}
-use Rattle.walk.specs.declared.rules.Called.the-variants.{Name, Hints, Other}
+use Rattle.walk.specs.declared.rules.Called.the-variants.{Row, Other}
 
--- what the id decides
-module _ {seen : Seen} {id : ℕ} where
-  pub id-unknown : 12 < id → IdRuled seen id (Against SectionUnknown)
-  unfolding idRules greatestId
-  id-unknown h = record { says = λ at o bs. rw (lt-leb id 12 h) }
+-- WHERE AN ID STANDS: one test of the whole list of ranks, computed, says it of each id
+abbrev ranksFrom : ℕ → List ℕ → Bool
+ranksFrom id [] = true
+ranksFrom id (r ∷ rs) = eqb r (rank id) && ranksFrom (suc id) rs
 
-  pub id-custom : id ≤ 12 → id ≡ 0 → IdRuled seen id Fine
-  unfolding idRules greatestId isCustom isData
-  id-custom k e = record { says = λ at o bs. rw e }
+ranked : (id : ℕ) (rs : List ℕ) (i : ℕ) → ranksFrom id rs ≡ true → i < length rs → getD rs i 0 ≡ rank (id + i)
+ranked id [] i e h = absurd (omega arith)
+ranked id (r ∷ rs) zero e h = onBoth (eqb r (rank id)) (ranksFrom (suc id) rs) e λ t _. eqb-true r (rank id) t ∙ ap rank (omega arith)
+ranked id (r ∷ rs) (suc i) e h = onBoth (eqb r (rank id)) (ranksFrom (suc id) rs) e λ _ t. ranked (suc id) rs i t (omega arith) ∙ ap rank (omega arith)
 
-  pub id-order : {r : ℕ} → id ≤ 12 → (id ≡ 0 → ⊥) → r ≡ rank id → r ≤ seen .rank → IdRuled seen id (Against SectionOrder)
-  unfolding idRules greatestId isCustom
-  id-order k n q h = record { says = λ at o bs. rw (le-leb id 12 k, ne-eqb id 0 n, ← q, le-ltb (seen .rank) _ h) }
+pub in-ranks : (rs : List ℕ) (id : ℕ) → ranksFrom 0 rs ≡ true → id < length rs → getD rs id 0 ≡ rank id
+in-ranks rs id e h = ranked 0 rs id e h ∙ ap rank (omega arith)
 
-  module _ {r : ℕ} (k : id ≤ 12) (n : id ≡ 0 → ⊥) (q : r ≡ rank id) (h : seen .rank < r) where
-    pub id-late : id ≡ 11 → seen .name ≡ true → IdRuled seen id (Against SectionTooLate)
-    unfolding idRules greatestId isCustom isData
-    id-late e t = record { says = λ at o bs. rw (le-leb id 12 k, ne-eqb id 0 n, ← q, lt-ltb (seen .rank) _ h, eq-eqb id 11 e, t) }
+unplaced : (k : ℕ) (xs : List ℕ) (n : ℕ) → greatest xs < n → 0 ≡ placeFrom k xs n
+unplaced k [] n h = refl
+unplaced k (x ∷ xs) n h =
+    byTest (leb (greatest xs) x)
+    (λ t. let above : x < n = rw t at h in rw (ne-eqb n x (λ e. omega arith)) (unplaced (suc k) xs n (omega (arith, leb-true (greatest xs) x t))))
+    (λ t. let above : greatest xs < n = rw t at h in rw (ne-eqb n x (λ e. omega (arith, leb-false (greatest xs) x t))) (unplaced (suc k) xs n above))
 
-    pub id-data : id ≡ 11 → seen .name ≡ false → IdRuled seen id Fine
-    unfolding idRules greatestId isCustom isData
-    id-data e t = record { says = λ at o bs. rw (le-leb id 12 k, ne-eqb id 0 n, ← q, lt-ltb (seen .rank) _ h, eq-eqb id 11 e, t) }
+pub past-ranks : (ids id : ℕ) → ltb greatestId ids ≡ true → ids ≤ id → 0 ≡ rank id
+unfolding rank greatestId
+past-ranks ids id t h = unplaced 1 order id (let above = ltb-true greatestId ids t in omega arith)
 
-    pub id-fine : (id ≡ 11 → ⊥) → IdRuled seen id Fine
-    unfolding idRules greatestId isCustom isData
-    id-fine e = record { says = λ at o bs. rw (le-leb id 12 k, ne-eqb id 0 n, ← q, lt-ltb (seen .rank) _ h, ne-eqb id 11 e) }
+pub ids-are : (ids id : ℕ) → eqb ids (suc greatestId) ≡ true → leb ids id ≡ ltb greatestId id
+ids-are ids id t =
+    let is = eqb-true ids (suc greatestId) t in
+    byTest (ltb greatestId id)
+    (λ e. rw e (le-leb ids id (let l = ltb-true greatestId id e in omega arith)))
+    (λ e. rw e (lt-leb ids id (let l = ltb-false greatestId id e in omega arith)))
 
-pub rank-is : (id : ℕ) → id ≡ rank id
-unfolding rank
-rank-is id = refl
+pub ruleset orders = (in-ranks, past-ranks, ids-are, needs)
+
+-- WHAT THE ID DECIDES
+known : (id : ℕ) {b : Bool} → b ≡ ltb greatestId id → b ≡ false → leb id greatestId ≡ true
+known id k t = le-leb id greatestId (ltb-false greatestId id (sym k ∙ t))
+
+module _ {seen : Seen} {id : ℕ} {b : Bool} (k : b ≡ ltb greatestId id) where
+  pub id-unknown : b ≡ true → IdRuled seen id (Against SectionUnknown)
+  unfolding idRules
+  id-unknown t = record { says = λ at o bs. rw (lt-leb id greatestId (ltb-true greatestId id (sym k ∙ t))) }
+
+  module _ (t : b ≡ false) where
+    pub id-custom : id ≡ 0 → IdRuled seen id Fine
+    unfolding idRules isCustom isData
+    id-custom e = record { says = λ at o bs. rw (known id k t, e) }
+
+    module _ {r : ℕ} (n : id ≡ 0 → ⊥) (q : r ≡ rank id) where
+      pub id-order : r ≤ seen .rank → IdRuled seen id (Against SectionOrder)
+      unfolding idRules isCustom
+      id-order h = record { says = λ at o bs. rw (known id k t, ne-eqb id 0 n, ← q, le-ltb (seen .rank) _ h) }
+
+      module _ (h : seen .rank < r) where
+        pub id-fine : (id ≡ 11 → ⊥) → IdRuled seen id Fine
+        unfolding idRules isCustom isData
+        id-fine e = record { says = λ at o bs. rw (known id k t, ne-eqb id 0 n, ← q, lt-ltb (seen .rank) _ h, ne-eqb id 11 e) }
+
+        module _ {named : Bool} (e : id ≡ 11) (s : named ≡ bit (seen .there) nameRow) where
+          pub id-late : named ≡ true → IdRuled seen id (Against SectionTooLate)
+          unfolding idRules isCustom isData
+          id-late u = record { says = λ at o bs. rw (known id k t, ne-eqb id 0 n, ← q, lt-ltb (seen .rank) _ h, eq-eqb id 11 e, ← s, u) }
+
+          pub id-data : named ≡ false → IdRuled seen id Fine
+          unfolding idRules isCustom isData
+          id-data u = record { says = λ at o bs. rw (known id k t, ne-eqb id 0 n, ← q, lt-ltb (seen .rank) _ h, eq-eqb id 11 e, ← s, u) }
 
 pub ruleset id-rules = (id-unknown, id-custom, id-order, id-late, id-data, id-fine, needs)
 
+-- WHAT THE ROW DECIDES
 -- an arm of a match that binds nothing gives the tag alone
-abbrev tag : Called → ℕ
-tag x = tagOf called.the-type x
-
-as-name : (x : Called) → tag x ≡ 0 → x ≡ Name
-as-name Name h = refl
-as-name Hints h = absurd (omega arith)
-as-name Other h = absurd (omega arith)
-
-as-hints : (x : Called) → tag x ≡ 1 → x ≡ Hints
-as-hints Name h = absurd (omega arith)
-as-hints Hints h = refl
-as-hints Other h = absurd (omega arith)
-
-as-other : (x : Called) → tag x ≡ 2 → x ≡ Other
-as-other Name h = absurd (omega arith)
-as-other Hints h = absurd (omega arith)
+as-other : (x : Called) → tagOf called.the-type x ≡ 1 → x ≡ Other
+as-other (Row row) h = absurd (omega arith)
 as-other Other h = refl
 
--- what a custom section's name decides
 module _ {seen : Seen} {x : Called} where
-  pub other-fine : tag x ≡ 2 → NameRuled seen x Fine
+  pub other-fine : tagOf called.the-type x ≡ 1 → NameRuled seen x Fine
   unfolding nameRules
-  other-fine i = rw (as-other x i) (record { says = λ c p q at o bs. rw (p, q) })
+  other-fine i = rw (as-other x i) (record { says = λ at o bs. refl })
 
-  pub name-twice : tag x ≡ 0 → seen .name ≡ true → NameRuled seen x (Against SectionTwice)
-  unfolding nameRules
-  name-twice i s = rw (as-name x i) (record { says = λ c p q at o bs. rw (p, s) })
+  module _ {row : ℕ} {again : Bool} (i : x ≡ Row row) (q : again ≡ bit (seen .there) row) where
+    pub row-twice : again ≡ true → NameRuled seen x (Against SectionTwice)
+    unfolding nameRules
+    row-twice s = rw i (record { says = λ at o bs. rw (← q, s) })
 
-  pub name-once : tag x ≡ 0 → seen .name ≡ false → NameRuled seen x Fine
-  unfolding nameRules
-  name-once i s = rw (as-name x i) (record { says = λ c p q at o bs. rw (p, s, q) })
+    module _ (s : again ≡ false) where
+      pub row-late : beforeCode row ≡ true → seen .code ≡ true → NameRuled seen x (Against SectionTooLate)
+      unfolding nameRules
+      row-late f c = rw i (record { says = λ at o bs. rw (← q, s, f, c) })
 
-  pub hints-twice : tag x ≡ 1 → seen .hints ≡ true → NameRuled seen x (Against SectionTwice)
-  unfolding nameRules
-  hints-twice i s = rw (as-hints x i) (record { says = λ c p q at o bs. rw (p, q, s) })
+      pub row-early : beforeCode row ≡ true → seen .code ≡ false → NameRuled seen x Fine
+      unfolding nameRules
+      row-early f c = rw i (record { says = λ at o bs. rw (← q, s, f, c) })
 
-  pub hints-late : tag x ≡ 1 → seen .hints ≡ false → seen .code ≡ true → NameRuled seen x (Against SectionTooLate)
-  unfolding nameRules
-  hints-late i s t = rw (as-hints x i) (record { says = λ c p q at o bs. rw (p, q, s, t) })
+      pub row-anywhere : beforeCode row ≡ false → NameRuled seen x Fine
+      unfolding nameRules
+      row-anywhere f = rw i (record { says = λ at o bs. rw (← q, s, f) })
 
-  pub hints-fine : tag x ≡ 1 → seen .hints ≡ false → seen .code ≡ false → NameRuled seen x Fine
-  unfolding nameRules
-  hints-fine i s t = rw (as-hints x i) (record { says = λ c p q at o bs. rw (p, q, s, t) })
+pub in-table : {x : Called} {row : ℕ} → InTable x → x ≡ Row row → row < length tracked
+in-table h i = rw i at h
 
--- what the rules know behind a section
+-- there is a bit for each row
+pub row-fits : {row : ℕ} → row < length tracked → row < 8
+row-fits l = omega arith
+
+pub ruleset row-rules = (other-fine, row-twice, row-late, row-early, row-anywhere, in-table, row-fits, shifted-bit, needs)
+
+-- WHAT THE RULES KNOW BEHIND A SECTION
+module _ {before : ℕ} {x : Called} where
+  pub row-there : {row : ℕ} → InTable x → x ≡ Row row → ThereAfter before x (bitOr before (1 * 2 ^ row % 2 ^ 8))
+  row-there {row} h i = rw i (record { says = λ k. with-bit before row k (row-fits (in-table h i)) })
+
+  pub none-there : tagOf called.the-type x ≡ 1 → ThereAfter before x before
+  none-there i = rw (as-other x i) (record { says = λ k. sym (or-false (bit before k)) })
+    where
+      or-false : (b : Bool) → (b || false) ≡ b
+      or-false true = refl
+      or-false false = refl
+
+pub ruleset theres = (row-there, none-there, in-table, row-fits, needs)
+
 pub code-test : (id : ℕ) → eqb id 10 ≡ isCode id
 unfolding isCode
 code-test id = refl
@@ -114,5 +160,3 @@ pub either-is : (r a b c : Bool) → r ≡ (a || b) → b ≡ c → r ≡ (a || 
 either-is r a b c e q = rw (← q) e
 
 pub ruleset sights = (either-is, needs)
-
-pub ruleset name-rules = (other-fine, name-twice, name-once, hints-twice, hints-late, hints-fine, needs)

@@ -1,17 +1,16 @@
 -- Two results that meet one promise of the walk are equal.
 use Prim.Native.Nat.{ℕ}
-use mathlib.Core.Bool.{Bool, true, false}
 use mathlib.Core.List.{List, []}
 use mathlib.Core.Option.{Option, none, some}
 use mathlib.Core.Path.{_≡_, refl, sym, ap, _∙_}
-use Rattle.format.specs.Walk.{Custom as CustomSection, Section as AnySection, seeing, isCalled, nameSection, hintSection}
+use Rattle.format.specs.Walk.{Custom as CustomSection, Section as AnySection, Seen as SeenBefore, seeing}
 use Rattle.format.specs.Laws.Outcomes.{not-got, got-value, got-next, not-accepted, accepted-is}
 use Rattle.format.specs.Laws.Options.{not-some, some-is}
 use Rattle.format.specs.Laws.Refusals.{told-apart, same-judgement, same-stop}
 use Rattle.format.specs.Laws.Answers.{same-answer}
-use Rattle.format.specs.Bytes.{ascii, same}
 use Rattle.reading.proofs.Same.{same-part}
-use Rattle.walk.specs.Sections.{seenOf, customOf, sectionOf, CustomInside, SectionInside, ruling, IdRuled, NameRuled, Sees, Calls, isName, isHints}
+use Rattle.walk.proofs.BitLaws.{same-bits}
+use Rattle.walk.specs.Sections.{seenOf, customOf, sectionOf, CustomInside, SectionInside, ruling, IdRuled, NameRuled, Sees, Calls, rowCalled}
 use Rattle.walk.specs.Steps.{Begins, Steps}
 use Rattle.walk.specs.Surveys.{sectionAnswered, counted, Found as Gathered, foundOf, Surveys}
 use Rattle.walk.specs.declared.Counted.{Counted}
@@ -29,7 +28,7 @@ use Rattle.walk.specs.declared.survey.Surveyed.the-variants.{Done as Sur
 use Rattle.walk.specs.declared.survey.Tally.{Tally}
 use Rattle.walk.specs.declared.rules.Seen.{Seen}
 use Rattle.walk.specs.declared.rules.Called.{Called}
-use Rattle.walk.specs.declared.rules.Called.the-variants.{Name, Hints, Other}
+use Rattle.walk.specs.declared.rules.Called.the-variants.{Row, Other}
 use Rattle.walk.specs.declared.rules.Verdict.{Verdict}
 use Rattle.walk.specs.declared.rules.Verdict.the-variants.{Fine, Against}
 use Rattle.walk.specs.declared.survey.SectionAnswer.{SectionAnswer}
@@ -54,7 +53,9 @@ section-same (NotFound r) (NotFound s) e = ap NotFound (same-judgement e)
 
 -- walks and sections are told by what they mean
 same-walk : (v w : Walk) → v .at ≡ w .at → seenOf (v .seen) ≡ seenOf (w .seen) → v ≡ w
-same-walk v w p q = λ i. record { at = p i; seen = record { rank = q i .rank; code = q i .code; name = q i .name; hints = q i .hints } }
+same-walk v w p q =
+    let theres = same-bits (v .seen .there) (w .seen .there) (λ row. ap (λ (s : SeenBefore). s .there row) q) in
+    λ i. record { at = p i; seen = record { rank = q i .rank; code = q i .code; there = theres i } }
 
 same-custom : (m : List ℕ) (c d : Custom) → CustomInside m c → CustomInside m d → customOf m c ≡ customOf m d → c ≡ d
 same-custom m None None i j e = refl
@@ -116,38 +117,25 @@ same-verdict (Against r) (Against s) e = ap Against (told-apart r s cc)
 pub id-same : {seen : Seen} {id : ℕ} (v w : Verdict) → IdRuled seen id v → IdRuled seen id w → v ≡ w
 id-same v w p q = same-verdict v w (p .says 0 0 [] ∙ sym (q .says 0 0 []))
 
--- a section that is called so
-called-as : List ℕ → Option CustomSection
-called-as x = some (record { name = record { at = 0; bytes = x }; payload = record { at = 0; bytes = [] } })
-
 pub name-same : {seen : Seen} (called : Called) (v w : Verdict) → NameRuled seen called v → NameRuled seen called w → v ≡ w
-unfolding called-as isCalled same nameSection hintSection ascii
-name-same Name v w p q = let c = called-as nameSection in same-verdict v w (p .says c refl refl 0 0 [] ∙ sym (q .says c refl refl 0 0 []))
-name-same Hints v w p q = let c = called-as hintSection in same-verdict v w (p .says c refl refl 0 0 [] ∙ sym (q .says c refl refl 0 0 []))
-name-same Other v w p q = same-verdict v w (p .says none refl refl 0 0 [] ∙ sym (q .says none refl refl 0 0 []))
+name-same called v w p q = same-verdict v w (p .says 0 0 [] ∙ sym (q .says 0 0 []))
 
 pub see-same : {seen : Seen} {id : ℕ} {called : Called} (a b : Seen) → Sees seen id called a → Sees seen id called b → a ≡ b
 see-same a b p q =
     let ranks = p .rank-is ∙ sym (q .rank-is) in
     let codes = p .code-is ∙ sym (q .code-is) in
-    let names = p .name-is ∙ sym (q .name-is) in
-    let hints = p .hints-is ∙ sym (q .hints-is) in
-    λ i. record { rank = ranks i; code = codes i; name = names i; hints = hints i }
+    let theres = same-bits (a .there) (b .there) (λ row. p .there-is .says row ∙ sym (q .there-is .says row)) in
+    λ i. record { rank = ranks i; code = codes i; there = theres i }
 
--- what is called so, from whether it is
-callOf : Bool → Bool → Called
-callOf true h = Name
-callOf false true = Hints
-callOf false false = Other
+-- what a section is called, from its row
+callOf : Option ℕ → Called
+callOf none = Other
+callOf (some row) = Row row
 
-call-is : (c : Called) → callOf (isName c) (isHints c) ≡ c
+call-is : (c : Called) → callOf (rowCalled c) ≡ c
 unfolding callOf
-call-is Name = refl
-call-is Hints = refl
+call-is (Row row) = refl
 call-is Other = refl
 
 pub called-same : {name : List ℕ} (a b : Called) → Calls name a → Calls name b → a ≡ b
-called-same a b p q =
-    let names = sym (p .as-name) ∙ q .as-name in
-    let hints = sym (p .as-hints) ∙ q .as-hints in
-    sym (call-is a) ∙ (λ i. callOf (names i) (hints i)) ∙ call-is b
+called-same a b p q = sym (call-is a) ∙ ap callOf (sym (p .row-is) ∙ q .row-is) ∙ call-is b

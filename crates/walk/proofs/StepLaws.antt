@@ -1,6 +1,7 @@
 -- One step of the walk.
 use Prim.Native.Nat.{ℕ, zero, suc, _+_, _≤_, _<_}
-use mathlib.Core.List.{List}
+use mathlib.Core.Bool.{false, _||_}
+use mathlib.Core.List.{List, [], _∷_}
 use mathlib.Core.Option.{none, some}
 use mathlib.Core.Path.{_≡_, refl, sym, ap, _∙_}
 use native.Mathlib.Numerals.{add-one}
@@ -11,7 +12,7 @@ use lib.ListN.{length, drop, getD, drop-of-length-le}
 use lib.Seq.{slice, take-length, drop-cons}
 use Rattle.format.specs.Reading.{Outcome, got, stop, Reader, andThen, _>>_, return}
 use Rattle.format.specs.Parts.{sized, name, remaining, inside}
-use Rattle.format.specs.Walk.{custom, isCalled, seeing, nameRules, section, step}
+use Rattle.format.specs.Walk.{custom, isCalled, Tracked, tracked, rowFrom, rowOf, isRow, seeing, nameRules, section, step}
 use Rattle.format.specs.Laws.Outcomes.{byOutcome}
 use Rattle.format.specs.declared.Reason.{Reason}
 use Rattle.format.specs.declared.Refusal.{Refusal}
@@ -20,10 +21,10 @@ use Rattle.reading.specs.declared.Cursor.{Cursor}
 use Rattle.reading.specs.declared.PartRead.{PartRead}
 use Rattle.reading.specs.declared.PartRead.the-variants.{Part, Refused as NoPart}
 use Rattle.reading.proofs.Laws.{sized-means, name-means, Behind, part-behind, name-behind}
-use Rattle.walk.specs.Sections.{seenOf, ruling, IdRuled, NameRuled, Calls, Sees, customOf, CustomReads, CallsCustom, CustomInside}
+use Rattle.walk.specs.Sections.{bit, seenOf, ruling, IdRuled, InTable, NameRuled, Calls, Sees, customOf, CustomReads, CallsCustom, CustomInside}
 use Rattle.walk.specs.Steps.{behindSize, AfterSize, Steps}
 use Rattle.walk.specs.declared.rules.Called.{Called}
-use Rattle.walk.specs.declared.rules.Called.the-variants.{Other}
+use Rattle.walk.specs.declared.rules.Called.the-variants.{Row, Other}
 use Rattle.walk.specs.declared.rules.Seen.{Seen}
 use Rattle.walk.specs.declared.rules.Verdict.{Verdict}
 use Rattle.walk.specs.declared.rules.Verdict.the-variants.{Fine, Against}
@@ -34,6 +35,7 @@ use Rattle.walk.specs.declared.step.CustomRead.the-variants.{Read, Refus
 use Rattle.walk.specs.declared.step.Step.{Step}
 use Rattle.walk.specs.declared.step.Step.the-variants.{Section, Done, Refused}
 use Rattle.walk.specs.declared.step.Walk.{Walk}
+use Rattle.walk.proofs.RowLaws.{row-below}
 use Rattle.walk.proofs.rules.Verdict as verdict-type
 use Rattle.walk.proofs.step.Custom as custom-type
 
@@ -60,11 +62,15 @@ module _ {m : List ℕ} {id : ℕ} {contents : Cursor} where
 
 pub ruleset customs = (not-custom, custom-refused, custom-read, needs)
 
--- the name of a section that has one
+-- the row of a section that has a name
 module _ {m : List ℕ} where
   pub unnamed : {c : Custom} → tagOf custom-type.the-type c ≡ 0 → CallsCustom m c Other
   unfolding isCalled
-  unnamed {c = None} h = record { as-name = refl; as-hints = refl }
+  unnamed {c = None} h = record { row-is = no-row 0 tracked }
+    where
+      no-row : (k : ℕ) (ts : List Tracked) → rowFrom k ts (λ x. false) ≡ none
+      no-row k [] = refl
+      no-row k (t ∷ ts) = no-row (suc k) ts
   unnamed {c = Named n p} h = absurd (omega arith)
 
   module _ {c : Custom} {part payload : Cursor} (e : c ≡ Named part payload) where
@@ -73,7 +79,7 @@ module _ {m : List ℕ} where
 
     pub named : {called : Called} → Calls (left m part) called → CallsCustom m c called
     unfolding isCalled
-    named r = rw e (record { as-name = r .as-name; as-hints = r .as-hints })
+    named r = rw e (record { row-is = r .row-is })
 
 pub ruleset namings = (unnamed, name-inside, named, needs)
 
@@ -83,11 +89,15 @@ as-fine Fine h = refl
 as-fine (Against why) h = absurd (omega arith)
 
 -- behind the size
+pub called-in-table : {m : List ℕ} {c : Custom} {called : Called} → CallsCustom m c called → InTable called
+called-in-table {m} {c} {called = Row row} k = let below = row-below 0 tracked (λ x. isCalled x (customOf m c)) (k .row-is) in omega arith
+called-in-table {called = Other} k = tt
+
 pub custom-inside : {m : List ℕ} {id : ℕ} {contents : Cursor} {x : CustomRead} {c : Custom} → CustomReads m id contents x → x ≡ Read c → CustomInside m c
 custom-inside {c = c} r e = r .within c e
 
-ruled : (m : List ℕ) (w : Walk) (c : Custom) (next : ℕ) {called : Called} {v : Verdict} → CallsCustom m c called → NameRuled (w .seen) called v → ruling v (w .at) next (drop next m) ≡ nameRules (seenOf (w .seen)) (w .at) (customOf m c) next (drop next m)
-ruled m w c next k j = j .says (customOf m c) (k .as-name) (k .as-hints) (w .at) next (drop next m)
+ruled : (m : List ℕ) (w : Walk) (c : Custom) (next : ℕ) {called : Called} {v : Verdict} → CallsCustom m c called → NameRuled (w .seen) called v → ruling v (w .at) next (drop next m) ≡ nameRules (seenOf (w .seen)) (w .at) (rowOf (customOf m c)) next (drop next m)
+ruled m w c next k j = j .says (w .at) next (drop next m) ∙ ap (λ r. nameRules (seenOf (w .seen)) (w .at) r next (drop next m)) (sym (k .row-is))
 
 module _ {m : List ℕ} {w : Walk} {id : ℕ} {contents : Cursor} {next : ℕ} {x : CustomRead} (r : CustomReads m id contents x) where
   pub after-refused : {n : Refusal} → x ≡ NoCustom n → AfterSize m w id contents next (Refused n)
@@ -103,11 +113,15 @@ module _ {m : List ℕ} {w : Walk} {id : ℕ} {contents : Cursor} {next : ℕ} {
     unfolding behindSize seeing
     after-fine i a s = record {
       means = rw (← r .means next (drop next m), e, ← ruled m w c next k j, as-fine v a);
-      seen = rw (s .rank-is, s .code-is, s .name-is, s .hints-is, k .as-name, k .as-hints);
+      seen = λ j. record {
+        rank = s .rank-is j;
+        code = s .code-is j;
+        there = λ row. (s .there-is .says row ∙ ap (λ r. bit (w .seen .there) row || isRow r row) (sym (k .row-is))) j;
+      };
       forward = record { inside = record { behind = i .1; contents = i .0; custom = custom-inside r e }; moves = i .2; within = i .3 };
     }
 
-pub ruleset behind = (after-refused, custom-inside, after-against, after-fine, needs)
+pub ruleset behind = (after-refused, custom-inside, called-in-table, after-against, after-fine, needs)
 
 -- what is made of a section can be made in the last step
 made-last : {A B : Type 0} (r : Outcome A) (rules : A → Reader (Unit {0})) (make : A → B) → andThen (andThen r (λ c. rules c >> return (make c))) (λ s. return (some s)) ≡ andThen r (λ c. rules c >> return (some (make c)))
@@ -167,7 +181,7 @@ module _ {m : List ℕ} {w : Walk} where
         step-after s =
             let rest : left m next ≡ drop (next .at) m = ap (λ n. slice (next .at) n m) (read-behind .same-end) ∙ left-all m (next .at) in
             record {
-              means = s .means ∙ sym (rw (opened m w h, ← j .says (w .at) (suc (w .at)) (drop (suc (w .at)) m), as-fine v a, sized-there, sized-means p e, rest) (made-last (inside (custom (getD m (w .at) 0)) (partOf m contents) (next .at) (drop (next .at) m)) (nameRules (seenOf (w .seen)) (w .at)) _));
+              means = s .means ∙ sym (rw (opened m w h, ← j .says (w .at) (suc (w .at)) (drop (suc (w .at)) m), as-fine v a, sized-there, sized-means p e, rest) (made-last (inside (custom (getD m (w .at) 0)) (partOf m contents) (next .at) (drop (next .at) m)) (λ c. nameRules (seenOf (w .seen)) (w .at) (rowOf c)) _));
               seen = s .seen;
               forward = s .forward;
             }

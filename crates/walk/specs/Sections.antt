@@ -1,14 +1,16 @@
 -- What the walk's types mean. Assumes nothing.
-use Prim.Native.Nat.{ℕ, _<_}
-use mathlib.Core.Bool.{Bool, true, false, cond, _||_}
+use Prim.Native.Nat.{ℕ, zero, suc, _/_, _%_, _<_}
+use mathlib.Core.Bool.{Bool, cond, _||_}
 use mathlib.Core.List.{List}
 use mathlib.Core.Option.{Option, none, some}
 use mathlib.Core.Path.{_≡_}
+use lib.Dec.{eqb}
+use lib.ListN.{length}
 use Rattle.format.specs.Bytes.{same}
 use Rattle.format.specs.Refusals.{numberOf}
 use Rattle.format.specs.Reading.{got, stop, Reader}
 use Rattle.format.specs.Parts.{goOn}
-use Rattle.format.specs.Walk.{isCustom, isCode, rank, Custom as CustomSection, custom, Section as AnySection, isCalled, nameSection, hintSection, Seen as SeenBefore, idRules, nameRules}
+use Rattle.format.specs.Walk.{isCustom, isCode, rank, Custom as CustomSection, custom, tracked, rowFrom, rowOf, Section as AnySection, Seen as SeenBefore, isRow, idRules, nameRules}
 use Rattle.reading.specs.Cursors.{Inside, left, partOf, refusalOf}
 use Rattle.reading.specs.declared.Cursor.{Cursor}
 use Rattle.walk.specs.declared.step.Custom.{Custom}
@@ -17,13 +19,18 @@ use Rattle.walk.specs.declared.step.CustomRead.{CustomRead}
 use Rattle.walk.specs.declared.step.CustomRead.the-variants.{Read, Refused}
 use Rattle.walk.specs.declared.step.Section.{Section}
 use Rattle.walk.specs.declared.rules.Called.{Called}
-use Rattle.walk.specs.declared.rules.Called.the-variants.{Name, Hints, Other}
+use Rattle.walk.specs.declared.rules.Called.the-variants.{Row, Other}
 use Rattle.walk.specs.declared.rules.Seen.{Seen}
 use Rattle.walk.specs.declared.rules.Verdict.{Verdict}
 use Rattle.walk.specs.declared.rules.Verdict.the-variants.{Fine, Against}
 
+-- the bits of a number, from the lowest on
+abbrev pub bit : ℕ → ℕ → Bool
+bit n zero = eqb (n % 2) 1
+bit n (suc k) = bit (n / 2) k
+
 abbrev pub seenOf : Seen → SeenBefore
-seenOf s = record { rank = s .rank; code = s .code; name = s .name; hints = s .hints }
+seenOf s = record { rank = s .rank; code = s .code; there = bit (s .there) }
 
 -- a verdict says what rules say that are checked with the id byte at an offset
 abbrev pub ruling : Verdict → ℕ → Reader (Unit {0})
@@ -34,31 +41,30 @@ ruling (Against why) at o bs = stop (numberOf why) at
 pub record IdRuled (seen : Seen) (id : ℕ) (v : Verdict) : Type 0 where
   pub says : (at o : ℕ) (bs : List ℕ) → ruling v at o bs ≡ idRules (seenOf seen) at id o bs
 
--- what is called so
-abbrev pub isName : Called → Bool
-isName Name = true
-isName Hints = false
-isName Other = false
+-- what a section is called is a row, or none of them
+abbrev pub rowCalled : Called → Option ℕ
+rowCalled (Row row) = some row
+rowCalled Other = none
 
-abbrev pub isHints : Called → Bool
-isHints Name = false
-isHints Hints = true
-isHints Other = false
+abbrev pub InTable : Called → Type 0
+InTable (Row row) = row < length tracked
+InTable Other = Unit {0}
 
 pub record Calls (name : List ℕ) (called : Called) : Type 0 where
-  pub as-name : same nameSection name ≡ isName called
-  pub as-hints : same hintSection name ≡ isHints called
+  pub row-is : rowFrom 0 tracked (λ x. same x name) ≡ rowCalled called
 
--- what a custom section's name decides
+-- what a custom section's row decides
 pub record NameRuled (seen : Seen) (called : Called) (v : Verdict) : Type 0 where
-  pub says : (c : Option CustomSection) → isCalled nameSection c ≡ isName called → isCalled hintSection c ≡ isHints called → (at o : ℕ) (bs : List ℕ) → ruling v at o bs ≡ nameRules (seenOf seen) at c o bs
+  pub says : (at o : ℕ) (bs : List ℕ) → ruling v at o bs ≡ nameRules (seenOf seen) at (rowCalled called) o bs
 
 -- what the rules know behind a section
+pub record ThereAfter (before : ℕ) (called : Called) (next : ℕ) : Type 0 where
+  pub says : (row : ℕ) → bit next row ≡ (bit before row || isRow (rowCalled called) row)
+
 pub record Sees (seen : Seen) (id : ℕ) (called : Called) (next : Seen) : Type 0 where
   pub rank-is : next .rank ≡ cond (isCustom id) (seen .rank) (rank id)
   pub code-is : next .code ≡ (seen .code || isCode id)
-  pub name-is : next .name ≡ (seen .name || isName called)
-  pub hints-is : next .hints ≡ (seen .hints || isHints called)
+  pub there-is : ThereAfter (seen .there) called (next .there)
 
 -- What a section of the code is
 abbrev pub customOf : List ℕ → Custom → Option CustomSection
@@ -89,5 +95,4 @@ pub record CustomReads (m : List ℕ) (id : ℕ) (contents : Cursor) (r : Custom
   pub within : (c : Custom) → r ≡ Read c → CustomInside m c
 
 pub record CallsCustom (m : List ℕ) (c : Custom) (called : Called) : Type 0 where
-  pub as-name : isCalled nameSection (customOf m c) ≡ isName called
-  pub as-hints : isCalled hintSection (customOf m c) ≡ isHints called
+  pub row-is : rowOf (customOf m c) ≡ rowCalled called

@@ -6,7 +6,7 @@ use mathlib.Core.Path.{_≡_}
 use lib.ListN.{length, drop}
 use Rattle.format.specs.Reading.{Outcome, got, Reader, _>>=_, _>>_, return}
 use Rattle.format.specs.Parts.{Part, inside}
-use Rattle.format.specs.Walk.{preamble, begins, custom, Section as AnySection, Seen as SeenBefore, nothing, seeing, nameRules, step}
+use Rattle.format.specs.Walk.{preamble, begins, custom, rowOf, Section as AnySection, Seen as SeenBefore, nothing, seeing, nameRules, step}
 use Rattle.reading.specs.Cursors.{partOf, refusalOf}
 use Rattle.reading.specs.declared.Cursor.{Cursor}
 use Rattle.walk.specs.Sections.{seenOf, sectionOf, SectionInside}
@@ -49,7 +49,7 @@ pub record Steps (m : List ℕ) (w : Walk) (r : Step) : Type 0 where
 unfoldable pub behindSize : SeenBefore → ℕ → ℕ → Part → Reader (Option AnySection)
 behindSize seen at id part = do
   c ← inside (custom id) part
-  nameRules seen at c
+  nameRules seen at (rowOf c)
   return (some (record { id = id; at = at; contents = part; custom = c }))
 
 pub record AfterSize (m : List ℕ) (w : Walk) (id : ℕ) (contents : Cursor) (next : ℕ) (r : Step) : Type 0 where

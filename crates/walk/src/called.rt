@@ -3,8 +3,6 @@ ghost use mathlib.Core.List.{_++_};
 ghost use mathlib.Core.Path.{_≡_};
 ghost use Rattle.format.specs.Bytes.{same};
 ghost use Rattle.reading.specs.Cursors.{Inside, left};
-ghost use Rattle.walk.specs.Sections.{Calls};
-use crate::rules::Called;
 use reading::Cursor;
 
 // Whether a part of `s` is these bytes.
@@ -41,18 +39,4 @@ pub fn is_joined(s: &[u8], part: Cursor, front: &[u8], rest: &[u8]) -> bool
         return is_called(s, Cursor { at, end: middle }, front);
     }
     false
-}
-
-// Which of the names that the rules know a part of `s` is.
-pub fn called(s: &[u8], part: Cursor) -> Called
-    requires { ⌜ Inside (now s) part ⌝ }
-    ensures { λ r. ⌜ Calls (left (now (s .entry)) part) r ⌝ }
-{
-    if is_called(s, part, b"name") {
-        return Called::Name;
-    }
-    if is_called(s, part, b"metadata.code.branch_hint") {
-        return Called::Hints;
-    }
-    Called::Other
 }

@@ -12,6 +12,7 @@ use format::Answer;
 use format::Refusal;
 
 pub mod called;
+pub mod rows;
 pub mod rules;
 pub mod step;
 pub mod survey;

@@ -1,22 +1,25 @@
 // The rules about the number and the order of sections.
 ghost use mathlib.Core.Bool.{cond, _||_};
 ghost use mathlib.Core.Path.{_≡_};
+ghost use lib.Dec.{ltb};
+ghost use lib.ListN.{length};
+ghost use Prim.Native.Nat.{_<_};
 ghost use Rattle.format.specs.Walk;
-ghost use Rattle.walk.specs.Sections.{IdRuled, NameRuled, Sees, isName, isHints};
+ghost use Rattle.walk.specs.Sections.{IdRuled, InTable, NameRuled, Sees, ThereAfter, bit};
+use crate::rows::BEFORE_CODE;
+use crate::rows::NAME;
 use format::Reason;
 
-// What the rules need to know of the sections before.
+// What the rules need to know of the sections before. Whether a row was there is one bit, the lowest the first row's.
 pub struct Seen {
     pub rank: u8,
     pub code: bool,
-    pub name: bool,
-    pub hints: bool,
+    pub there: u8,
 }
 
-// What a section is called, as far as the rules care.
+// What a section is called, as far as the rules care: its row.
 pub enum Called {
-    Name,
-    Hints,
+    Row(u8),
     Other,
 }
 
@@ -31,20 +34,40 @@ const CODE: u8 = 10;
 
 const DATA: u8 = 11;
 
-const GREATEST: u8 = 12;
+// Where each id stands in the order of sections.
+const IDS: usize = 13;
 
-// Where an id stands in the order of sections.
+const RANKS: [u8; IDS] = [0, 1, 2, 3, 4, 5, 6, 7, 8, 9, 10, 11, 12];
+
+fn is_unknown(id: u8) -> bool
+    ensures { λ r. ⌜ r ≡ ltb Walk.greatestId id ⌝ }
+{
+    IDS <= id as usize
+}
+
 fn rank(id: u8) -> u8
     ensures { λ r. ⌜ r ≡ Walk.rank id ⌝ }
 {
-    id
+    let at = id as usize;
+    if at < IDS {
+        return RANKS[at];
+    }
+    0
+}
+
+// Whether a row is among those that were there.
+fn has(there: u8, row: u8) -> bool
+    requires { ⌜ row < length Walk.tracked ⌝ }
+    ensures { λ r. ⌜ r ≡ bit there row ⌝ }
+{
+    (there >> row) % 2 == 1
 }
 
 // What the id decides, before the size is read.
 pub fn judge_id(seen: Seen, id: u8) -> Verdict
     ensures { λ r. ⌜ IdRuled seen id r ⌝ }
 {
-    if GREATEST < id {
+    if is_unknown(id) {
         return Verdict::Against(Reason::SectionUnknown);
     }
     if id == CUSTOM {
@@ -54,31 +77,28 @@ pub fn judge_id(seen: Seen, id: u8) -> Verdict
         return Verdict::Against(Reason::SectionOrder);
     }
     if id == DATA {
-        if seen.name {
+        if has(seen.there, NAME) {
             return Verdict::Against(Reason::SectionTooLate);
         }
     }
     Verdict::Fine
 }
 
-// What a custom section's name decides, once it is read.
+// What a custom section's row decides, once its name is read.
 pub fn judge_name(seen: Seen, called: Called) -> Verdict
+    requires { ⌜ InTable called ⌝ }
     ensures { λ r. ⌜ NameRuled seen called r ⌝ }
 {
     match called {
         Called::Other => Verdict::Fine,
-        Called::Name => {
-            if seen.name {
+        Called::Row(row) => {
+            if has(seen.there, row) {
                 return Verdict::Against(Reason::SectionTwice);
             }
-            Verdict::Fine
-        }
-        Called::Hints => {
-            if seen.hints {
-                return Verdict::Against(Reason::SectionTwice);
-            }
-            if seen.code {
-                return Verdict::Against(Reason::SectionTooLate);
+            if BEFORE_CODE[row as usize] {
+                if seen.code {
+                    return Verdict::Against(Reason::SectionTooLate);
+                }
             }
             Verdict::Fine
         }
@@ -94,23 +114,14 @@ fn either(a: bool, b: bool) -> bool
     b
 }
 
-fn is_name(called: Called) -> bool
-    ensures { λ r. ⌜ r ≡ isName called ⌝ }
+// The rows that were there, with that of one section more.
+fn there_after(before: u8, called: Called) -> u8
+    requires { ⌜ InTable called ⌝ }
+    ensures { λ r. ⌜ ThereAfter before called r ⌝ }
 {
     match called {
-        Called::Name => true,
-        Called::Hints => false,
-        Called::Other => false,
-    }
-}
-
-fn is_hints(called: Called) -> bool
-    ensures { λ r. ⌜ r ≡ isHints called ⌝ }
-{
-    match called {
-        Called::Hints => true,
-        Called::Name => false,
-        Called::Other => false,
+        Called::Other => before,
+        Called::Row(row) => before | (1 << row),
     }
 }
 
@@ -132,12 +143,12 @@ fn is_code(id: u8) -> bool
 
 // What the rules know behind a section.
 pub fn see(seen: Seen, id: u8, called: Called) -> Seen
+    requires { ⌜ InTable called ⌝ }
     ensures { λ r. ⌜ Sees seen id called r ⌝ }
 {
     Seen {
         rank: rank_after(seen.rank, id),
         code: either(seen.code, is_code(id)),
-        name: either(seen.name, is_name(called)),
-        hints: either(seen.hints, is_hints(called)),
+        there: there_after(seen.there, called),
     }
 }

@@ -4,8 +4,8 @@ ghost use lib.ListN.{length};
 ghost use Rattle.reading.specs.Cursors.{Inside};
 ghost use Rattle.walk.specs.Sections.{CustomReads, CallsCustom, CustomInside};
 ghost use Rattle.walk.specs.Steps.{AfterSize, Begins, Steps};
-use crate::called::called;
 use crate::called::is_called;
+use crate::rows::called;
 use crate::rules::CUSTOM;
 use crate::rules::Called;
 use crate::rules::Seen;
@@ -68,7 +68,7 @@ fn read_custom(m: &[u8], id: u8, contents: Cursor) -> CustomRead
     }
 }
 
-// What the rules care about in a section's name.
+// The row of a section.
 fn called_so(m: &[u8], custom: Custom) -> Called
     requires { ⌜ CustomInside (now m) custom ⌝ }
     ensures { λ r. ⌜ CallsCustom (now (m .entry)) custom r ⌝ }
@@ -117,8 +117,7 @@ const PREAMBLE: [u8; PREAMBLE_LENGTH] = [0x00, 0x61, 0x73, 0x6D, 0x01, 0x00, 0x0
 const NOTHING: Seen = Seen {
     rank: 0,
     code: false,
-    name: false,
-    hints: false,
+    there: 0,
 };
 
 impl Walk {

@@ -4,7 +4,7 @@ use mathlib.Core.List.{List, [], _∷_}
 use mathlib.Core.Option.{Option, none, some}
 use mathlib.Core.Path.{_≡_, refl, sym, ap, _∙_}
 use lib.ListN.{length}
-use Rattle.format.specs.Bytes.{ascii, same}
+use Rattle.format.specs.Bytes.{same}
 use Rattle.format.specs.Reading.{got, Reader, filling, Judged, accepted, refused, judgedThen, mapJudged}
 use Rattle.format.specs.Parts.{Part, name, remaining}
 use Rattle.format.specs.Tables.{Table, lookup, table}
@@ -14,7 +14,7 @@ use Rattle.format.specs.declared.Question.{Question}
 use Rattle.format.specs.declared.Query.{Query}
 use Rattle.format.specs.declared.Query.the-variants.{ItsName, ItsContents, NameOf, NameWithin}
 use Rattle.format.specs.Metadata.{metadata, judgeMetadata, itemAt, askMetadata}
-use Rattle.format.specs.Walk.{preamble, begins, Custom, custom, Section, Seen, nothing, seeing, sections, framing, walk, payloadOf, payloadIn, nameSection, customPayload}
+use Rattle.format.specs.Walk.{preamble, begins, Custom, custom, Section, Seen, nothing, seeing, sections, framing, walk, payloadOf, payloadIn, nameSection, branchHint, customPayload}
 use Rattle.format.specs.Through.{orNone, through, askThrough, metadataSection, itemOf, askMetadataThrough}
 use Rattle.format.specs.Laws.Outcomes.{got-value, accepted-is, byTest, inTurn, judged, mapped, followed}
 use Rattle.format.specs.Laws.Options.{not-some, some-is, byOption, inThen}
@@ -147,7 +147,7 @@ name-lies-through kindOf q m e = through-lies nameSection (askAt kindOf q) m (λ
 
 item-of-located : (format : List ℕ) → Located (itemOf format) PartIn
 unfolding itemOf
-item-of-located format = byTest (same format (ascii "branch_hint")) (λ t. rw t hint-located) (λ t. rw t any-located)
+item-of-located format = byTest (same format branchHint) (λ t. rw t hint-located) (λ t. rw t any-located)
 
 pub item-lies-through : (format : List ℕ) (f : FunctionIndex) (at : CodeOffset) (m : List ℕ) {p : Part} → askMetadataThrough format f at m ≡ accepted (some p) → PartIn m p
 unfolding askMetadataThrough

@@ -2,7 +2,7 @@
 use Prim.Native.Nat.{ℕ, suc, _+_, _≤_}
 use mathlib.Core.Bool.{Bool, true, false, not, _&&_, _||_}
 use mathlib.Core.List.{List, _∷_}
-use mathlib.Core.Option.{Option}
+use mathlib.Core.Option.{Option, none, some}
 use mathlib.Core.Path.{_≡_}
 use borrow.Author.Tests.{leb-true}
 use lib.Dec.{ltb, leb}
@@ -12,7 +12,7 @@ use Rattle.format.specs.Numbers.{number}
 use Rattle.format.specs.Parts.{Part, sized, inside}
 use Rattle.format.specs.Tables.{Table, row, rows, table}
 use Rattle.format.specs.Names.{Kind, Content, contents, subsections}
-use Rattle.format.specs.Walk.{greatestId, isCustom, isData, rank, Custom, custom, isCalled, nameSection, hintSection, Section, Seen, seeing, idRules, nameRules, section, sections}
+use Rattle.format.specs.Walk.{greatestId, isCustom, isData, rank, custom, nameRow, beforeCode, rowOf, Section, Seen, seeing, idRules, nameRules, section, sections}
 use Rattle.format.specs.Laws.Outcomes.{not-got, got-value, got-next, got-rest, inTurn, passed, inPart}
 use Rattle.format.specs.declared.Reason.{Reason}
 
@@ -67,13 +67,14 @@ id-rules-stay : (seen : Seen) (at id o : ℕ) (bs : List ℕ) {v : Unit {0}} {o�
 unfolding idRules
 id-rules-stay seen at id o bs e =
     passed (leb id greatestId) _ _ _ _ _ e λ _ e₁. passed (isCustom id || ltb (seen .rank) (rank id)) _ _ _ _ _ e₁ λ _ e₂.
-    checked-stays (not (isData id && seen .name)) _ _ _ _ e₂
+    checked-stays (not (isData id && seen .there nameRow)) _ _ _ _ e₂
 
-name-rules-stay : (seen : Seen) (at : ℕ) (c : Option Custom) (o : ℕ) (bs : List ℕ) {v : Unit {0}} {o′ : ℕ} {rest : List ℕ} → nameRules seen at c o bs ≡ got v o′ rest → (o ≡ o′) × (bs ≡ rest)
+name-rules-stay : (seen : Seen) (at : ℕ) (r : Option ℕ) (o : ℕ) (bs : List ℕ) {v : Unit {0}} {o′ : ℕ} {rest : List ℕ} → nameRules seen at r o bs ≡ got v o′ rest → (o ≡ o′) × (bs ≡ rest)
 unfolding nameRules
-name-rules-stay seen at c o bs e =
-    passed (not (isCalled nameSection c && seen .name)) _ _ _ _ _ e λ _ e₁. passed (not (isCalled hintSection c && seen .hints)) _ _ _ _ _ e₁ λ _ e₂.
-    checked-stays (not (isCalled hintSection c && seen .code)) _ _ _ _ e₂
+name-rules-stay seen at none o bs e = (got-next e, got-rest e)
+name-rules-stay seen at (some k) o bs e =
+    passed (not (seen .there k)) _ _ _ _ _ e λ _ e₁.
+    checked-stays (not (beforeCode k && seen .code)) _ _ _ _ e₁
 
 -- one section
 pub inSection {ℓ} : {C : Type ℓ} (seen : Seen) (o id : ℕ) (bs : List ℕ) {s : Section} {o₁ : ℕ} {r₁ : List ℕ} → section seen o id (suc o) bs ≡ got s o₁ r₁ → ((o₂ : ℕ) (r₂ : List ℕ) → s .id ≡ id → s .at ≡ o → sized (suc o) bs ≡ got (s .contents) o₁ r₁ → custom id (s .contents .at) (s .contents .bytes) ≡ got (s .custom) o₂ r₂ → C) → C
@@ -84,8 +85,8 @@ inSection seen o id bs {s} e₁ k =
     inTurn (sized o₃ r₃) _ e₃ λ p o₁ r₁ e₆ e₇.
     inTurn (inside (custom id) p o₁ r₁) _ e₇ λ c o₄ r₄ e₈ e₉.
     inPart (custom id (p .at) (p .bytes)) o₁ r₁ e₈ λ o₂ r₂ e₁₀ q q′.
-    inTurn (nameRules seen o c o₄ r₄) _ e₉ λ _ o₅ r₅ e₁₁ e₁₂.
-    let (b, b′) = name-rules-stay seen o c o₄ r₄ e₁₁ in
+    inTurn (nameRules seen o (rowOf c) o₄ r₄) _ e₉ λ _ o₅ r₅ e₁₁ e₁₂.
+    let (b, b′) = name-rules-stay seen o (rowOf c) o₄ r₄ e₁₁ in
     let is = got-value e₁₂ in
     k o₂ r₂ (rw (← is)) (rw (← is)) (rw (← is, ← got-next e₁₂, ← got-rest e₁₂, ← b, ← b′, ← q, ← q′, a, a′) e₆) (rw (← is) e₁₀)
 

@@ -7,7 +7,7 @@ use mathlib.Core.Path.{_≡_, sym}
 use native.Mathlib.Omega.{arith}
 use lib.Dec.{ltb, leb, eqb}
 use lib.ListN.{length, getElem?}
-use Rattle.format.specs.Bytes.{ascii, same}
+use Rattle.format.specs.Bytes.{same}
 use Rattle.format.specs.Canonical.{rewriteNames, canonicalNames, rewriteMetadata, canonicalOf, canonicalMetadata, canonicalHints, writeContent}
 use Rattle.format.specs.Laws.Outcomes.{not-accepted, byTest, refused-exactly}
 use Rattle.format.specs.Lists.{sum, listed, unsortedAt, badTextAt, unless, provided, functionNames}
@@ -24,7 +24,7 @@ use Rattle.format.specs.Refusals.{numberOf}
 use Rattle.format.specs.Tables.{rows, table}
 use Rattle.format.specs.Text.{utf8}
 use Rattle.format.specs.Through.{orNone, through, askThrough, metadataSection, itemOf, askMetadataThrough, askHintThrough}
-use Rattle.format.specs.Walk.{preamble, begins, greatestId, isCustom, isData, rank, Custom, custom, isCalled, nameSection, hintSection, Seen, nothing, seeing, idRules, nameRules, section, sections, framing, walk, sectionCount, sectionAt, payloadIn, customPayload}
+use Rattle.format.specs.Walk.{preamble, begins, greatestId, isCustom, isData, rank, custom, nameSection, branchHint, hintSection, nameRow, beforeCode, rowOf, Seen, nothing, seeing, idRules, nameRules, section, sections, framing, walk, sectionCount, sectionAt, payloadIn, customPayload}
 use Rattle.format.specs.declared.CodeOffset.{CodeOffset}
 use Rattle.format.specs.declared.FunctionIndex.{FunctionIndex}
 use Rattle.format.specs.declared.Reason.{Reason}
@@ -215,21 +215,21 @@ unfolding idRules
 id-rules-fair seen at id o bs =
     fair-after (leb id greatestId) _ _ _ _ _ (omega arith, omega arith)
     (fair-after (isCustom id || ltb (seen .rank) (rank id)) _ _ _ _ _ (omega arith, omega arith)
-    (fair-check (not (isData id && seen .name)) _ _ _ _ (omega arith, omega arith)))
+    (fair-check (not (isData id && seen .there nameRow)) _ _ _ _ (omega arith, omega arith)))
 
-name-rules-fair : (seen : Seen) (at : ℕ) (c : Option Custom) (o : ℕ) (bs : List ℕ) → Fair (nameRules seen at c o bs)
+name-rules-fair : (seen : Seen) (at : ℕ) (r : Option ℕ) (o : ℕ) (bs : List ℕ) → Fair (nameRules seen at r o bs)
 unfolding nameRules
-name-rules-fair seen at c o bs =
-    fair-after (not (isCalled nameSection c && seen .name)) _ _ _ _ _ (omega arith, omega arith)
-    (fair-after (not (isCalled hintSection c && seen .hints)) _ _ _ _ _ (omega arith, omega arith)
-    (fair-check (not (isCalled hintSection c && seen .code)) _ _ _ _ (omega arith, omega arith)))
+name-rules-fair seen at none o bs = fair-got
+name-rules-fair seen at (some k) o bs =
+    fair-after (not (seen .there k)) _ _ _ _ _ (omega arith, omega arith)
+    (fair-check (not (beforeCode k && seen .code)) _ _ _ _ (omega arith, omega arith))
 
 section-fair : (seen : Seen) (at id o : ℕ) (bs : List ℕ) → Fair (section seen at id o bs)
 unfolding section
 section-fair seen at id o bs =
     fair-then (idRules seen at id o bs) _ (id-rules-fair seen at id o bs) λ _ o₁ r₁. fair-then (sized o₁ r₁) _ (sized-fair o₁ r₁) λ p o₂ r₂.
     fair-then (goOn (custom id (p .at) (p .bytes)) o₂ r₂) _ (fair-part (custom id (p .at) (p .bytes)) o₂ r₂ (custom-fair id (p .at) (p .bytes))) λ c o₃ r₃.
-    fair-then (nameRules seen at c o₃ r₃) _ (name-rules-fair seen at c o₃ r₃) λ _ o₄ r₄. fair-got
+    fair-then (nameRules seen at (rowOf c) o₃ r₃) _ (name-rules-fair seen at (rowOf c) o₃ r₃) λ _ o₄ r₄. fair-got
 
 sections-fair : (most : ℕ) (seen : Seen) (o : ℕ) (bs : List ℕ) → Fair (sections most seen o bs)
 unfolding sections
@@ -270,7 +270,7 @@ name-through-fair q m = through-fair nameSection (askAt knownKind q) m (name-at-
 
 item-of-fair : (format : List ℕ) (o : ℕ) (bs : List ℕ) → Fair (itemOf format o bs)
 unfolding itemOf
-item-of-fair format o bs = byTest (same format (ascii "branch_hint")) (λ t. rw t (hint-fair o bs)) (λ t. rw t (any-fair o bs))
+item-of-fair format o bs = byTest (same format branchHint) (λ t. rw t (hint-fair o bs)) (λ t. rw t (any-fair o bs))
 
 pub metadata-through-fair : (format : List ℕ) (f : FunctionIndex) (o : CodeOffset) (m : List ℕ) → FairlyJudged (askMetadataThrough format f o m)
 unfolding askMetadataThrough

@@ -1,12 +1,12 @@
 -- Questions through a module, by what the walk's C call says of the section and what the payload's C call answers.
 use Prim.Native.Nat.{ℕ, _+_}
-use mathlib.Core.List.{List, _++_}
+use mathlib.Core.List.{List}
 use mathlib.Core.Logic.{_≢_}
 use mathlib.Core.Option.{Option, none, some}
 use mathlib.Core.Path.{_≡_, refl, sym, ap, _∙_}
 use native.Mathlib.Omega.{arith}
 use lib.ListN.{length, take, drop}
-use Rattle.format.specs.Bytes.{ascii, same}
+use Rattle.format.specs.Bytes.{same}
 use Rattle.format.specs.Demands.{VeryBytes}
 use Rattle.format.specs.Laws.Bytes.{same-true, same-self}
 use Rattle.format.specs.Laws.Found.{payload-lies}
@@ -22,7 +22,7 @@ use Rattle.format.specs.declared.Question.{Question}
 use Rattle.format.specs.Reading.{Judged, accepted, refused, judgedThen, verdict}
 use Rattle.format.specs.Tables.{Table}
 use Rattle.format.specs.Through.{orNone, through, askThrough, metadataSection, itemOf, askMetadataThrough, askHintThrough}
-use Rattle.format.specs.Walk.{nameSection, hintSection, customPayload}
+use Rattle.format.specs.Walk.{nameSection, branchHint, hintSection, customPayload}
 use Rattle.format.specs.declared.CodeOffset.{CodeOffset}
 use Rattle.format.specs.declared.FunctionIndex.{FunctionIndex}
 use Rattle.format.specs.declared.Hint.{Hint}
@@ -99,25 +99,25 @@ places-through x question moves m a c e d = (
   through-moved (λ j. wmPlace (asPlace j)) question x m a c e d (λ k p. rw (moves k p) (place-moved k (question 0 p))),
 )
 
-pub name-through : (q : Question) → PutThrough (ascii "name") (λ p b. b ≡ wmPlace (asPlace (ask knownKind q p))) (λ m a. a ≡ wmPlace (asPlace (askThrough knownKind q m)))
-unfolding askThrough nameSection ask
-name-through q = places-through (ascii "name") (askAt knownKind q) (name-asked-moves q)
+pub name-through : (q : Question) → PutThrough nameSection (λ p b. b ≡ wmPlace (asPlace (ask knownKind q p))) (λ m a. a ≡ wmPlace (asPlace (askThrough knownKind q m)))
+unfolding askThrough ask
+name-through q = places-through nameSection (askAt knownKind q) (name-asked-moves q)
 
-pub hint-through : (f : FunctionIndex) (o : CodeOffset) → PutThrough (ascii "metadata.code.branch_hint") (λ p b. b ≡ wmHint (askHint f o 0 p)) (λ m a. a ≡ wmHint (askHintThrough f o m))
-unfolding askHintThrough hintSection
+pub hint-through : (f : FunctionIndex) (o : CodeOffset) → PutThrough hintSection (λ p b. b ≡ wmHint (askHint f o 0 p)) (λ m a. a ≡ wmHint (askHintThrough f o m))
+unfolding askHintThrough
 hint-through f o m a c e d = (
-  through-none (λ j. wmHint j) (askHint f o) (ascii "metadata.code.branch_hint") m a c e d refl,
-  through-refused (λ j. wmHint j) (askHint f o) (ascii "metadata.code.branch_hint") m a c e d (λ n at. refl),
-  through-moved (λ j. wmHint j) (askHint f o) (ascii "metadata.code.branch_hint") m a c e d (λ k p. rw (hint-asked-moves f o k p) (hint-moved k (askHint f o 0 p))),
+  through-none (λ j. wmHint j) (askHint f o) hintSection m a c e d refl,
+  through-refused (λ j. wmHint j) (askHint f o) hintSection m a c e d (λ n at. refl),
+  through-moved (λ j. wmHint j) (askHint f o) hintSection m a c e d (λ k p. rw (hint-asked-moves f o k p) (hint-moved k (askHint f o 0 p))),
 )
 
-other-item : (format : List ℕ) → format ≢ ascii "branch_hint" → itemOf format ≡ anyItem
+other-item : (format : List ℕ) → format ≢ branchHint → itemOf format ≡ anyItem
 unfolding itemOf
-other-item format other = byTest (same format (ascii "branch_hint")) (λ t. absurd (other (same-true format (ascii "branch_hint") t))) (λ t. rw t)
+other-item format other = byTest (same format branchHint) (λ t. absurd (other (same-true format branchHint t))) (λ t. rw t)
 
-pub metadata-through : (format : List ℕ) → format ≢ ascii "branch_hint" → (f : FunctionIndex) (o : CodeOffset) → PutThrough (ascii "metadata.code." ++ format) (λ p b. b ≡ wmPlace (asPlace (askMetadata anyItem f o 0 p))) (λ m a. a ≡ wmPlace (asPlace (askMetadataThrough format f o m)))
-unfolding askMetadataThrough metadataSection
-metadata-through format other f o = rw (other-item format other) (places-through (ascii "metadata.code." ++ format) (askMetadata anyItem f o) (any-asked-moves f o))
+pub metadata-through : (format : List ℕ) → format ≢ branchHint → (f : FunctionIndex) (o : CodeOffset) → PutThrough (metadataSection format) (λ p b. b ≡ wmPlace (asPlace (askMetadata anyItem f o 0 p))) (λ m a. a ≡ wmPlace (asPlace (askMetadataThrough format f o m)))
+unfolding askMetadataThrough
+metadata-through format other f o = rw (other-item format other) (places-through (metadataSection format) (askMetadata anyItem f o) (any-asked-moves f o))
 
 -- Of hints their data, where the rules of hints accept them
 hints-any : (p : List ℕ) {t : Table (Table Part)} → judgeMetadata hintItem 0 p ≡ accepted t → judgeMetadata anyItem 0 p ≡ accepted t
@@ -137,13 +137,13 @@ module _ (f : FunctionIndex) (o : CodeOffset) (p : List ℕ) (b j : WmAnswer) (j
   hint-data-asked : b ≡ wmPlace (asPlace (askMetadata hintItem f o 0 p))
   hint-data-asked = hint-data-by (judgeMetadata hintItem 0 p) refl
 
-hint-item : itemOf (ascii "branch_hint") ≡ hintItem
+hint-item : itemOf branchHint ≡ hintItem
 unfolding itemOf
-hint-item = rw (same-self (ascii "branch_hint"))
+hint-item = rw (same-self branchHint)
 
-pub hint-data-through : (f : FunctionIndex) (o : CodeOffset) → PutThrough (ascii "metadata.code.branch_hint") (λ p b. (j : WmAnswer) × (j ≡ wmJudged (length p) (verdict (judgeMetadata hintItem 0 p))) × (j .kind ≡ 2 → b ≡ j) × (j .kind ≡ 1 → b ≡ wmPlace (asPlace (askMetadata anyItem f o 0 p)))) (λ m a. a ≡ wmPlace (asPlace (askMetadataThrough (ascii "branch_hint") f o m)))
-unfolding askMetadataThrough metadataSection ascii
+pub hint-data-through : (f : FunctionIndex) (o : CodeOffset) → PutThrough hintSection (λ p b. (j : WmAnswer) × (j ≡ wmJudged (length p) (verdict (judgeMetadata hintItem 0 p))) × (j .kind ≡ 2 → b ≡ j) × (j .kind ≡ 1 → b ≡ wmPlace (asPlace (askMetadata anyItem f o 0 p)))) (λ m a. a ≡ wmPlace (asPlace (askMetadataThrough branchHint f o m)))
+unfolding askMetadataThrough metadataSection hintSection
 hint-data-through f o m a c e d =
-    let put : PutThrough (ascii "metadata.code.branch_hint") (λ p b. b ≡ wmPlace (asPlace (askMetadata hintItem f o 0 p))) (λ m a. a ≡ wmPlace (asPlace (through (ascii "metadata.code.branch_hint") (askMetadata hintItem f o) m))) = places-through (ascii "metadata.code.branch_hint") (askMetadata hintItem f o) (hint-data-moves f o) in
+    let put : PutThrough hintSection (λ p b. b ≡ wmPlace (asPlace (askMetadata hintItem f o 0 p))) (λ m a. a ≡ wmPlace (asPlace (through hintSection (askMetadata hintItem f o) m))) = places-through hintSection (askMetadata hintItem f o) (hint-data-moves f o) in
     let one = put m a c (rw (← hint-item) e) d in
     (one .0, one .1, λ b k h. one .2 b k (hint-data-asked f o (take (c .length) (drop (c .offset) m)) b (h .0) (h .1) (h .2) (h .3)))

@@ -1,3 +1,5 @@
+use Rattle.format.specs.Bytes.{ascii}
+use Rattle.format.specs.Through.{metadataSection}
 use Rattle.through.proofs.SectionLaws.{sections}
 use Rattle.through.proofs.sections.metadata_section.Statement.{statement}
 use Rattle.through.proofs.sections.metadata_section.Tie as tie
@@ -9,6 +11,7 @@ custom-joined-requires : tie.Need-custom-joined-requires
 custom-joined-requires c κs = search sections
 
 returns : tie.Need-returns
+unfolding ascii metadataSection
 returns c = search sections
 
 pub metadata-section-spec : {M : Type 1} → statement M

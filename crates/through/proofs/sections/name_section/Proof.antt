@@ -1,3 +1,5 @@
+use Rattle.format.specs.Bytes.{ascii}
+use Rattle.format.specs.Walk.{nameSection}
 use Rattle.through.proofs.SectionLaws.{sections}
 use Rattle.through.proofs.sections.name_section.Statement.{statement}
 use Rattle.through.proofs.sections.name_section.Tie as tie
@@ -9,6 +11,7 @@ custom-requires : tie.Need-custom-requires
 custom-requires c κs = search sections
 
 returns : tie.Need-returns
+unfolding ascii nameSection
 returns c = search sections
 
 pub name-section-spec : {M : Type 1} → statement M

@@ -11,17 +11,8 @@ is-code-requires c κs = search sights
 either-requires : tie.Need-either-requires
 either-requires c κs = search sights
 
-is-name-requires : tie.Need-is-name-requires
-is-name-requires c κs = search sights
-
-either-requires-2 : tie.Need-either-requires-2
-either-requires-2 c κs = search sights
-
-is-hints-requires : tie.Need-is-hints-requires
-is-hints-requires c κs = search sights
-
-either-requires-3 : tie.Need-either-requires-3
-either-requires-3 c κs = search sights
+there-after-requires : tie.Need-there-after-requires
+there-after-requires c κs = search sights
 
 returns : tie.Need-returns
 returns c = search sights
@@ -29,12 +20,4 @@ returns c = search sights
 pub see-spec : {M : Type 1} → statement M
 see-spec =
     tie.close
-    (tie.spec
-    rank-after-requires
-    is-code-requires
-    either-requires
-    is-name-requires
-    either-requires-2
-    is-hints-requires
-    either-requires-3
-    returns)
+    (tie.spec rank-after-requires is-code-requires either-requires there-after-requires returns)
