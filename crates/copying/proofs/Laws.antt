@@ -1,7 +1,7 @@
--- What was accepted, taken apart: a row and the rows behind it, a table and its rows. Nothing here is about code.
+-- What is written of what was accepted, row by row, and how long that is. Nothing here is about code.
 use Prim.Native.Nat.{ℕ, suc, _+_, _-_, _≤_, _<_}
 use mathlib.Core.Bool.{false}
-use mathlib.Core.List.{List, [], _∷_, _++_, append-assoc}
+use mathlib.Core.List.{List, [], _++_, append-assoc}
 use mathlib.Core.Path.{_≡_, refl, sym, _∙_}
 use native.Mathlib.Nat.{zero-add}
 use native.Mathlib.Omega.{arith}
@@ -9,113 +9,19 @@ use borrow.Author.Tests.{ne-eqb}
 use lib.Dec.{eqb}
 use lib.ListN.{length, take, drop, length-append}
 use lib.Seq.{length-slice}
-use Rattle.format.specs.Reading.{got, Reader}
 use Rattle.format.specs.Numbers.{number, shortest, limit32}
 use Rattle.format.specs.Parts.{Part, sized}
 use Rattle.format.specs.Tables.{Table, nil, row, size, mapTable, rows, table}
 use Rattle.format.specs.Canonical.{writePart, writeRows, writeTable, unlessEmpty, keepRows, bareItems}
-use Rattle.format.specs.Laws.Outcomes.{got-value, got-next, got-rest}
-use Rattle.format.specs.Laws.Turns.{inRow, inTable}
-use Rattle.format.specs.Laws.Passing.{Passes, number-passes, table-passes}
 use Rattle.format.specs.Laws.Codecs.{number-sound, sized-codec, table-codec, rows-sound}
 use Rattle.format.specs.Laws.Tables.{size-keep, kept-rows, rows-shorter as rows-kept-shorter}
 use Rattle.reading.specs.Cursors.{Inside, left}
+use Rattle.reading.specs.Standing.{Stands}
 use Rattle.reading.specs.declared.Cursor.{Cursor}
-use Rattle.reading.proofs.Laws.{reached}
 use Rattle.reading.proofs.PartSteps.{take-drop}
-use Rattle.reading.proofs.Same.{same-cursor}
 use Rattle.copying.specs.Bytes.{bareRows, rowsOf, groupOf, groupLength, oneIfSome, keptGroups, groupsOf}
-use Rattle.copying.specs.Standing.{Stands, Known}
 
-abbrev pub Passable : {A : Type 0} → Reader A → Type 1
-Passable read = (Holds : ℕ → List ℕ → Type 0) → ((o b : ℕ) (bs : List ℕ) → Holds o (b ∷ bs) → Holds (suc o) bs) → Passes Holds read
-
-pub table-passable : {A : Type 0} {read : Reader A} → Passable read → Passable (table read)
-table-passable {read = read} p H step = table-passes H step read (p H step)
-
-module _ {A : Type 0} {read : Reader A} {s : List ℕ} {c : Cursor} where
-  -- what is read from inside stands there
-  pub stand : Passable read → Inside s c → {v : A} {o : ℕ} {rest : List ℕ} → read (c .at) (left s c) ≡ got v o rest → Stands read s c v (record { at = o; end = c .end })
-  stand passes i e =
-      let r = reached passes i e in
-      record { inside = i; reads = rw (r .left-there) at e; behind = record { ahead = r .inside; within = i .within }; same-end = refl }
-
-  -- and there only one value can stand
-  module _ {v v′ : A} {next next′ : Cursor} where
-    pub one-value : Stands read s c v next → Stands read s c v′ next′ → v ≡ v′
-    one-value a b = got-value (sym (a .reads) ∙ b .reads)
-
-    pub one-end : Stands read s c v next → Stands read s c v′ next′ → next ≡ next′
-    one-end a b = same-cursor next next′ (got-next (sym (a .reads) ∙ b .reads)) (a .same-end ∙ sym (b .same-end))
-
--- A row, and the rows behind it
-pub record After {A : Type 0} (read : Reader A) (n k : ℕ) (v : A) (t : Table A) (s : List ℕ) (next last : Cursor) : Type 0 where
-  pub more : Table A
-  pub stands : Stands (rows read n (suc k)) s next more last
-  pub is : row k v more ≡ t
-
-module _ {A : Type 0} (read : Reader A) (n least : ℕ) {t : Table A} {s : List ℕ} {c last : Cursor} (w : Stands (rows read (suc n) least) s c t last) where
-  pub known-index : Known number s c
-  known-index =
-      inRow read n least (c .at) (left s c) (w .reads) λ k o₁ r₁ v o₂ r₂ more e₁ above e₂ e₃ is.
-      record { value = _; next = _; stands = stand number-passes (w .inside) e₁ }
-
-  module _ {k : ℕ} {d : Cursor} (index : Stands number s c k d) where
-    pub known-value : Passable read → Known read s d
-    known-value passes =
-        inRow read n least (c .at) (left s c) (w .reads) λ k′ o₁ r₁ v o₂ r₂ more e₁ above e₂ e₃ is.
-        let same = sym e₁ ∙ index .reads in
-        let here : read (d .at) (left s d) ≡ got v o₂ r₂ = rw (got-next same, got-rest same) at e₂ in
-        record { value = _; next = _; stands = stand passes (index .behind) here }
-
-    pub rows-after : {v : A} {next : Cursor} → Stands read s d v next → After read n k v t s next last
-    rows-after {v} {next} value =
-        inRow read n least (c .at) (left s c) (w .reads) λ k′ o₁ r₁ v′ o₂ r₂ more e₁ above e₂ e₃ is.
-        let same = sym e₁ ∙ index .reads in
-        let here : read (d .at) (left s d) ≡ got v′ o₂ r₂ = rw (got-next same, got-rest same) at e₂ in
-        let same′ = sym here ∙ value .reads in
-        record {
-          more = more;
-          stands = record {
-            inside = value .behind;
-            reads = rw (got-value same, got-next same′, got-rest same′) at e₃;
-            behind = w .behind;
-            same-end = w .same-end ∙ sym (index .same-end) ∙ sym (value .same-end);
-          };
-          is = rw (got-value same, got-value same′) at is;
-        }
-
-module _ {A : Type 0} (read : Reader A) (least : ℕ) {t : Table A} {s : List ℕ} {c last : Cursor} (w : Stands (rows read 0 least) s c t last) where
-  pub no-rows : t ≡ nil
-  unfolding rows
-  no-rows = sym (got-value (w .reads))
-
-  pub no-way : c ≡ last
-  unfolding rows
-  no-way = same-cursor c last (got-next (w .reads)) (sym (w .same-end))
-
--- A table: its count, and its rows
-module _ {A : Type 0} (read : Reader A) {t : Table A} {s : List ℕ} {c last : Cursor} where
-  pub known-count : Stands (table read) s c t last → Known number s c
-  known-count w = inTable read (c .at) (left s c) (w .reads) λ n o₁ r₁ e₁ e₂. record { value = _; next = _; stands = stand number-passes (w .inside) e₁ }
-
-  module _ {n : ℕ} {d : Cursor} (count : Stands number s c n d) where
-    pub table-rows : Stands (table read) s c t last → Stands (rows read n 0) s d t last
-    table-rows w =
-        inTable read (c .at) (left s c) (w .reads) λ n′ o₁ r₁ e₁ e₂.
-        let same = sym e₁ ∙ count .reads in
-        record {
-          inside = count .behind;
-          reads = rw (got-value same, got-next same, got-rest same) at e₂;
-          behind = w .behind;
-          same-end = w .same-end ∙ sym (count .same-end);
-        }
-
-    pub rows-table : Stands (rows read n 0) s d t last → Stands (table read) s c t last
-    unfolding table
-    rows-table w = record { inside = count .inside; reads = rw (count .reads) (w .reads); behind = w .behind; same-end = w .same-end ∙ count .same-end }
-
--- What is written of them, row by row
+-- Rows
 pub rows-row : (k : ℕ) (p : Part) (t : Table Part) → rowsOf (row k p t) ≡ shortest k ++ (writePart (p .bytes) ++ rowsOf t)
 unfolding rowsOf writeRows mapTable
 rows-row k p t = refl

@@ -6,6 +6,7 @@ use native.Mathlib.Nat.{zero-add}
 use native.Mathlib.Omega.{arith}
 use borrow.Author.Needs.{needs}
 use borrow.Author.Tests.{eq-eqb, ne-eqb}
+use denote.Enum.Declared.{tagOf}
 use lib.Dec.{ltb}
 use lib.ListN.{length, length-append}
 use lib.Seq.{length-slice}
@@ -14,15 +15,25 @@ use Rattle.format.specs.Parts.{Part, sized}
 use Rattle.format.specs.Tables.{Table, size, rows, table}
 use Rattle.format.specs.Canonical.{writePart}
 use Rattle.format.specs.Laws.Outcomes.{byTest}
-use Rattle.format.specs.Laws.Passing.{sized-passes}
 use Rattle.reading.specs.Cursors.{Inside, left, partOf}
+use Rattle.reading.specs.Standing.{Stands, Known, TakesPart}
 use Rattle.reading.specs.declared.Cursor.{Cursor}
+use Rattle.reading.specs.declared.again.Piece.{Piece}
+use Rattle.tables.specs.Stepping.{behindAt, RowSteps, GroupSteps}
+use Rattle.tables.specs.declared.stepping.Rows.{Rows}
+use Rattle.tables.specs.declared.stepping.RowStep.{RowStep}
+use Rattle.tables.specs.declared.stepping.RowStep.the-variants.{Row}
+use Rattle.tables.specs.declared.stepping.GroupStep.{GroupStep}
+use Rattle.tables.specs.declared.stepping.GroupStep.the-variants.{Group}
+use Rattle.tables.proofs.stepping.RowStep as row-type
+use Rattle.tables.proofs.stepping.GroupStep as group-type
+use Rattle.tables.proofs.Accepted.{rows-table}
+use Rattle.tables.proofs.Along.{Along, setting-out, still-known, ended, onward}
+use Rattle.tables.proofs.StepLaws.{no-row, a-row, row-left, row-fewer, no-group, a-group, group-left, group-fewer, group-count-known, group-rows-known, group-passed}
 use Rattle.copying.specs.Bytes.{bareRows, rowsOf, groupLength, oneIfSome, keptGroups, groupsOf}
-use Rattle.copying.specs.Standing.{Stands, Known, TakesPart, Measures, MeasuresGroups}
-use Rattle.copying.specs.declared.Piece.{Piece}
+use Rattle.copying.specs.Standing.{Measures, MeasuresGroups}
 use Rattle.copying.specs.declared.Measured.{Measured}
-use Rattle.copying.proofs.Laws.{table-passable, known-count, table-rows, rows-table, rows-row, rows-nil, part-length, number-shorter, part-fits, rows-shorter, rows-count, groups-nil, none-kept, groups-row, kept-row, group-is, groups-count, groups-shorter}
-use Rattle.copying.proofs.Along.{Along, setting-out, ended, index-known, value-known, onward}
+use Rattle.copying.proofs.Laws.{rows-row, rows-nil, part-length, number-shorter, part-fits, rows-shorter, rows-count, groups-nil, none-kept, groups-row, kept-row, group-is, groups-count, groups-shorter}
 
 -- a part with its size before it
 pub sized-is : {s : List ℕ} {part : Cursor} → Inside s part → length (writePart (left s part)) ≡ length (shortest (part .end - part .at)) + (part .end - part .at)
@@ -47,40 +58,35 @@ unfolding shortest
 shortest-short v = fewest-short 4 v
 
 -- Rows
-pub record Counting (n : ℕ) (s : List ℕ) (c next : Cursor) (more total : ℕ) : Type 0 where
-  pub along : Along sized n s c next more
+pub record Counting (s : List ℕ) (begun left : Rows) (total : ℕ) : Type 0 where
+  pub along : Along sized s begun left
   pub so-far : total + length (rowsOf (along .to-come)) ≡ length (rowsOf (along .all))
-  pub small : c .end < 2 ^ 64
+  pub small : begun .next .end < 2 ^ 64
 
-pub counting-none : (n : ℕ) {s : List ℕ} {c : Cursor} → Known (rows sized n 0) s c → c .end < 2 ^ 64 → Counting n s c c n 0
-counting-none n k h = record { along = setting-out (k .stands); so-far = zero-add (length (rowsOf (k .value))); small = h }
+pub counting-none : {s : List ℕ} (begun : Rows) → Known (rows sized (begun .more) 0) s (begun .next) → begun .next .end < 2 ^ 64 → Counting s begun begun 0
+counting-none begun k h = record { along = setting-out (k .stands); so-far = zero-add (length (rowsOf (k .value))); small = h }
 
-module _ {n : ℕ} {s : List ℕ} {c next : Cursor} {more total : ℕ} (t : Counting n s c next more total) where
-  pub counting-all : more ≤ 0 → Measures (rows sized n 0) rowsOf s c (record { length = total; next = next })
-  counting-all h =
-      let end = ended more (t .along) h in
-      let nothing : length (rowsOf (t .along .to-come)) ≡ 0 = rw (end .nothing, rows-nil) in
-      record { value = t .along .all; stands = end .stands; long = omega (arith, nothing, t .so-far) }
+module _ {s : List ℕ} {begun left : Rows} {total : ℕ} (t : Counting s begun left total) where
+  pub counting-known : Known (rows sized (left .more) 0) s (left .next)
+  counting-known = still-known (t .along)
 
-  pub counting-index : 0 < more → Known number s next
-  counting-index h = index-known more (t .along) h
-
-  module _ {k : ℕ} {d : Cursor} (h : 0 < more) (i : Stands number s next k d) where
-    pub counting-value : Known sized s d
-    counting-value = value-known sized-passes more (t .along) h i
-
-    module _ {r : Piece} {a b : ℕ} (p : TakesPart s d r) (key : a ≡ length (shortest k)) (text : b ≡ length (shortest (r .part .end - r .part .at)) + (r .part .end - r .part .at)) where
-      pub counting-more : Counting n s c (r .next) (more - 1) (total + a + b)
-      counting-more =
-          let o = onward more (t .along) h i (p .stands) in
-          let row-length : length (rowsOf (t .along .to-come)) ≡ a + (b + length (rowsOf (o .along .to-come))) = ap length (ap rowsOf (o .split) ∙ rows-row k (partOf s (r .part)) (o .along .to-come)) ∙ simp length-append (rw (← sized-is (p .in-part) ∙ sym text, key)) in
+  module _ {x : RowStep} (r : RowSteps s left x) where
+    module _ {k : ℕ} {part next : Cursor} {a b : ℕ} (e : x ≡ Row k part next) (key : a ≡ length (shortest k)) (text : b ≡ length (shortest (part .end - part .at)) + (part .end - part .at)) where
+      counting-on : Counting s begun (behindAt left next) (total + a + b)
+      counting-on =
+          let p = a-row r e in
+          let o = onward (t .along) (p .splits) in
+          let row-length : length (rowsOf (t .along .to-come)) ≡ a + (b + length (rowsOf (o .along .to-come))) = ap length (ap rowsOf (o .split) ∙ rows-row k (partOf s part) (o .along .to-come)) ∙ simp length-append (rw (← sized-is (p .in-part) ∙ sym text, key)) in
           record { along = o .along; so-far = rw (o .same-all) (omega (arith, row-length, t .so-far)); small = t .small }
 
-      counting-within : total + a + b ≤ c .end
+      pub counting-more : {after : Rows} → after ≡ behindAt left next → Counting s begun after (total + a + b)
+      counting-more is = rw is counting-on
+
+      counting-within : total + a + b ≤ begun .next .end
       counting-within =
-          let u = counting-more in
+          let u = counting-on in
           let w = u .along .whole in
-          omega (arith, u .so-far, rows-shorter n 0 w, w .behind .ahead, w .same-end)
+          omega (arith, u .so-far, rows-shorter (begun .more) 0 w, w .behind .ahead, w .same-end)
 
       pub counting-fits : total + a + b < 2 ^ 64
       counting-fits = omega (arith, counting-within, t .small)
@@ -88,7 +94,21 @@ module _ {n : ℕ} {s : List ℕ} {c next : Cursor} {more total : ℕ} (t : Coun
       pub counting-key-fits : total + a < 2 ^ 64
       counting-key-fits = omega (arith, counting-within, t .small)
 
-pub ruleset counting = (counting-none, counting-all, counting-index, counting-value, counting-more, counting-fits, counting-key-fits, size-fits, size-ordered, needs)
+pub counting-all : {n : ℕ} {s : List ℕ} {c : Cursor} {left : Rows} {total : ℕ} {x : RowStep} → Counting s (record { next = c; more = n }) left total → RowSteps s left x → tagOf row-type.the-type x ≡ 0 → Measures (rows sized n 0) rowsOf s c (record { length = total; next = left .next })
+counting-all {x = x} t r h =
+    let end = ended (t .along) (no-row x r h) in
+    let nothing : length (rowsOf (t .along .to-come)) ≡ 0 = rw (end .nothing, rows-nil) in
+    record { value = t .along .all; stands = end .stands; long = omega (arith, nothing, t .so-far) }
+
+-- a row's part
+module _ {s : List ℕ} {left : Rows} {x : RowStep} {k : ℕ} {part next : Cursor} (r : RowSteps s left x) (e : x ≡ Row k part next) where
+  pub part-small : part .end - part .at < limit32
+  part-small = let p = a-row r e in omega (arith, part-fits (p .splits .value), part-length (p .in-part))
+
+  pub part-ordered : part .at ≤ part .end
+  part-ordered = a-row r e .in-part .ahead
+
+pub ruleset counting = (counting-none, counting-known, counting-all, counting-more, counting-fits, counting-key-fits, part-small, part-ordered, row-left, row-fewer, needs)
 
 -- One group
 module _ (index count rows : ℕ) where
@@ -117,46 +137,32 @@ some-count {count} e = rw (ne-eqb count 0 e)
 pub ruleset one-group = (group-left-out, group-stays, group-sum-fits, group-key-fits, none-counts, some-count, needs)
 
 -- Groups
-pub record CountingGroups (n : ℕ) (s : List ℕ) (c next : Cursor) (more kept total : ℕ) : Type 0 where
-  pub along : Along (table sized) n s c next more
+pub record CountingGroups (s : List ℕ) (begun left : Rows) (kept total : ℕ) : Type 0 where
+  pub along : Along (table sized) s begun left
   pub so-far : total + length (groupsOf (along .to-come)) ≡ length (groupsOf (along .all))
   pub many : kept + size (keptGroups (along .to-come)) ≡ size (keptGroups (along .all))
-  pub small : c .end < 2 ^ 64
-  pub few : n < 2 ^ 32
+  pub small : begun .next .end < 2 ^ 64
+  pub few : begun .more < 2 ^ 32
 
-pub groups-none : (n : ℕ) {s : List ℕ} {c : Cursor} → Known (rows (table sized) n 0) s c → c .end < 2 ^ 64 → n < 2 ^ 32 → CountingGroups n s c c n 0 0
-groups-none n k h f = record { along = setting-out (k .stands); so-far = zero-add (length (groupsOf (k .value))); many = zero-add (size (keptGroups (k .value))); small = h; few = f }
+pub groups-none : {s : List ℕ} (begun : Rows) → Known (rows (table sized) (begun .more) 0) s (begun .next) → begun .next .end < 2 ^ 64 → begun .more < 2 ^ 32 → CountingGroups s begun begun 0 0
+groups-none begun k h f = record { along = setting-out (k .stands); so-far = zero-add (length (groupsOf (k .value))); many = zero-add (size (keptGroups (k .value))); small = h; few = f }
 
-module _ {n : ℕ} {s : List ℕ} {c next : Cursor} {more kept total : ℕ} (t : CountingGroups n s c next more kept total) where
-  pub groups-all : more ≤ 0 → MeasuresGroups n s c (record { kept = kept; length = total; next = next })
-  groups-all h =
-      let end = ended more (t .along) h in
-      let nothing : length (groupsOf (t .along .to-come)) ≡ 0 = rw (end .nothing, groups-nil) in
-      let none : size (keptGroups (t .along .to-come)) ≡ 0 = rw (end .nothing) none-kept in
-      record { value = t .along .all; stands = end .stands; many = omega (arith, none, t .many); long = omega (arith, nothing, t .so-far) }
+module _ {s : List ℕ} {begun left : Rows} {kept total : ℕ} (t : CountingGroups s begun left kept total) where
+  pub groups-known : Known (rows (table sized) (left .more) 0) s (left .next)
+  groups-known = still-known (t .along)
 
-  pub groups-index : 0 < more → Known number s next
-  groups-index h = index-known more (t .along) h
-
-  module _ {k : ℕ} {d : Cursor} (h : 0 < more) (i : Stands number s next k d) where
-    group-known : Known (table sized) s d
-    group-known = value-known (table-passable sized-passes) more (t .along) h i
-
-    pub groups-count-known : Known number s d
-    groups-count-known = known-count sized (group-known .stands)
-
-    module _ {m : ℕ} {e : Cursor} (j : Stands number s d m e) where
-      pub groups-rows-known : Known (rows sized m 0) s e
-      groups-rows-known = let g = group-known in record { value = g .value; next = g .next; stands = table-rows sized j (g .stands) }
-
+  module _ {x : GroupStep} (steps : GroupSteps s left x) {k : ℕ} {place : Cursor} (is : x ≡ Group k place) where
+    module _ {m : ℕ} {e : Cursor} (j : Stands number s place m e) where
       module _ {r : Measured} (w : Measures (rows sized m 0) rowsOf s e r) where
         pub group-sum : length (shortest k) + length (shortest m) + r .length < 2 ^ 64
-        group-sum = omega (arith, number-shorter i, number-shorter j, rows-shorter m 0 (w .stands), w .long, w .stands .behind .ahead, w .stands .same-end, j .same-end, i .same-end, t .along .rest .same-end, t .along .whole .same-end, t .small)
+        group-sum =
+            let i = a-group steps is .splits .index in
+            omega (arith, number-shorter i, number-shorter j, rows-shorter m 0 (w .stands), w .long, w .stands .behind .ahead, w .stands .same-end, j .same-end, i .same-end, t .along .rest .same-end, t .along .whole .same-end, t .small)
 
         module _ {g u : ℕ} (long : g ≡ groupLength k m (r .length)) (one : u ≡ oneIfSome m) where
-          pub groups-more : CountingGroups n s c (r .next) (more - 1) (kept + u) (total + g)
-          groups-more =
-              let o = onward more (t .along) h i (rows-table sized j (w .stands)) in
+          groups-on : CountingGroups s begun (behindAt left (r .next)) (kept + u) (total + g)
+          groups-on =
+              let o = onward (t .along) (group-passed steps is (rows-table sized j (w .stands))) in
               let count : size (bareRows (w .value)) ≡ m = rows-count m 0 (w .stands) in
               let bytes : length (groupsOf (t .along .to-come)) ≡ g + length (groupsOf (o .along .to-come)) = ap length (ap groupsOf (o .split) ∙ groups-row k (w .value) (o .along .to-come)) ∙ simp length-append (rw (group-is k (w .value), count, ← w .long, long)) in
               let counted : size (keptGroups (t .along .to-come)) ≡ u + size (keptGroups (o .along .to-come)) = ap (λ (x : Table (Table Part)). size (keptGroups x)) (o .split) ∙ kept-row k (w .value) (o .along .to-come) ∙ rw (count, one) in
@@ -168,15 +174,25 @@ module _ {n : ℕ} {s : List ℕ} {c next : Cursor} {more kept total : ℕ} (t :
                 few = t .few;
               }
 
+          pub groups-more : {after : Rows} → after ≡ behindAt left (r .next) → CountingGroups s begun after (kept + u) (total + g)
+          groups-more e = rw e groups-on
+
           pub groups-fit : total + g < 2 ^ 64
           groups-fit =
-              let a = groups-more in
+              let a = groups-on in
               let z = a .along .whole in
-              omega (arith, a .so-far, groups-shorter n 0 z, z .behind .ahead, z .same-end, t .small)
+              omega (arith, a .so-far, groups-shorter (begun .more) 0 z, z .behind .ahead, z .same-end, t .small)
 
           pub groups-few : kept + u < 2 ^ 32
           groups-few =
-              let a = groups-more in
-              omega (arith, a .many, groups-count n 0 (a .along .whole), t .few)
+              let a = groups-on in
+              omega (arith, a .many, groups-count (begun .more) 0 (a .along .whole), t .few)
 
-pub ruleset counting-groups = (groups-none, groups-all, groups-index, groups-count-known, groups-rows-known, group-sum, groups-more, groups-fit, groups-few, needs)
+pub groups-all : {n : ℕ} {s : List ℕ} {c : Cursor} {left : Rows} {kept total : ℕ} {x : GroupStep} → CountingGroups s (record { next = c; more = n }) left kept total → GroupSteps s left x → tagOf group-type.the-type x ≡ 0 → MeasuresGroups n s c (record { kept = kept; length = total; next = left .next })
+groups-all {x = x} t r h =
+    let end = ended (t .along) (no-group x r h) in
+    let nothing : length (groupsOf (t .along .to-come)) ≡ 0 = rw (end .nothing, groups-nil) in
+    let none : size (keptGroups (t .along .to-come)) ≡ 0 = rw (end .nothing) none-kept in
+    record { value = t .along .all; stands = end .stands; many = omega (arith, none, t .many); long = omega (arith, nothing, t .so-far) }
+
+pub ruleset counting-groups = (groups-none, groups-known, groups-all, group-count-known, group-rows-known, group-sum, groups-more, groups-fit, groups-few, group-left, group-fewer, needs)

@@ -4,29 +4,16 @@ use mathlib.Core.List.{List}
 use mathlib.Core.Path.{_≡_, sym, ap, _∙_}
 use lib.ListN.{length}
 use Rattle.format.specs.Reading.{Reader}
-use Rattle.format.specs.Numbers.{number}
 use Rattle.format.specs.Parts.{Part}
 use Rattle.format.specs.Tables.{Table, size}
 use Rattle.reading.specs.declared.Cursor.{Cursor}
-use Rattle.reading.proofs.Same.{same-part}
+use Rattle.reading.proofs.Standing.{one-value, one-end}
 use Rattle.writing.proofs.Laws.{wrote-same}
 use Rattle.copying.specs.Bytes.{keptGroups, groupsOf}
-use Rattle.copying.specs.Standing.{Stands, TakesPart, Measures, MeasuresGroups, Puts}
-use Rattle.copying.specs.declared.Number.{Number}
-use Rattle.copying.specs.declared.Piece.{Piece}
+use Rattle.copying.specs.Standing.{Measures, MeasuresGroups, Puts}
 use Rattle.copying.specs.declared.Measured.{Measured}
 use Rattle.copying.specs.declared.Groups.{Groups}
 use Rattle.copying.specs.declared.Put.{Put}
-use Rattle.copying.proofs.Laws.{one-value, one-end}
-
-pub number-here-same : {s : List ℕ} {c : Cursor} (r r′ : Number) → Stands number s c (r .value) (r .next) → Stands number s c (r′ .value) (r′ .next) → r ≡ r′
-number-here-same r r′ p q = let value = one-value p q in let next = one-end p q in λ i. record { value = value i; next = next i }
-
-pub part-here-same : {s : List ℕ} {c : Cursor} (r r′ : Piece) → TakesPart s c r → TakesPart s c r′ → r ≡ r′
-part-here-same r r′ p q =
-    let part = same-part (r .part) (r′ .part) (p .in-part) (q .in-part) (one-value (p .stands) (q .stands)) in
-    let next = one-end (p .stands) (q .stands) in
-    λ i. record { part = part i; next = next i }
 
 module _ {A : Type 0} (read : Reader A) (write : A → List ℕ) {s : List ℕ} {c : Cursor} where
   pub measured-same : (r r′ : Measured) → Measures read write s c r → Measures read write s c r′ → r ≡ r′

@@ -1,33 +1,21 @@
--- What stands at a cursor and was accepted before, how long it is in its fewest bytes, and what a write leaves of it. Assumes nothing.
+-- How long what stands at a cursor is in its fewest bytes, and what a write leaves of it. Assumes nothing.
 use Prim.Native.Nat.{ℕ, _+_, _≤_, _<_}
 use mathlib.Core.List.{List}
 use mathlib.Core.Path.{_≡_}
 use lib.ListN.{length}
-use Rattle.format.specs.Reading.{got, Reader}
+use Rattle.format.specs.Reading.{Reader}
 use Rattle.format.specs.Numbers.{limit32}
 use Rattle.format.specs.Parts.{Part, sized}
 use Rattle.format.specs.Tables.{Table, size, rows, table}
 use Rattle.format.specs.Canonical.{writePart}
-use Rattle.reading.specs.Cursors.{Inside, left, partOf}
+use Rattle.reading.specs.Cursors.{Inside, left}
+use Rattle.reading.specs.Standing.{Stands}
 use Rattle.reading.specs.declared.Cursor.{Cursor}
 use Rattle.writing.specs.Wrote.{Wrote}
 use Rattle.copying.specs.Bytes.{keptGroups, groupsOf}
-use Rattle.copying.specs.declared.Piece.{Piece}
 use Rattle.copying.specs.declared.Measured.{Measured}
 use Rattle.copying.specs.declared.Groups.{Groups}
 use Rattle.copying.specs.declared.Put.{Put}
-
--- the value that is read there, and the cursor behind it
-pub record Stands {A : Type 0} (read : Reader A) (s : List ℕ) (c : Cursor) (v : A) (next : Cursor) : Type 0 where
-  pub inside : Inside s c
-  pub reads : read (c .at) (left s c) ≡ got v (next .at) (left s next)
-  pub behind : Inside s next
-  pub same-end : next .end ≡ c .end
-
-pub record Known {A : Type 0} (read : Reader A) (s : List ℕ) (c : Cursor) : Type 0 where
-  pub value : A
-  pub next : Cursor
-  pub stands : Stands read s c value next
 
 pub record Measures {A : Type 0} (read : Reader A) (write : A → List ℕ) (s : List ℕ) (c : Cursor) (r : Measured) : Type 0 where
   pub value : A
@@ -45,10 +33,6 @@ pub record Puts {A : Type 0} (read : Reader A) (write : A → List ℕ) (s : Lis
   pub value : A
   pub stands : Stands read s c value (r .next)
   pub wrote : Wrote old new at (r .at) (write value)
-
-pub record TakesPart (s : List ℕ) (c : Cursor) (r : Piece) : Type 0 where
-  pub stands : Stands sized s c (partOf s (r .part)) (r .next)
-  pub in-part : Inside s (r .part)
 
 -- a part has room behind `at`, with its size before it
 pub record FitsPart (s : List ℕ) (part : Cursor) (out : List ℕ) (at : ℕ) : Type 0 where

@@ -3,30 +3,25 @@ ghost use Prim.Native.Nat.{_+_, _^_, _<_};
 ghost use mathlib.Core.Path.{_≡_};
 ghost use lib.ListN.{length};
 ghost use Rattle.format.specs.Canonical.{writePart};
-ghost use Rattle.format.specs.Numbers.{number, shortest, limit32};
+ghost use Rattle.format.specs.Numbers.{shortest, limit32};
 ghost use Rattle.format.specs.Parts.{sized};
 ghost use Rattle.format.specs.Tables.{rows, table};
-ghost use Rattle.copying.specs.Standing.{Stands, Known, TakesPart, Measures, MeasuresGroups, FitsPart, Fits, Puts};
+ghost use Rattle.copying.specs.Standing.{Measures, MeasuresGroups, FitsPart, Fits, Puts};
 ghost use Rattle.copying.specs.Bytes.{rowsOf, groupOf, groupLength, oneIfSome, groupsOf};
 ghost use Rattle.reading.specs.Cursors.{left};
+ghost use Rattle.reading.specs.Standing.{Known};
 ghost use Rattle.writing.specs.Wrote.{Wrote};
 use reading::Cursor;
-use reading::wide;
+use tables::stepping::GroupStep;
+use tables::stepping::RowStep;
+use tables::stepping::Rows;
+use tables::stepping::behind;
+use tables::stepping::group_step;
+use tables::stepping::row_step;
+use tables::stepping::rows_here;
 use writing::number_length;
 use writing::put_bytes;
 use writing::put_number;
-
-// A number that was read, and the cursor behind it.
-pub struct Number {
-    pub value: u32,
-    pub next: Cursor,
-}
-
-// A sized part that was read, and the cursor behind it.
-pub struct Piece {
-    pub part: Cursor,
-    pub next: Cursor,
-}
 
 // How long something is in its fewest bytes, and the cursor behind it.
 pub struct Measured {
@@ -47,48 +42,6 @@ pub struct Put {
     pub next: Cursor,
 }
 
-// A byte of a number holds seven bits; one from here on says that another follows.
-const FOLLOWED: u32 = 128;
-
-// The number that stands here. It was accepted, so it ends where its part does at the latest, and nothing is tested.
-pub fn number_here(c: Cursor, s: &[u8]) -> Number
-    requires { ⌜ Known number (now s) c ⌝ }
-    ensures { λ r. ⌜ Stands number (now (s .entry)) c (r .value) (r .next) ⌝ }
-{
-    let end = c.end;
-    let mut value: u32 = 0;
-    let mut weight: u32 = 1;
-    let mut i = c.at;
-    let mut b = wide(s[i]);
-    while FOLLOWED <= b {
-        value = value + weight * (b % FOLLOWED);
-        weight = weight * FOLLOWED;
-        i = i + 1;
-        b = wide(s[i]);
-    }
-    let value = value + weight * b;
-    let next = Cursor { at: i + 1, end };
-    Number { value, next }
-}
-
-// The sized part that stands here, likewise.
-pub fn part_here(c: Cursor, s: &[u8]) -> Piece
-    requires { ⌜ Known sized (now s) c ⌝ }
-    ensures { λ r. ⌜ TakesPart (now (s .entry)) c r ⌝ }
-{
-    let size = number_here(c, s);
-    let length = size.value;
-    let text = size.next;
-    let at = text.at;
-    let behind = at + length as usize;
-    let part = Cursor { at, end: behind };
-    let next = Cursor {
-        at: behind,
-        end: text.end,
-    };
-    Piece { part, next }
-}
-
 // How long a part is with its size before it.
 pub fn sized_length(size: usize) -> usize
     requires { ⌜ size < limit32 ⌝ }
@@ -102,20 +55,22 @@ pub fn rows_length(c: Cursor, s: &[u8], n: u32) -> Measured
     requires { ⌜ Known (rows sized n 0) (now s) c ⌝ }
     ensures { λ r. ⌜ Measures (rows sized n 0) rowsOf (now (s .entry)) c r ⌝ }
 {
-    let mut next = c;
-    let mut more = n;
+    let mut left = Rows { next: c, more: n };
     let mut length = 0;
-    while 0 < more {
-        let index = number_here(next, s);
-        let value = part_here(index.next, s);
-        let part = value.part;
-        let key = number_length(index.value);
-        let text = sized_length(part.end - part.at);
-        length = length + key + text;
-        next = value.next;
-        more = more - 1;
+    loop {
+        match row_step(left, s) {
+            RowStep::End => {
+                let next = left.next;
+                return Measured { length, next };
+            }
+            RowStep::Row(index, part, next) => {
+                let key = number_length(index);
+                let text = sized_length(part.end - part.at);
+                length = length + key + text;
+                left = behind(left, next);
+            }
+        }
     }
-    Measured { length, next }
 }
 
 // How long a group is with its index and its count before it. Without entries it is left out.
@@ -146,22 +101,27 @@ pub fn groups_length(c: Cursor, s: &[u8], n: u32) -> Groups
     requires { ⌜ Known (rows (table sized) n 0) (now s) c ⌝ }
     ensures { λ r. ⌜ MeasuresGroups n (now (s .entry)) c r ⌝ }
 {
-    let mut next = c;
-    let mut more = n;
+    let mut left = Rows { next: c, more: n };
     let mut kept: u32 = 0;
     let mut length = 0;
-    while 0 < more {
-        let index = number_here(next, s);
-        let count = number_here(index.next, s);
-        let rows = rows_length(count.next, s, count.value);
-        let group = group_length(index.value, count.value, rows.length);
-        let one = one_if_some(count.value);
-        length = length + group;
-        kept = kept + one;
-        next = rows.next;
-        more = more - 1;
+    loop {
+        match group_step(left, s) {
+            GroupStep::End => {
+                let next = left.next;
+                return Groups { kept, length, next };
+            }
+            GroupStep::Group(index, place) => {
+                let entries = rows_here(place, s);
+                let count = entries.more;
+                let rows = rows_length(entries.next, s, count);
+                let group = group_length(index, count, rows.length);
+                let one = one_if_some(count);
+                length = length + group;
+                kept = kept + one;
+                left = behind(left, rows.next);
+            }
+        }
     }
-    Groups { kept, length, next }
 }
 
 // A part with its size before it.
@@ -181,19 +141,21 @@ pub fn put_rows(out: &mut [u8], at: usize, c: Cursor, s: &[u8], n: u32) -> Put
     requires { ⌜ Fits (rows sized n 0) rowsOf (now s) c (now out) at ⌝ }
     ensures { λ r. ⌜ Puts (rows sized n 0) rowsOf (now (s .entry)) c (now (out .entry)) (now (out .exit)) at r ⌝ }
 {
-    let mut next = c;
-    let mut more = n;
-    let mut place = at;
-    while 0 < more {
-        let index = number_here(next, s);
-        let value = part_here(index.next, s);
-        let part = value.part;
-        let behind = put_number(out, place, index.value);
-        place = put_part(out, behind, part, s);
-        next = value.next;
-        more = more - 1;
+    let mut left = Rows { next: c, more: n };
+    let mut to = at;
+    loop {
+        match row_step(left, s) {
+            RowStep::End => {
+                let next = left.next;
+                return Put { at: to, next };
+            }
+            RowStep::Row(index, part, next) => {
+                let text = put_number(out, to, index);
+                to = put_part(out, text, part, s);
+                left = behind(left, next);
+            }
+        }
     }
-    Put { at: place, next }
 }
 
 // A group with its index and its count before it. Without entries it is left out.
@@ -214,16 +176,20 @@ pub fn put_groups(out: &mut [u8], at: usize, c: Cursor, s: &[u8], n: u32) -> Put
     requires { ⌜ Fits (rows (table sized) n 0) groupsOf (now s) c (now out) at ⌝ }
     ensures { λ r. ⌜ Puts (rows (table sized) n 0) groupsOf (now (s .entry)) c (now (out .entry)) (now (out .exit)) at r ⌝ }
 {
-    let mut next = c;
-    let mut more = n;
-    let mut place = at;
-    while 0 < more {
-        let index = number_here(next, s);
-        let count = number_here(index.next, s);
-        let group = put_group(out, place, index.value, count.next, s, count.value);
-        place = group.at;
-        next = group.next;
-        more = more - 1;
+    let mut left = Rows { next: c, more: n };
+    let mut to = at;
+    loop {
+        match group_step(left, s) {
+            GroupStep::End => {
+                let next = left.next;
+                return Put { at: to, next };
+            }
+            GroupStep::Group(index, place) => {
+                let entries = rows_here(place, s);
+                let group = put_group(out, to, index, entries.next, s, entries.more);
+                to = group.at;
+                left = behind(left, group.next);
+            }
+        }
     }
-    Put { at: place, next }
 }

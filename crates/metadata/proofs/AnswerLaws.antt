@@ -1,5 +1,5 @@
 -- What a judgement says: of the payload, of the data where it is asked, and of a hint.
-use Prim.Native.Nat.{ℕ, _-_, _≤_, _<_}
+use Prim.Native.Nat.{ℕ, _<_}
 use mathlib.Core.List.{List, [], _∷_}
 use mathlib.Core.Option.{some}
 use mathlib.Core.Path.{_≡_, refl, sym, ap, _∙_}
@@ -7,7 +7,7 @@ use native.Mathlib.Omega.{arith}
 use borrow.Author.Needs.{needs}
 use denote.Enum.Declared.{tagOf}
 use lib.ListN.{length, getD, take}
-use lib.Seq.{drop-cons, length-slice}
+use lib.Seq.{drop-cons}
 use Rattle.format.specs.Reading.{Reader, accepted, refused, verdict}
 use Rattle.format.specs.Refusals.{numberOf}
 use Rattle.format.specs.Parts.{Part}
@@ -17,84 +17,73 @@ use Rattle.format.specs.Laws.Outcomes.{mapped, refused-exactly}
 use Rattle.format.specs.Laws.Hints.{hint-is, found-hint}
 use Rattle.format.specs.Laws.Places.{lies-inside, lies-there, PartIn, hint-located}
 use Rattle.format.specs.Laws.Found.{item-lies}
-use Rattle.format.specs.declared.Answer.the-variants.{None, Found, Refused}
+use Rattle.format.specs.declared.Answer.{Answer}
+use Rattle.format.specs.declared.Answer.the-variants.{Refused}
 use Rattle.format.specs.declared.CodeOffset.{CodeOffset}
 use Rattle.format.specs.declared.FunctionIndex.{FunctionIndex}
 use Rattle.format.specs.declared.Hint.{Hint}
 use Rattle.format.specs.declared.Hint.the-variants.{Unlikely, Likely}
 use Rattle.format.specs.declared.HintAnswer.the-variants.{None as NoHint, Found as AHint, Refused as NotHinted}
-use Rattle.format.specs.declared.Reason.the-variants.{LeftOver}
 use Rattle.format.specs.declared.Refusal.{Refusal}
 use Rattle.reading.proofs.Laws.{lies-left}
 use Rattle.reading.specs.Cursors.{Inside, left, partOf}
 use Rattle.reading.specs.declared.Cursor.{Cursor}
 use Rattle.metadata.specs.Judgements.{judged}
 use Rattle.metadata.specs.declared.Judged.the-variants.{Accepted, Refused as NotAccepted}
+use Rattle.tables.specs.Finding.{heldInside, heldOrdered, answerOf}
 use Rattle.tables.specs.Steps.{heldOf}
-use Rattle.metadata.specs.Asking.{JudgesFor, refusalIn}
+use Rattle.tables.specs.declared.Wanted.{Wanted}
+use Rattle.tables.proofs.FindLaws.{held-ordered, held-means}
+use Rattle.metadata.specs.Asking.{asksTo, wantedOf, JudgesFor}
 use Rattle.tables.specs.declared.Held.{Held}
-use Rattle.tables.specs.declared.Held.the-variants.{Part as Data}
+use Rattle.tables.specs.declared.Held.the-variants.{Nothing, Part as Data}
 use Rattle.metadata.specs.declared.Judgement.{Judgement}
 use Rattle.metadata.specs.declared.Judgement.the-variants.{Accepted as Fine, Refused as NotFine}
-use Rattle.tables.proofs.Held as held-type
 use Rattle.metadata.proofs.Judgement as judgement-type
-use Rattle.metadata.proofs.Tags.{as-nothing, as-fine, as-not-fine}
+use Rattle.metadata.proofs.Tags.{as-fine}
 
--- the refusal of a judgement
-pub refusal-is : (j : Judgement) {r : Refusal} → j ≡ NotFine r → r ≡ refusalIn j
-refusal-is j e = rw e
+-- what a judgement says of the payload, whatever is wanted
+module _ {value : Reader Part} {function offset : Wanted} {s : List ℕ} {c : Cursor} {j : Judgement} (q : JudgesFor value function offset s c j) where
+  pub judge-refused : {r : Refusal} → j ≡ NotFine r → judged (NotAccepted r) ≡ verdict (judgeMetadata value (c .at) (left s c))
+  unfolding wantedOf
+  judge-refused e = sym (refused-exactly (λ _. tt) (judgeMetadata value (c .at) (left s c)) .1 (refused-exactly _ (judgeMetadata value (c .at) (left s c)) .0 (sym (rw e at (q .says)))))
 
-pub refusal-none : (j : Judgement) → tagOf judgement-type.the-type j ≡ 0 → record { reason = LeftOver; offset = record { 0 = 0 } } ≡ refusalIn j
-refusal-none (Fine held) h = refl
-refusal-none (NotFine r) h = absurd (omega arith)
+  judge-fine : {held : Held} → j ≡ Fine held → judged Accepted ≡ verdict (judgeMetadata value (c .at) (left s c))
+  unfolding wantedOf
+  judge-fine e = mapped _ (judgeMetadata value (c .at) (left s c)) (sym (rw e at (q .says))) λ t e₁ _. rw e₁
 
-pub ruleset refusals = (refusal-is, refusal-none, needs)
-
--- what a judgement says: of the payload, and of the place that is asked for
-module _ {value : Reader Part} {f : FunctionIndex} {at : CodeOffset} {s : List ℕ} {c : Cursor} (j : Judgement) (q : JudgesFor value f at s c j) where
-  refused-so : tagOf judgement-type.the-type j ≡ 1 → askMetadata value f at (c .at) (left s c) ≡ refused (numberOf (refusalIn j .reason)) (refusalIn j .offset .0)
-  refused-so h = sym (rw (as-not-fine j h) at (q .says))
-
-  pub judge-refused : {r : Refusal} → tagOf judgement-type.the-type j ≡ 1 → r ≡ refusalIn j → judged (NotAccepted r) ≡ verdict (judgeMetadata value (c .at) (left s c))
-  unfolding askMetadata
-  judge-refused h is = rw is (sym (refused-exactly (λ _. tt) (judgeMetadata value (c .at) (left s c)) .1 (refused-exactly (itemAt f at) (judgeMetadata value (c .at) (left s c)) .0 (refused-so h))))
-
-  pub judge-accepted : tagOf judgement-type.the-type j ≡ 0 → judged Accepted ≡ verdict (judgeMetadata value (c .at) (left s c))
-  unfolding askMetadata
-  judge-accepted h =
-      let (held, e) = as-fine j h in
-      let says : accepted (heldOf s held) ≡ askMetadata value f at (c .at) (left s c) = rw e at (q .says) in
-      mapped (itemAt f at) (judgeMetadata value (c .at) (left s c)) (sym says) λ t e₁ _. rw e₁
-
-  pub find-refused : {r : Refusal} → tagOf judgement-type.the-type j ≡ 1 → r ≡ refusalIn j → answered (Refused r) ≡ asPlace (askMetadata value f at (c .at) (left s c))
-  unfolding asPlace
-  find-refused h is = rw (is, refused-so h)
-
-  module _ {held : Held} (e : j ≡ Fine held) where
-    holds : askMetadata value f at (c .at) (left s c) ≡ accepted (heldOf s held)
-    holds = sym (rw e at (q .says))
-
-    pub find-none : tagOf held-type.the-type held ≡ 0 → answered None ≡ asPlace (askMetadata value f at (c .at) (left s c))
-    unfolding asPlace
-    find-none h = rw (holds, as-nothing held h)
-
-    module _ {data′ : Cursor} (is : held ≡ Data data′) where
-      data-there : askMetadata value f at (c .at) (left s c) ≡ accepted (some (partOf s data′))
-      data-there = rw is at holds
-
-      data-inside : Inside s data′
-      data-inside = rw (e, is) at (q .inside)
-
-      pub data-ahead : data′ .at ≤ data′ .end
-      data-ahead = data-inside .ahead
-
-      pub find-found : answered (Found (record { offset = record { 0 = data′ .at }; length = data′ .end - data′ .at })) ≡ asPlace (askMetadata value f at (c .at) (left s c))
-      unfolding asPlace
-      find-found = rw (data-there, length-slice (data′ .at) (data′ .end) s (data-inside .within))
+pub judge-accepted : {value : Reader Part} {function offset : Wanted} {s : List ℕ} {c : Cursor} (j : Judgement) → JudgesFor value function offset s c j → tagOf judgement-type.the-type j ≡ 0 → judged Accepted ≡ verdict (judgeMetadata value (c .at) (left s c))
+judge-accepted j q h = let (held, e) = as-fine j h in judge-fine q e
 
 pub ruleset judgements = (judge-refused, judge-accepted, needs)
 
-pub ruleset finds = (find-refused, find-none, data-ahead, find-found, needs)
+-- and of the place that is asked for
+module _ {value : Reader Part} {f : FunctionIndex} {at : CodeOffset} {s : List ℕ} {c : Cursor} {j : Judgement} (q : JudgesFor value (record { 0 = f .0 }) (record { 0 = at .0 }) s c j) where
+  asks : asksTo s j ≡ askMetadata value f at (c .at) (left s c)
+  unfolding wantedOf askMetadata itemAt
+  asks = q .says
+
+  refused-so : {r : Refusal} → j ≡ NotFine r → askMetadata value f at (c .at) (left s c) ≡ refused (numberOf (r .reason)) (r .offset .0)
+  refused-so e = sym (rw e at asks)
+
+  pub find-refused : {r : Refusal} → j ≡ NotFine r → answered (Refused r) ≡ asPlace (askMetadata value f at (c .at) (left s c))
+  unfolding asPlace
+  find-refused e = rw (refused-so e)
+
+  module _ {held : Held} (e : j ≡ Fine held) where
+    holds : askMetadata value f at (c .at) (left s c) ≡ accepted (heldOf s held)
+    holds = sym (rw e at asks)
+
+    held-there : heldInside s held
+    held-there = rw e at (q .inside)
+
+    pub find-ordered : heldOrdered held
+    find-ordered = held-ordered s held held-there
+
+    pub find-held : {y : Answer} → y ≡ answerOf held → answered y ≡ asPlace (askMetadata value f at (c .at) (left s c))
+    find-held is = rw (is, holds) (held-means s held held-there)
+
+pub ruleset finds = (find-refused, find-ordered, find-held, needs)
 
 one-byte : (h : Hint) → length (dataOf h) ≡ 1
 unfolding dataOf
@@ -124,15 +113,15 @@ unfolding askHint hintIn
 hint-told f at o bs {x} {h} e q = rw e (ap accepted (rw q (hint-is h)))
 
 -- a hint's judgement, and the data byte of a hint that was found
-module _ {f : FunctionIndex} {at : CodeOffset} {s : List ℕ} {c : Cursor} (i : Inside s c) (j : Judgement) (q : JudgesFor hintItem f at s c j) where
-  pub hint-refused : {r : Refusal} → tagOf judgement-type.the-type j ≡ 1 → r ≡ refusalIn j → hintAnswered (NotHinted r) ≡ askHint f at (c .at) (left s c)
+module _ {f : FunctionIndex} {at : CodeOffset} {s : List ℕ} {c : Cursor} {j : Judgement} (i : Inside s c) (q : JudgesFor hintItem (record { 0 = f .0 }) (record { 0 = at .0 }) s c j) where
+  pub hint-refused : {r : Refusal} → j ≡ NotFine r → hintAnswered (NotHinted r) ≡ askHint f at (c .at) (left s c)
   unfolding askHint
-  hint-refused h is = rw is (sym (refused-exactly hintIn (askMetadata hintItem f at (c .at) (left s c)) .1 (refused-so j q h)))
+  hint-refused e = sym (refused-exactly hintIn (askMetadata hintItem f at (c .at) (left s c)) .1 (refused-so q e))
 
   module _ {held : Held} (e : j ≡ Fine held) where
-    pub hint-none : tagOf held-type.the-type held ≡ 0 → hintAnswered NoHint ≡ askHint f at (c .at) (left s c)
+    pub hint-none : held ≡ Nothing → hintAnswered NoHint ≡ askHint f at (c .at) (left s c)
     unfolding askHint hintIn
-    hint-none h = rw (holds j q e, as-nothing held h)
+    hint-none h = rw (holds q e, h)
 
     module _ {data′ : Cursor} (is : held ≡ Data data′) where
       -- one byte, which says which hint
@@ -144,7 +133,7 @@ module _ {f : FunctionIndex} {at : CodeOffset} {s : List ℕ} {c : Cursor} (i : 
 
       hint-there : HintThere
       hint-there =
-          let there = data-there j q e is in
+          let there : askMetadata hintItem f at (c .at) (left s c) ≡ accepted (some (partOf s data′)) = rw is at (holds q e) in
           let (h, holds) = found-hint f at (c .at) (left s c) there in
           let byte = byte-is s (partOf s data′) h (item-lies hint-located f at s (c .at) (left s c) (lies-left i) there) holds in
           record { hint = h; told = hint-told f at (c .at) (left s c) there holds; inside = byte .0; byte = byte .1 }

@@ -12,47 +12,47 @@ use lib.Seq.{slice, slice-cons, slice-empty}
 use Rattle.format.specs.Reading.{got, stop, Reader, accepted, refused}
 use Rattle.format.specs.Options.{thenSome}
 use Rattle.format.specs.Parts.{Part}
-use Rattle.format.specs.Tables.{table, lookup}
-use Rattle.format.specs.Metadata.{metadata, judgeMetadata, itemAt, askMetadata}
+use Rattle.format.specs.Tables.{table}
+use Rattle.format.specs.Metadata.{metadata, judgeMetadata}
 use Rattle.format.specs.Laws.Outcomes.{not-got, got-value, got-next, got-rest, byOutcome, byTest, stop-refused}
-use Rattle.format.specs.declared.CodeOffset.{CodeOffset}
-use Rattle.format.specs.declared.FunctionIndex.{FunctionIndex}
 use Rattle.format.specs.declared.Reason.the-variants.{LeftOver}
 use Rattle.format.specs.declared.Refusal.{Refusal}
 use Rattle.reading.specs.Cursors.{Inside, left}
 use Rattle.reading.specs.declared.Cursor.{Cursor}
-use Rattle.tables.specs.Seeking.{soughtWithin, Seeks}
+use Rattle.tables.specs.Finding.{heldInside}
+use Rattle.tables.specs.Seeking.{wantedIn, soughtWithin, Seeks}
+use Rattle.tables.specs.declared.Wanted.{Wanted}
 use Rattle.tables.specs.declared.Seek.{Seek}
 use Rattle.tables.specs.declared.Seek.the-variants.{None as NoPart, Found as SeekPart, Refused as NoSeek}
 use Rattle.tables.proofs.Laws.{refused-means, none-means, none-inside, found-means, found-inside, found-part}
 use Rattle.tables.specs.Steps.{heldOf}
-use Rattle.metadata.specs.Asking.{filledWith, heldInside, JudgesFor}
+use Rattle.metadata.specs.Asking.{filledWith, wantedOf, JudgesFor}
 use Rattle.tables.specs.declared.Held.{Held}
 use Rattle.tables.specs.declared.Held.the-variants.{Nothing, Part as APart}
 use Rattle.metadata.specs.declared.Judgement.{Judgement}
 use Rattle.metadata.specs.declared.Judgement.the-variants.{Accepted, Refused}
 
 -- by what the search came to
-module _ (value : Reader Part) (f : FunctionIndex) (at : CodeOffset) (o : ℕ) (bs : List ℕ) where
-  sought-stops : {n p : ℕ} → soughtWithin value (f .0) (at .0) o bs ≡ stop n p → askMetadata value f at o bs ≡ refused n p
-  unfolding soughtWithin askMetadata judgeMetadata metadata
+module _ (value : Reader Part) (f at : Wanted) (o : ℕ) (bs : List ℕ) where
+  sought-stops : {n p : ℕ} → soughtWithin value f at o bs ≡ stop n p → wantedOf value f at o bs ≡ refused n p
+  unfolding soughtWithin wantedOf judgeMetadata metadata
   sought-stops e =
       byOutcome (table (table value) o bs)
       (λ t o₁ r₁ q. absurd (not-got (sym (rw q at e))))
       (λ n p q. rw q (stop-refused (rw q at e)))
 
-  sought-fills : {x : Option Part} {o′ : ℕ} → soughtWithin value (f .0) (at .0) o bs ≡ got x o′ [] → askMetadata value f at o bs ≡ accepted x
-  unfolding soughtWithin askMetadata judgeMetadata metadata itemAt
+  sought-fills : {x : Option Part} {o′ : ℕ} → soughtWithin value f at o bs ≡ got x o′ [] → wantedOf value f at o bs ≡ accepted x
+  unfolding soughtWithin wantedOf judgeMetadata metadata
   sought-fills {x} {o′} e =
       byOutcome (table (table value) o bs)
-      (λ t o₁ r₁ q. let e′ : got (thenSome (lookup (f .0) t) (lookup (at .0))) o₁ r₁ ≡ got x o′ [] = rw q at e in rw (q, got-rest e′) (ap accepted (got-value e′)))
+      (λ t o₁ r₁ q. let e′ : got (thenSome (wantedIn f t) (wantedIn at)) o₁ r₁ ≡ got x o′ [] = rw q at e in rw (q, got-rest e′) (ap accepted (got-value e′)))
       (λ n p q. absurd (not-got (rw q at e)))
 
-  sought-leaves : {x : Option Part} {o′ b : ℕ} {rest : List ℕ} → soughtWithin value (f .0) (at .0) o bs ≡ got x o′ (b ∷ rest) → askMetadata value f at o bs ≡ refused 10 o′
-  unfolding soughtWithin askMetadata judgeMetadata metadata itemAt
+  sought-leaves : {x : Option Part} {o′ b : ℕ} {rest : List ℕ} → soughtWithin value f at o bs ≡ got x o′ (b ∷ rest) → wantedOf value f at o bs ≡ refused 10 o′
+  unfolding soughtWithin wantedOf judgeMetadata metadata
   sought-leaves {x} {o′} {b} {rest} e =
       byOutcome (table (table value) o bs)
-      (λ t o₁ r₁ q. let e′ : got (thenSome (lookup (f .0) t) (lookup (at .0))) o₁ r₁ ≡ got x o′ (b ∷ rest) = rw q at e in rw (q, got-rest e′, got-next e′))
+      (λ t o₁ r₁ q. let e′ : got (thenSome (wantedIn f t) (wantedIn at)) o₁ r₁ ≡ got x o′ (b ∷ rest) = rw q at e in rw (q, got-rest e′, got-next e′))
       (λ n p q. absurd (not-got (rw q at e)))
 
 nothing-left : {s : List ℕ} {c : Cursor} → Inside s c → c .end ≤ c .at → left s c ≡ []
@@ -72,11 +72,11 @@ module _ (held : Held) {next : Cursor} where
 pub ruleset fillings = (fills, leaves-over, needs)
 
 -- what the judgement comes to
-module _ {s : List ℕ} {c : Cursor} (value : Reader Part) (f : FunctionIndex) (at : CodeOffset) {x : Seek} (i : Inside s c) (k : Seeks (soughtWithin value (f .0) (at .0)) s c x) where
+module _ {s : List ℕ} {c : Cursor} (value : Reader Part) (f at : Wanted) {x : Seek} (i : Inside s c) (k : Seeks (soughtWithin value f at) s c x) where
   pub judged-refused : {r : Refusal} → x ≡ NoSeek r → JudgesFor value f at s c (Refused r)
   judged-refused e = record { says = sym (sought-stops value f at (c .at) (left s c) (refused-means k e)); inside = tt }
 
-  by-filling : {y : Judgement} (held : Held) {next : Cursor} → heldInside s held → Inside s next → soughtWithin value (f .0) (at .0) (c .at) (left s c) ≡ got (heldOf s held) (next .at) (left s next) → y ≡ filledWith held next → JudgesFor value f at s c y
+  by-filling : {y : Judgement} (held : Held) {next : Cursor} → heldInside s held → Inside s next → soughtWithin value f at (c .at) (left s c) ≡ got (heldOf s held) (next .at) (left s next) → y ≡ filledWith held next → JudgesFor value f at s c y
   by-filling held {next} there j means is =
       byTest (ltb (next .at) (next .end))
       (λ t. let over = something-left j (ltb-true (next .at) (next .end) t) in rw (is, t) (record { says = sym (sought-leaves value f at (c .at) (left s c) (rw over at means)); inside = tt }))

@@ -5,7 +5,7 @@ ghost use Rattle.format.specs.Metadata.{anyItem, hintItem, askMetadata, judgeMe
 ghost use Rattle.format.specs.Questions.{answered, asPlace, asBytes, startOf};
 ghost use Rattle.format.specs.Reading.{verdict};
 ghost use Rattle.metadata.specs.Judgements.{judged};
-ghost use Rattle.metadata.specs.Asking.{filledWith, JudgesFor, refusalIn};
+ghost use Rattle.metadata.specs.Asking.{filledWith, JudgesFor};
 ghost use Rattle.reading.specs.Cursors.{Inside, left};
 ghost use Rattle.tables.specs.Seeking.{readerOf};
 use format::Answer;
@@ -14,14 +14,16 @@ use format::FunctionIndex;
 use format::Hint;
 use format::HintAnswer;
 use format::Offset;
-use format::Place;
 use format::Reason;
 use format::Refusal;
 use reading::Cursor;
 use reading::taking::taken;
 use tables::Held;
 use tables::Item;
+use tables::NOTHING;
 use tables::Seek;
+use tables::Wanted;
+use tables::finding::answer_of;
 
 pub enum Judged {
     Accepted,
@@ -50,29 +52,15 @@ fn filled(held: Held, next: Cursor) -> Judgement
     Judgement::Accepted(held)
 }
 
-// Judges a payload that lies in `s` where the cursor says, and holds on to the data at an offset of a function: one pass does both.
-fn judge_for(s: &[u8], c: Cursor, item: Item, f: FunctionIndex, at: CodeOffset) -> Judgement
+// Judges a payload that lies in `s` where the cursor says, and holds on to what is wanted of it: one pass does both.
+fn judge_for(s: &[u8], c: Cursor, item: Item, function: Wanted, offset: Wanted) -> Judgement
     requires { ⌜ Inside (now s) c ⌝ }
-    ensures { λ r. ⌜ JudgesFor (readerOf item) f at (now (s .entry)) c r ⌝ }
+    ensures { λ r. ⌜ JudgesFor (readerOf item) function offset (now (s .entry)) c r ⌝ }
 {
-    match tables::tables(c, s, item, f.0, at.0) {
+    match tables::tables(c, s, item, function, offset) {
         Seek::Refused(r) => Judgement::Refused(r),
         Seek::None(next) => filled(Held::Nothing, next),
         Seek::Found(part, next) => filled(Held::Part(part), next),
-    }
-}
-
-// The refusal of a judgement that is not accepted.
-fn refusal_of(judgement: Judgement) -> Refusal
-    ensures { λ r. ⌜ r ≡ refusalIn judgement ⌝ }
-{
-    match judgement {
-        Judgement::Refused(r) => r,
-        // never asked for
-        Judgement::Accepted(_) => Refusal {
-            reason: Reason::LeftOver,
-            offset: Offset(0),
-        },
     }
 }
 
@@ -81,16 +69,9 @@ pub fn find_in(s: &[u8], c: Cursor, item: Item, f: FunctionIndex, at: CodeOffset
     requires { ⌜ Inside (now s) c ⌝ }
     ensures { λ r. ⌜ answered r ≡ asPlace (askMetadata (readerOf item) f at (c .at) (left (now (s .entry)) c)) ⌝ }
 {
-    let judgement = judge_for(s, c, item, f, at);
-    let Judgement::Accepted(held) = judgement else {
-        return Answer::Refused(refusal_of(judgement));
-    };
-    match held {
-        Held::Nothing => Answer::None,
-        Held::Part(data) => Answer::Found(Place {
-            offset: Offset(data.at),
-            length: data.end - data.at,
-        }),
+    match judge_for(s, c, item, Wanted(f.0 as u64), Wanted(at.0 as u64)) {
+        Judgement::Refused(r) => Answer::Refused(r),
+        Judgement::Accepted(held) => answer_of(held),
     }
 }
 
@@ -99,12 +80,10 @@ pub fn judge_in(s: &[u8], c: Cursor, item: Item) -> Judged
     requires { ⌜ Inside (now s) c ⌝ }
     ensures { λ r. ⌜ judged r ≡ verdict (judgeMetadata (readerOf item) (c .at) (left (now (s .entry)) c)) ⌝ }
 {
-    // What it holds is of no interest: a payload is judged whole, whatever is asked.
-    let judgement = judge_for(s, c, item, FunctionIndex(0), CodeOffset(0));
-    let Judgement::Accepted(_) = judgement else {
-        return Judged::Refused(refusal_of(judgement));
-    };
-    Judged::Accepted
+    match judge_for(s, c, item, NOTHING, NOTHING) {
+        Judgement::Refused(r) => Judged::Refused(r),
+        Judgement::Accepted(_) => Judged::Accepted,
+    }
 }
 
 // The hint at an offset of a function, in a payload that lies in `s` where the cursor says.
@@ -112,19 +91,18 @@ pub fn hint_in(s: &[u8], c: Cursor, f: FunctionIndex, at: CodeOffset) -> HintAns
     requires { ⌜ Inside (now s) c ⌝ }
     ensures { λ r. ⌜ hintAnswered r ≡ askHint f at (c .at) (left (now (s .entry)) c) ⌝ }
 {
-    let judgement = judge_for(s, c, Item::Hint, f, at);
-    let Judgement::Accepted(held) = judgement else {
-        return HintAnswer::Refused(refusal_of(judgement));
-    };
-    match held {
-        Held::Nothing => HintAnswer::None,
-        Held::Part(data) => {
-            let byte = data.at;
-            if s[byte] == LIKELY {
-                return HintAnswer::Found(Hint::Likely);
+    match judge_for(s, c, Item::Hint, Wanted(f.0 as u64), Wanted(at.0 as u64)) {
+        Judgement::Refused(r) => HintAnswer::Refused(r),
+        Judgement::Accepted(held) => match held {
+            Held::Nothing => HintAnswer::None,
+            Held::Part(data) => {
+                let byte = data.at;
+                if s[byte] == LIKELY {
+                    return HintAnswer::Found(Hint::Likely);
+                }
+                HintAnswer::Found(Hint::Unlikely)
             }
-            HintAnswer::Found(Hint::Unlikely)
-        }
+        },
     }
 }
 
@@ -132,10 +110,7 @@ pub fn hint_in(s: &[u8], c: Cursor, f: FunctionIndex, at: CodeOffset) -> HintAns
 pub fn judge(p: &[u8]) -> Judged
     ensures { λ r. ⌜ judged r ≡ verdict (judgeMetadata anyItem 0 (now (p .entry))) ⌝ }
 {
-    let all = Cursor {
-        at: 0,
-        end: p.len(),
-    };
+    let all = Cursor::over(p);
     judge_in(p, all, Item::Data)
 }
 
@@ -143,10 +118,7 @@ pub fn judge(p: &[u8]) -> Judged
 pub fn judge_hints(p: &[u8]) -> Judged
     ensures { λ r. ⌜ judged r ≡ verdict (judgeMetadata hintItem 0 (now (p .entry))) ⌝ }
 {
-    let all = Cursor {
-        at: 0,
-        end: p.len(),
-    };
+    let all = Cursor::over(p);
     judge_in(p, all, Item::Hint)
 }
 
@@ -154,10 +126,7 @@ pub fn judge_hints(p: &[u8]) -> Judged
 pub fn find(p: &[u8], f: FunctionIndex, at: CodeOffset) -> Answer
     ensures { λ r. ⌜ answered r ≡ asPlace (askMetadata anyItem f at 0 (now (p .entry))) ⌝ }
 {
-    let all = Cursor {
-        at: 0,
-        end: p.len(),
-    };
+    let all = Cursor::over(p);
     find_in(p, all, Item::Data, f, at)
 }
 
@@ -173,9 +142,6 @@ pub fn find_bytes(p: &[u8], f: FunctionIndex, at: CodeOffset) -> &[u8]
 pub fn hint(p: &[u8], f: FunctionIndex, at: CodeOffset) -> HintAnswer
     ensures { λ r. ⌜ hintAnswered r ≡ askHint f at 0 (now (p .entry)) ⌝ }
 {
-    let all = Cursor {
-        at: 0,
-        end: p.len(),
-    };
+    let all = Cursor::over(p);
     hint_in(p, all, f, at)
 }

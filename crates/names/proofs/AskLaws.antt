@@ -39,7 +39,7 @@ use Rattle.names.proofs.kinds.Kind as kind-type
 use Rattle.tables.proofs.Held as held-type
 use Rattle.names.proofs.judging.Judged as judged-type
 use Rattle.names.proofs.Tags.{as-refused, as-accepted}
-use Rattle.names.proofs.ContentLaws.{known-inside, map-known, indirect-known, seek-ordered}
+use Rattle.names.proofs.ContentLaws.{map-known, map-asked, indirect-known, indirect-asked, found-ordered}
 use Rattle.names.proofs.FrameLaws.{asked-lies}
 use Rattle.names.proofs.PlaceLaws.{name-known, map-known as map-is-known, indirect-known as indirect-is-known, by-kind}
 use Rattle.names.proofs.JudgeLaws.{all-inside}
@@ -80,7 +80,7 @@ place-ahead s {part = part} e i = let h : Inside s part = rw e at i in h .ahead
 
 pub ruleset place-steps = (nothing-asked, place-asked, place-inside, place-ahead, kept-asked, needs)
 
-pub ruleset map-steps = (nothing-asked, known-inside, map-known, indirect-known, seek-ordered, needs)
+pub ruleset map-steps = (nothing-asked, map-known, map-asked, indirect-known, indirect-asked, found-ordered, needs)
 
 -- One law for all questions: the place that the id has, asked
 module _ {kindOf : ℕ → AnyKind} {s : List ℕ} {at : ℕ} {bs : List ℕ} {p : Places} where

@@ -10,7 +10,8 @@ use borrow.Author.Tests.{lt-ltb, le-ltb, ltb-true, ltb-false, ne-eqb}
 use lib.Dec.{ltb}
 use lib.Seq.{slice-empty, slice-cons, length-slice}
 use Rattle.format.specs.Reading.{Outcome, got, stop, Reader, andThen, return, atEnd, filling, Judged, accepted, refused, judge, mapJudged, verdict}
-use Rattle.format.specs.Parts.{Part, name, remaining}
+use Rattle.format.specs.Options.{thenSome}
+use Rattle.format.specs.Parts.{Part, sized, name, remaining}
 use Rattle.format.specs.Tables.{lookup, table}
 use Rattle.format.specs.Names.{Kind as AnyKind, oneName, nameMap, indirectMap, known, knownKind, Content, single, names, namesBy, contents}
 use Rattle.format.specs.Questions.{answerIn, answered, asPlace}
@@ -18,7 +19,7 @@ use Rattle.format.specs.declared.Query.{Query}
 use Rattle.format.specs.declared.Query.the-variants.{ItsName, NameOf, NameWithin}
 use Rattle.format.specs.Laws.Outcomes.{byTest, byOutcome, accepted-is, not-accepted}
 use Rattle.format.specs.Laws.Laxer.{Laxer, name-laxer, table-laxer, filled-laxer}
-use Rattle.format.specs.Metadata.{anyItem}
+use Rattle.format.specs.Laws.Passing.{sized-passes}
 use Rattle.format.specs.declared.Answer.{Answer}
 use Rattle.format.specs.declared.Answer.the-variants.{None as NoAnswer, Refused as NotAnswered}
 use Rattle.format.specs.declared.Refusal.{Refusal}
@@ -28,13 +29,19 @@ use Rattle.reading.specs.declared.Cursor.{Cursor}
 use Rattle.reading.specs.declared.PartRead.{PartRead}
 use Rattle.reading.specs.declared.PartRead.the-variants.{Part as APart, Refused as NoPart}
 use Rattle.reading.proofs.Laws.{name-means, name-behind}
-use Rattle.tables.specs.Seeking.{sought, soughtWithin, Seeks}
+use Rattle.reading.specs.Standing.{Stands, Known}
+use Rattle.reading.proofs.Standing.{Passable, stand, one-value}
+use Rattle.tables.specs.Finding.{within, heldOrdered, answerOf, Finds}
+use Rattle.tables.specs.Seeking.{wantedIn, sought, soughtWithin, Seeks}
+use Rattle.tables.specs.declared.Held.{Held}
+use Rattle.tables.specs.declared.Wanted.{Wanted}
+use Rattle.tables.proofs.Accepted.{table-passable}
+use Rattle.tables.proofs.FindLaws.{held-ordered, held-means}
 use Rattle.tables.specs.declared.Seek.{Seek}
 use Rattle.tables.specs.declared.Seek.the-variants.{None, Found, Refused}
 use Rattle.tables.proofs.Laws.{refused-means, none-means, none-inside, found-means, found-inside, found-part}
 use Rattle.names.specs.Contents.{kindMeant, Asks, Rules, placeAt, filledBy, endOf, Ordered}
 use Rattle.names.specs.Places.{KnownAt, AsksAt}
-use Rattle.tables.specs.declared.Held.{Held}
 use Rattle.tables.specs.declared.Held.the-variants.{Part as At}
 use Rattle.names.specs.declared.kinds.Kind.{Kind}
 use Rattle.names.specs.declared.kinds.Kind.the-variants.{OneName, NameMap, IndirectMap, Kept}
@@ -95,15 +102,12 @@ fill-asked (stop n at) wrap q = refl
 fill-asked (got v o []) wrap q = refl
 fill-asked (got v o (b ∷ bs)) wrap q = refl
 
--- what was accepted answers the same when it is read without the checks that it passed
-lax-asked : {A : Type 0} {strict lax : Reader A} → Laxer strict lax → (wrap : A → Content Part) (q : Query) (o : ℕ) (bs : List ℕ) {c : Content Part} → judge (andThen (filling strict o bs) (λ x. return (wrap x))) ≡ accepted c → judge (andThen (andThen (lax o bs) (λ x. return (answerIn q (wrap x)))) atEnd) ≡ accepted (answerIn q c)
-lax-asked {strict = strict} l wrap q o bs e =
-    byOutcome (filling strict o bs)
-    (λ v o′ rest r.
-    let (o₁, reads) = filled-laxer l o bs r in
-    let is = accepted-is (rw r at e) in
-    rw (reads, is) refl)
-    (λ n at r. absurd (not-accepted (rw r at e)))
+-- and whether they are accepted does not hang on what is wanted
+fill-judged : {A : Type 0} (r : Outcome A) (f : A → Option Part) (wrap : A → Content Part) → verdict (asPlace (judge (andThen (andThen r (λ x. return (f x))) atEnd))) ≡ verdict (judge (andThen (andThen r atEnd) (λ x. return (wrap x))))
+unfolding asPlace
+fill-judged (stop n at) f wrap = refl
+fill-judged (got v o []) f wrap = refl
+fill-judged (got v o (b ∷ bs)) f wrap = refl
 
 module _ {s : List ℕ} where
   at-the-end : (next : Cursor) (v : Option Part) (a : Answer) → Inside s next → answered a ≡ asPlace (accepted v) → answered (filledBy next a) ≡ asPlace (judge (atEnd v (next .at) (left s next)))
@@ -126,31 +130,13 @@ module _ {s : List ℕ} where
   end-means (Found part next) i k = rw (found-means k refl) (at-the-end next (some (partOf s part)) (placeAt part) (found-inside i k refl) (place-is part (found-part i k refl)))
 
   -- the two maps
-  pub map-asks : {part : Cursor} {key : ℕ} {x : Seek} {y : Answer} → Inside s part → Seeks (sought name key) s part x → y ≡ endOf x → Asks nameMap (NameOf key) s part y
+  pub map-rules : (wanted : Wanted) {part : Cursor} {x : Seek} {y : Answer} → Inside s part → Seeks (sought name wanted) s part x → y ≡ endOf x → Rules nameMap s part y
   unfolding contents sought
-  map-asks {part} {key} {x} i k e = record { says = rw (e, end-means x i k, fill-asked (table name (part .at) (left s part)) names (NameOf key)) }
+  map-rules wanted {part} {x} i k e = record { says = rw (e, end-means x i k) (fill-judged (table name (part .at) (left s part)) (wantedIn wanted) names) }
 
-  pub indirect-asks : {part : Cursor} {key inner : ℕ} {x : Seek} {y : Answer} → Inside s part → Seeks (soughtWithin name key inner) s part x → y ≡ endOf x → Asks indirectMap (NameWithin key inner) s part y
+  pub indirect-rules : (wanted inner : Wanted) {part : Cursor} {x : Seek} {y : Answer} → Inside s part → Seeks (soughtWithin name wanted inner) s part x → y ≡ endOf x → Rules indirectMap s part y
   unfolding contents soughtWithin
-  indirect-asks {part} {key} {inner} {x} i k e = record { says = rw (e, end-means x i k, fill-asked (table (table name) (part .at) (left s part)) namesBy (NameWithin key inner)) }
-
-  module _ {place : Held} {part : Cursor} (at-part : place ≡ At part) where
-    pub known-inside : {kind : AnyKind} → KnownAt kind s place → Inside s part
-    known-inside h = rw at-part at (h .inside)
-
-    pub map-known : {x : Seek} {y : Answer} {key : ℕ} → KnownAt nameMap s place → Seeks (sought anyItem key) s part x → y ≡ endOf x → AsksAt nameMap (NameOf key) s place y
-    unfolding contents sought anyItem
-    map-known {x} {key = key} h k e =
-        let i = known-inside h in
-        let a = rw at-part at (h .known) in
-        record { says = rw (e, end-means x i k, at-part, a .judged, lax-asked (table-laxer name-laxer) names (NameOf key) (part .at) (left s part) (a .judged)) refl }
-
-    pub indirect-known : {x : Seek} {y : Answer} {key inner : ℕ} → KnownAt indirectMap s place → Seeks (soughtWithin anyItem key inner) s part x → y ≡ endOf x → AsksAt indirectMap (NameWithin key inner) s place y
-    unfolding contents soughtWithin anyItem
-    indirect-known {x} {key = key} {inner = inner} h k e =
-        let i = known-inside h in
-        let a = rw at-part at (h .known) in
-        record { says = rw (e, end-means x i k, at-part, a .judged, lax-asked (table-laxer (table-laxer name-laxer)) namesBy (NameWithin key inner) (part .at) (left s part) (a .judged)) refl }
+  indirect-rules wanted inner {part} {x} i k e = record { says = rw (e, end-means x i k) (fill-judged (table (table name) (part .at) (left s part)) (λ t. thenSome (wantedIn wanted t) (wantedIn inner)) namesBy) }
 
   pub seek-ordered : {read : Reader (Option Part)} {d : Cursor} (x : Seek) → Inside s d → Seeks read s d x → Ordered x
   seek-ordered (None next) i k = tt
@@ -175,7 +161,7 @@ module _ {s : List ℕ} {part : Cursor} {x : PartRead} (p : PartReads name s par
 
 pub ruleset one-steps = (one-refused, one-asks, one-ordered, needs)
 
-pub ruleset map-steps = (map-asks, indirect-asks, seek-ordered, needs)
+pub ruleset map-steps = (map-rules, indirect-rules, seek-ordered, needs)
 
 -- contents of a kind: only whether they are refused matters
 verdict-stays : {A : Type 0} (f : A → Option Part) (j : Judged A) → verdict (asPlace (mapJudged f j)) ≡ verdict j
@@ -190,14 +176,65 @@ module _ {s : List ℕ} {part : Cursor} {kind : Kind} {y : Answer} where
   pub rules-one : kind ≡ OneName → Asks oneName ItsName s part y → Rules (kindMeant kind) s part y
   rules-one e a = rw e (asked-rules a)
 
-  pub rules-map : {key : ℕ} → kind ≡ NameMap → Asks nameMap (NameOf key) s part y → Rules (kindMeant kind) s part y
-  rules-map e a = rw e (asked-rules a)
+  pub rules-map : kind ≡ NameMap → Rules nameMap s part y → Rules (kindMeant kind) s part y
+  rules-map e a = rw e a
 
-  pub rules-indirect : {key inner : ℕ} → kind ≡ IndirectMap → Asks indirectMap (NameWithin key inner) s part y → Rules (kindMeant kind) s part y
-  rules-indirect e a = rw e (asked-rules a)
+  pub rules-indirect : kind ≡ IndirectMap → Rules indirectMap s part y → Rules (kindMeant kind) s part y
+  rules-indirect e a = rw e a
 
 pub rules-kept : {s : List ℕ} {part : Cursor} {kind : Kind} → kind ≡ Kept → Rules (kindMeant kind) s part NoAnswer
 unfolding contents remaining
 rules-kept e = record { says = rw e }
 
 pub ruleset content-steps = (rules-one, rules-map, rules-indirect, rules-kept, needs)
+
+-- What was accepted stands there for a reader without the checks that it passed
+record Lax {A : Type 0} (lax : Reader A) (wrap : A → Content Part) (s : List ℕ) (part : Cursor) (held : Content Part) : Type 0 where
+  value : A
+  next : Cursor
+  stands : Stands lax s part value next
+  is : wrap value ≡ held
+
+lax-stands : {A : Type 0} {strict lax : Reader A} → Laxer strict lax → Passable lax → (wrap : A → Content Part) {s : List ℕ} {part : Cursor} {held : Content Part} → Inside s part → judge (andThen (filling strict (part .at) (left s part)) (λ x. return (wrap x))) ≡ accepted held → Lax lax wrap s part held
+lax-stands {strict = strict} l passes wrap {s} {part} i e =
+    byOutcome (filling strict (part .at) (left s part))
+    (λ v o′ rest r.
+    let (o₁, reads) = filled-laxer l (part .at) (left s part) r in
+    record { value = v; next = _; stands = stand passes i reads; is = accepted-is (rw r at e) })
+    (λ n at r. absurd (not-accepted (rw r at e)))
+
+module _ {s : List ℕ} {place : Held} {part : Cursor} (at-part : place ≡ At part) where
+  known-inside : {kind : AnyKind} → KnownAt kind s place → Inside s part
+  known-inside h = rw at-part at (h .inside)
+
+  module _ (h : KnownAt nameMap s place) where
+    map-lax : Lax (table sized) names s part ((rw at-part at (h .known)) .value)
+    unfolding contents
+    map-lax = lax-stands (table-laxer name-laxer) (table-passable sized-passes) names (known-inside h) ((rw at-part at (h .known)) .judged)
+
+    pub map-known : Known (table sized) s part
+    map-known = let l = map-lax in record { value = l .value; next = l .next; stands = l .stands }
+
+    pub map-asked : {key : ℕ} {held : Held} {y : Answer} → Finds (table sized) (lookup key) s part held → y ≡ answerOf held → AsksAt nameMap (NameOf key) s place y
+    map-asked {key} {held} f e =
+        let l = map-lax in
+        let same : f .value ≡ l .value = one-value (f .stands) (l .stands) in
+        record { says = rw (e, held-means s held (f .inside), f .found, at-part, (rw at-part at (h .known)) .judged, same, ← l .is) }
+
+  module _ (h : KnownAt indirectMap s place) where
+    indirect-lax : Lax (table (table sized)) namesBy s part ((rw at-part at (h .known)) .value)
+    unfolding contents
+    indirect-lax = lax-stands (table-laxer (table-laxer name-laxer)) (table-passable (table-passable sized-passes)) namesBy (known-inside h) ((rw at-part at (h .known)) .judged)
+
+    pub indirect-known : Known (table (table sized)) s part
+    indirect-known = let l = indirect-lax in record { value = l .value; next = l .next; stands = l .stands }
+
+    pub indirect-asked : {key inner : ℕ} {held : Held} {y : Answer} → Finds (table (table sized)) (within key inner) s part held → y ≡ answerOf held → AsksAt indirectMap (NameWithin key inner) s place y
+    indirect-asked {key} {inner} {held} f e =
+        let l = indirect-lax in
+        let same : f .value ≡ l .value = one-value (f .stands) (l .stands) in
+        record { says = rw (e, held-means s held (f .inside), f .found, at-part, (rw at-part at (h .known)) .judged, same, ← l .is) }
+
+-- what was found is in order
+pub found-ordered : {A : Type 0} {read : Reader A} {answer : A → Option Part} {s : List ℕ} {c : Cursor} (held : Held) → Finds read answer s c held → heldOrdered held
+found-ordered {s = s} held f = held-ordered s held (f .inside)

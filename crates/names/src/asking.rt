@@ -3,7 +3,6 @@ ghost use mathlib.Core.Path.{_≡_};
 ghost use Rattle.format.specs.Names.{oneName, nameMap, indirectMap, kept};
 ghost use Rattle.format.specs.declared.Query.the-variants.{ItsName, ItsContents, NameOf, NameWithin};
 ghost use Rattle.names.specs.Places.{subInside, KnownAt, AsksAt, refusalIn};
-use crate::contents::ended;
 use crate::contents::one_name;
 use crate::judging::Judged;
 use format::Answer;
@@ -12,7 +11,9 @@ use format::Place;
 use format::Reason;
 use format::Refusal;
 use tables::Held;
-use tables::Item;
+use tables::finding::answer_of;
+use tables::finding::find_group;
+use tables::finding::find_row;
 
 // The refusal of a judgement that is not accepted.
 pub fn refusal_of(judged: Judged) -> Refusal
@@ -38,14 +39,14 @@ pub fn the_name(s: &[u8], place: Held) -> Answer
     }
 }
 
-// The name at `key` of the name map there. It was accepted, so its text is not looked at again.
+// The name at `key` of the name map there. It was accepted, so its text is not looked at again, and nothing behind the key.
 pub fn named(s: &[u8], place: Held, key: u32) -> Answer
     requires { ⌜ KnownAt nameMap (now s) place ⌝ }
     ensures { λ r. ⌜ AsksAt nameMap (NameOf key) (now (s .entry)) place r ⌝ }
 {
     match place {
         Held::Nothing => Answer::None,
-        Held::Part(part) => ended(tables::table(part, s, Item::Data, key)),
+        Held::Part(part) => answer_of(find_row(part, s, key)),
     }
 }
 
@@ -56,7 +57,7 @@ pub fn named_within(s: &[u8], place: Held, key: u32, inner: u32) -> Answer
 {
     match place {
         Held::Nothing => Answer::None,
-        Held::Part(part) => ended(tables::tables(part, s, Item::Data, key, inner)),
+        Held::Part(part) => answer_of(find_group(part, s, key, inner)),
     }
 }
 

@@ -1,7 +1,7 @@
-// A subsection's contents, judged and asked in one pass. They fill their part exactly.
+// A subsection's contents, judged. They fill their part exactly.
 ghost use mathlib.Core.Path.{_≡_};
 ghost use Rattle.format.specs.Names.{oneName, nameMap, indirectMap};
-ghost use Rattle.format.specs.declared.Query.the-variants.{ItsName, NameOf, NameWithin};
+ghost use Rattle.format.specs.declared.Query.the-variants.{ItsName};
 ghost use Rattle.reading.specs.Cursors.{Inside};
 ghost use Rattle.names.specs.Contents.{kindMeant, Asks, Rules, filledBy, endOf, Ordered};
 use crate::kinds::Kind;
@@ -13,6 +13,7 @@ use format::Refusal;
 use reading::Cursor;
 use reading::PartRead;
 use tables::Item;
+use tables::NOTHING;
 use tables::Seek;
 
 // The answer, where nothing is left over.
@@ -30,7 +31,7 @@ fn filled(next: Cursor, answer: Answer) -> Answer
 }
 
 // The answer of a search at its end.
-pub fn ended(found: Seek) -> Answer
+fn ended(found: Seek) -> Answer
     requires { ⌜ Ordered found ⌝ }
     ensures { λ r. ⌜ r ≡ endOf found ⌝ }
 {
@@ -60,20 +61,20 @@ pub fn one_name(s: &[u8], part: Cursor) -> Answer
     }
 }
 
-// A name map: the name at `key`.
-pub fn name_map(s: &[u8], part: Cursor, key: u32) -> Answer
+// A name map.
+fn name_map(s: &[u8], part: Cursor) -> Answer
     requires { ⌜ Inside (now s) part ⌝ }
-    ensures { λ r. ⌜ Asks nameMap (NameOf key) (now (s .entry)) part r ⌝ }
+    ensures { λ r. ⌜ Rules nameMap (now (s .entry)) part r ⌝ }
 {
-    ended(tables::table(part, s, Item::Name, key))
+    ended(tables::table(part, s, Item::Name, NOTHING))
 }
 
-// An indirect name map: the name at `inner` in the map at `key`.
-pub fn indirect_map(s: &[u8], part: Cursor, key: u32, inner: u32) -> Answer
+// An indirect name map.
+fn indirect_map(s: &[u8], part: Cursor) -> Answer
     requires { ⌜ Inside (now s) part ⌝ }
-    ensures { λ r. ⌜ Asks indirectMap (NameWithin key inner) (now (s .entry)) part r ⌝ }
+    ensures { λ r. ⌜ Rules indirectMap (now (s .entry)) part r ⌝ }
 {
-    ended(tables::tables(part, s, Item::Name, key, inner))
+    ended(tables::tables(part, s, Item::Name, NOTHING, NOTHING))
 }
 
 // Contents of a kind: only whether the answer is a refusal matters.
@@ -83,8 +84,8 @@ pub fn content(s: &[u8], part: Cursor, kind: Kind) -> Answer
 {
     match kind {
         Kind::OneName => one_name(s, part),
-        Kind::NameMap => name_map(s, part, 0),
-        Kind::IndirectMap => indirect_map(s, part, 0, 0),
+        Kind::NameMap => name_map(s, part),
+        Kind::IndirectMap => indirect_map(s, part),
         Kind::Kept => Answer::None,
     }
 }

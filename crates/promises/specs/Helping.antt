@@ -1,7 +1,7 @@
 -- Wrong programs in the place of the public functions that the calls stand on: one that gives the same whatever it is given, one that never refuses, one that always does. Each promise rules them out.
 use Prim.Native.Nat.{ℕ}
 use mathlib.Core.Bool.{Bool, true, false, cond, _||_}
-use mathlib.Core.List.{[]}
+use mathlib.Core.List.{List, [], _∷_}
 use mathlib.Core.Option.{some}
 use mathlib.Core.Path.{_≡_, refl, ap}
 use lib.Dec.{eqb}
@@ -22,6 +22,7 @@ use Rattle.names.specs.declared.judging.Judged.the-variants.{Refused}
 use Rattle.names.specs.declared.places.Places.{Places}
 use Rattle.tables.specs.declared.Held.{Held}
 use Rattle.tables.specs.declared.Held.the-variants.{Nothing as Absent, Part as At}
+use Rattle.reading.specs.Cursors.{overAll}
 use Rattle.reading.specs.declared.Cursor.{Cursor}
 use Rattle.walk.specs.Sections.{bit, seenOf, ruling, IdRuled, rowCalled, NameRuled, Sees}
 use Rattle.walk.specs.declared.rules.Called.{Called}
@@ -41,6 +42,10 @@ question-id id = by-two-inputs {says = λ r. r} (λ q r meets. meets) (λ r. som
 -- reading: one number for every byte
 pub wide : (n : ℕ) → RuledOut (λ (x : ℕ) r. r ≡ x) (λ _ r. r ≡ n)
 wide n = by-two-inputs {says = λ r. r} (λ x r meets. meets) (λ r. some r) (eqb 0) 0 1 refl refl refl refl n
+
+-- reading: one cursor whatever is lent
+pub over : (end : ℕ) → RuledOut (λ (s : List ℕ) r. r ≡ overAll s) (λ _ r. r .end ≡ end)
+over end = by-two-inputs {says = λ (r : Cursor). r .end} (λ s r meets. ap (λ (r : Cursor). r .end) meets) (λ n. some n) (eqb 0) [] (0 ∷ []) {k = 0} {l = 1} refl refl refl refl end
 
 -- writing: one length for every number. 128 takes two bytes
 pub number-length : (n : ℕ) → RuledOut (λ (v : ℕ) r. r ≡ length (shortest v)) (λ _ r. r ≡ n)

@@ -18,7 +18,7 @@ use Rattle.format.specs.Laws.Turns.{inSized, inTested}
 use Rattle.format.specs.Laws.Places.{Lies}
 use Rattle.format.specs.Laws.Passing.{Passes, number-passes, sized-passes}
 use Rattle.format.specs.declared.Reason.the-variants.{NotText}
-use Rattle.reading.specs.Cursors.{Inside, left, partOf, NumberReads, PartReads}
+use Rattle.reading.specs.Cursors.{Inside, overAll, left, partOf, NumberReads, PartReads}
 use Rattle.reading.specs.declared.Cursor.{Cursor}
 use Rattle.reading.specs.declared.NumberRead.{NumberRead}
 use Rattle.reading.specs.declared.NumberRead.the-variants.{Value}
@@ -119,6 +119,13 @@ lies-left {s} {c} i = record {
   far = length-take-le (c .at) (take (c .end) s) (omega (arith, length-take-le (c .end) s (i .within), i .ahead));
 }
 
--- a cursor over all of it has all of it left
+-- the cursor over all that was lent lies in it, and has all of it left
 pub left-all : (s : List ℕ) → slice 0 (length s) s ≡ s
 left-all s = take-length s
+
+module _ {s : List ℕ} {c : Cursor} (e : c ≡ overAll s) where
+  pub over-inside : Inside s c
+  over-inside = rw e (record { ahead = omega arith; within = omega arith })
+
+  pub over-left : left s c ≡ s
+  over-left = rw e (left-all s)

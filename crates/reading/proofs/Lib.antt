@@ -6,3 +6,5 @@ pub mod TextSteps
 pub mod AsciiLaws
 pub mod Same
 pub mod TakenLaws
+pub mod Standing
+pub mod AgainSteps

@@ -20,6 +20,10 @@ pub record Inside (s : List ℕ) (c : Cursor) : Type 0 where
   pub ahead : c .at ≤ c .end
   pub within : c .end ≤ length s
 
+-- the cursor over all that was lent
+abbrev pub overAll : List ℕ → Cursor
+overAll s = record { at = 0; end = length s }
+
 -- the bytes that it has left
 abbrev pub left : List ℕ → Cursor → List ℕ
 left s c = slice (c .at) (c .end) s

@@ -1,3 +1,4 @@
 pub mod Texts
 pub mod Cursors
 pub mod Taken
+pub mod Standing

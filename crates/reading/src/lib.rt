@@ -1,11 +1,12 @@
 // Reads numbers, sized parts and names out of lent bytes, left to right, from a cursor by value.
 ghost use mathlib.Core.Path.{_≡_};
 ghost use Rattle.format.specs.Parts.{sized, name};
-ghost use Rattle.reading.specs.Cursors.{Inside, NumberReads, PartReads};
+ghost use Rattle.reading.specs.Cursors.{Inside, overAll, NumberReads, PartReads};
 use format::Offset;
 use format::Reason;
 use format::Refusal;
 
+pub mod again;
 mod ascii;
 pub mod taking;
 pub mod text;
@@ -45,6 +46,16 @@ pub fn wide(x: u8) -> u32
 }
 
 impl Cursor {
+    // The cursor over all that was lent.
+    pub fn over(s: &[u8]) -> Cursor
+        ensures { λ r. ⌜ r ≡ overAll (now (s .entry)) ⌝ }
+    {
+        Cursor {
+            at: 0,
+            end: s.len(),
+        }
+    }
+
     // A number: at most 5 bytes, the fifth at most 0x0F. Most have one byte.
     pub fn number(self, s: &[u8]) -> NumberRead
         requires { ⌜ Inside (now s) self ⌝ }

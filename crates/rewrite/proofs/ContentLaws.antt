@@ -20,11 +20,14 @@ use Rattle.format.specs.Laws.Laxer.{name-laxer, table-laxer, filled-laxer}
 use Rattle.reading.specs.Cursors.{left, partOf}
 use Rattle.reading.specs.declared.Cursor.{Cursor}
 use Rattle.copying.specs.Bytes.{bareRows, rowsOf, keptGroups, groupsOf}
-use Rattle.copying.specs.Standing.{Stands, Known, TakesPart, Measures, MeasuresGroups}
-use Rattle.copying.specs.declared.Piece.{Piece}
+use Rattle.reading.specs.Standing.{Stands, Known, TakesPart}
+use Rattle.copying.specs.Standing.{Measures, MeasuresGroups}
+use Rattle.reading.specs.declared.again.Piece.{Piece}
 use Rattle.copying.specs.declared.Measured.{Measured}
 use Rattle.copying.specs.declared.Groups.{Groups}
-use Rattle.copying.proofs.Laws.{stand, one-value, table-passable, known-count, table-rows, number-shorter, rows-shorter, rows-count, groups-shorter, groups-count as groups-few}
+use Rattle.reading.proofs.Standing.{stand, one-value}
+use Rattle.tables.proofs.Accepted.{table-passable, known-count, table-rows}
+use Rattle.copying.proofs.Laws.{number-shorter, rows-shorter, rows-count, groups-shorter, groups-count as groups-few}
 use Rattle.copying.proofs.Measuring.{sized-is, size-fits, size-ordered}
 use Rattle.rewrite.specs.Contents.{ContentStands, KnownContent, countOf, Trims}
 use Rattle.names.specs.Contents.{kindMeant}

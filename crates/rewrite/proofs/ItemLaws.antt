@@ -21,37 +21,30 @@ use Rattle.format.specs.Laws.Outputs.{writes-refused, writes-short}
 use Rattle.format.specs.Laws.Passing.{sized-passes}
 use Rattle.format.specs.Laws.Codecs.{sized-codec}
 use Rattle.format.specs.Laws.Unchanged.{functions-tight}
-use Rattle.format.specs.declared.Reason.the-variants.{NoPreamble, OutputTooShort}
+use Rattle.format.specs.declared.Reason.the-variants.{OutputTooShort}
 use Rattle.format.specs.declared.Refusal.{Refusal}
 use Rattle.format.specs.declared.Written.{Written}
 use Rattle.format.specs.declared.Written.the-variants.{Length, Refused}
 use Rattle.copying.specs.Bytes.{keptGroups, groupsOf}
-use Rattle.copying.specs.Standing.{Stands, Known, Fits, Puts, MeasuresGroups}
+use Rattle.reading.specs.Standing.{Stands, Known}
+use Rattle.copying.specs.Standing.{Fits, Puts, MeasuresGroups}
 use Rattle.copying.specs.declared.Groups.{Groups}
 use Rattle.copying.specs.declared.Put.{Put}
-use Rattle.copying.proofs.Laws.{table-passable, stand, one-value, known-count, table-rows, rows-table, part-length, number-shorter, groups-count, groups-shorter}
+use Rattle.tables.proofs.Accepted.{table-passable, known-count, table-rows, rows-table}
+use Rattle.reading.proofs.Standing.{stand, one-value}
+use Rattle.copying.proofs.Laws.{part-length, number-shorter, groups-count, groups-shorter}
 use Rattle.metadata.specs.Judgements.{judged as saysOf}
 use Rattle.metadata.specs.declared.Judged.{Judged}
-use Rattle.metadata.specs.declared.Judged.the-variants.{Accepted, Refused as NotAccepted}
+use Rattle.metadata.specs.declared.Judged.the-variants.{Refused as NotAccepted}
 use Rattle.metadata.proofs.Judged as judged-type
 use Rattle.metadata.proofs.Tags.{as-accepted}
-use Rattle.reading.specs.Cursors.{Inside, left}
+use Rattle.reading.specs.Cursors.{overAll, left}
 use Rattle.reading.specs.declared.Cursor.{Cursor}
-use Rattle.reading.proofs.Laws.{left-all}
+use Rattle.reading.proofs.Laws.{left-all, over-inside}
 use Rattle.writing.specs.Wrote.{Wrote}
 use Rattle.writing.proofs.Laws.{wrote-join, wrote-length, writes-wrote}
-use Rattle.rewrite.specs.Items.{refusalIn, RewritesItems}
+use Rattle.rewrite.specs.Items.{RewritesItems}
 use Rattle.rewrite.specs.Whole.{FitsWhole, PutsWhole}
-
--- A judgement's refusal
-pub refusal-is : (j : Judged) {r : Refusal} → j ≡ NotAccepted r → r ≡ refusalIn j
-refusal-is j e = rw e
-
-pub refusal-none : (j : Judged) → tagOf judged-type.the-type j ≡ 0 → record { reason = NoPreamble; offset = record { 0 = 0 } } ≡ refusalIn j
-refusal-none Accepted h = refl
-refusal-none (NotAccepted r) h = absurd (omega arith)
-
-pub ruleset refusal-steps = (refusal-is, refusal-none, needs)
 
 -- Metadata is written anew as the count of the functions that are kept, and these
 pub items-bytes : (t : Table (Table Part)) → rewriteMetadata t ≡ shortest (size (keptGroups t)) ++ groupsOf t
@@ -111,68 +104,60 @@ module _ {s : List ℕ} {c : Cursor} (known : Known (table (table sized)) s c) w
 pub ruleset item-steps = (items-count, items-ordered, items-groups, items-fit, items-short, items-whole-room, items-whole, items-groups-room, items-put, needs)
 
 -- A payload that was judged: refused, or its functions stand where it begins
-as-refused : (j : Judged) → tagOf judged-type.the-type j ≡ 1 → j ≡ NotAccepted (refusalIn j)
-as-refused Accepted h = absurd (omega arith)
-as-refused (NotAccepted r) h = refl
-
-abbrev whole : List ℕ → Cursor
-whole p = record { at = 0; end = length p }
-
 module _ (item : Reader Part) (p : List ℕ) (j : Judged) (says : saysOf j ≡ verdict (judgeMetadata item 0 p)) where
-  payload-refused : {old : List ℕ} {r : Refusal} → tagOf judged-type.the-type j ≡ 1 → r ≡ refusalIn j → Writes (canonicalOf item p) old old (Refused r)
+  payload-refused : {old : List ℕ} {r : Refusal} → j ≡ NotAccepted r → Writes (canonicalOf item p) old old (Refused r)
   unfolding canonicalOf
-  payload-refused h is =
-      let told : verdict (judgeMetadata item 0 p) ≡ saysOf (NotAccepted (refusalIn j)) = sym says ∙ ap saysOf (as-refused j h) in
+  payload-refused {r = r} e =
+      let told : verdict (judgeMetadata item 0 p) ≡ saysOf (NotAccepted r) = sym says ∙ ap saysOf e in
       let no = refused-exactly (λ _. tt) (judgeMetadata item 0 p) .0 told in
-      rw is (writes-refused (refused-exactly rewriteMetadata (judgeMetadata item 0 p) .1 no))
+      writes-refused (refused-exactly rewriteMetadata (judgeMetadata item 0 p) .1 no)
 
   module _ (lax : Laxer item sized) (h : tagOf judged-type.the-type j ≡ 0) where
     -- read without the item's checks, what was accepted stands there
-    payload-stands : (v : Table (Table Part)) × (judgeMetadata item 0 p ≡ accepted v) × (next : Cursor) × Stands (table (table sized)) p (whole p) v next
+    payload-stands : (v : Table (Table Part)) × (judgeMetadata item 0 p ≡ accepted v) × (next : Cursor) × Stands (table (table sized)) p (overAll p) v next
     unfolding judgeMetadata metadata
     payload-stands =
         let told : verdict (judgeMetadata item 0 p) ≡ accepted tt = sym says ∙ ap saysOf (as-accepted j h) in
         mapped (λ _. tt) (judgeMetadata item 0 p) told λ v e _.
         judged (filling (table (table item)) 0 p) e λ o rest e₁.
         let (o₁, e₂) = filled-laxer (table-laxer (table-laxer lax)) 0 p e₁ in
-        let inside : Inside p (whole p) = record { ahead = omega arith; within = omega arith } in
         let here : table (table sized) 0 (slice 0 (length p) p) ≡ got v o₁ [] = rw (left-all p) e₂ in
-        (v, e, _, stand (table-passable (table-passable sized-passes)) inside here)
+        (v, e, _, stand (table-passable (table-passable sized-passes)) (over-inside refl) here)
 
-    payload-known : Known (table (table sized)) p (whole p)
-    payload-known = let (v, e, next, stands) = payload-stands in record { value = v; next = next; stands = stands }
+    payload-known : {c : Cursor} → c ≡ overAll p → Known (table (table sized)) p c
+    payload-known over = let (v, e, next, stands) = payload-stands in rw over (record { value = v; next = next; stands = stands })
 
-    payload-written : {old new : List ℕ} {r : Written} → RewritesItems p (whole p) old new r → Writes (canonicalOf item p) old new r
+    payload-written : {c : Cursor} → c ≡ overAll p → {old new : List ℕ} {r : Written} → RewritesItems p c old new r → Writes (canonicalOf item p) old new r
     unfolding canonicalOf
-    payload-written w =
+    payload-written over w =
         let (v, e, next, stands) = payload-stands in
-        let same : v ≡ w .value = one-value stands (w .stands) in
+        let same : v ≡ w .value = one-value stands (rw over at (w .stands)) in
         rw (e, same) (w .writes)
 
 -- of any format, and hints
 module _ (p : List ℕ) (j : Judged) where
   module _ (says : saysOf j ≡ verdict (judgeMetadata anyItem 0 p)) where
-    pub any-refused : {old : List ℕ} {r : Refusal} → tagOf judged-type.the-type j ≡ 1 → r ≡ refusalIn j → Writes (canonicalMetadata p) old old (Refused r)
+    pub any-refused : {old : List ℕ} {r : Refusal} → j ≡ NotAccepted r → Writes (canonicalMetadata p) old old (Refused r)
     unfolding canonicalMetadata
-    any-refused h is = payload-refused anyItem p j says h is
+    any-refused e = payload-refused anyItem p j says e
 
-    pub any-known : tagOf judged-type.the-type j ≡ 0 → Known (table (table sized)) p (whole p)
-    any-known h = payload-known anyItem p j says any-laxer h
+    pub any-known : tagOf judged-type.the-type j ≡ 0 → {c : Cursor} → c ≡ overAll p → Known (table (table sized)) p c
+    any-known h over = payload-known anyItem p j says any-laxer h over
 
-    pub any-written : tagOf judged-type.the-type j ≡ 0 → {old new : List ℕ} {r : Written} → RewritesItems p (whole p) old new r → Writes (canonicalMetadata p) old new r
+    pub any-written : tagOf judged-type.the-type j ≡ 0 → {c : Cursor} → c ≡ overAll p → {old new : List ℕ} {r : Written} → RewritesItems p c old new r → Writes (canonicalMetadata p) old new r
     unfolding canonicalMetadata
-    any-written h w = payload-written anyItem p j says any-laxer h w
+    any-written h over w = payload-written anyItem p j says any-laxer h over w
 
   module _ (says : saysOf j ≡ verdict (judgeMetadata hintItem 0 p)) where
-    pub hints-refused : {old : List ℕ} {r : Refusal} → tagOf judged-type.the-type j ≡ 1 → r ≡ refusalIn j → Writes (canonicalHints p) old old (Refused r)
+    pub hints-refused : {old : List ℕ} {r : Refusal} → j ≡ NotAccepted r → Writes (canonicalHints p) old old (Refused r)
     unfolding canonicalHints
-    hints-refused h is = payload-refused hintItem p j says h is
+    hints-refused e = payload-refused hintItem p j says e
 
-    pub hints-known : tagOf judged-type.the-type j ≡ 0 → Known (table (table sized)) p (whole p)
-    hints-known h = payload-known hintItem p j says hint-laxer h
+    pub hints-known : tagOf judged-type.the-type j ≡ 0 → {c : Cursor} → c ≡ overAll p → Known (table (table sized)) p c
+    hints-known h over = payload-known hintItem p j says hint-laxer h over
 
-    pub hints-written : tagOf judged-type.the-type j ≡ 0 → {old new : List ℕ} {r : Written} → RewritesItems p (whole p) old new r → Writes (canonicalHints p) old new r
+    pub hints-written : tagOf judged-type.the-type j ≡ 0 → {c : Cursor} → c ≡ overAll p → {old new : List ℕ} {r : Written} → RewritesItems p c old new r → Writes (canonicalHints p) old new r
     unfolding canonicalHints
-    hints-written h w = payload-written hintItem p j says hint-laxer h w
+    hints-written h over w = payload-written hintItem p j says hint-laxer h over w
 
 pub ruleset payload-steps = (any-refused, any-known, any-written, hints-refused, hints-known, hints-written, needs)

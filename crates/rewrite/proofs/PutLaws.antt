@@ -18,10 +18,13 @@ use Rattle.reading.specs.declared.Cursor.{Cursor}
 use Rattle.writing.specs.Wrote.{Wrote}
 use Rattle.writing.proofs.Laws.{wrote-join, wrote-length}
 use Rattle.copying.specs.Bytes.{bareRows, rowsOf, keptGroups, groupsOf}
-use Rattle.copying.specs.Standing.{Stands, Known, TakesPart, FitsPart, Fits, Puts}
-use Rattle.copying.specs.declared.Piece.{Piece}
+use Rattle.reading.specs.Standing.{Stands, Known, TakesPart}
+use Rattle.copying.specs.Standing.{FitsPart, Fits, Puts}
+use Rattle.reading.specs.declared.again.Piece.{Piece}
 use Rattle.copying.specs.declared.Put.{Put}
-use Rattle.copying.proofs.Laws.{one-value, cut-left, known-count, part-fits, rows-count}
+use Rattle.reading.proofs.Standing.{one-value}
+use Rattle.copying.proofs.Laws.{cut-left, part-fits, rows-count}
+use Rattle.tables.proofs.Accepted.{known-count}
 use Rattle.names.specs.Contents.{kindMeant}
 use Rattle.names.specs.declared.kinds.Kind.{Kind}
 use Rattle.names.specs.declared.kinds.Kind.the-variants.{OneName, NameMap, IndirectMap, Kept}

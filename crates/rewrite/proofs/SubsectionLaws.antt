@@ -26,7 +26,8 @@ use Rattle.format.specs.Laws.Names.{contents-sound}
 use Rattle.format.specs.Laws.Trimming.{trim-shorter}
 use Rattle.reading.specs.Cursors.{Inside, left, partOf}
 use Rattle.reading.specs.declared.Cursor.{Cursor}
-use Rattle.copying.proofs.Laws.{stand, part-length, part-fits}
+use Rattle.reading.proofs.Standing.{stand}
+use Rattle.copying.proofs.Laws.{part-length, part-fits}
 use Rattle.copying.proofs.Measuring.{shortest-short}
 use Rattle.names.specs.Contents.{kindMeant}
 use Rattle.names.specs.declared.kinds.Kind.{Kind}

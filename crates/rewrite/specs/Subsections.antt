@@ -15,7 +15,7 @@ use Rattle.format.specs.declared.Written.{Written}
 use Rattle.reading.specs.Cursors.{Inside, left}
 use Rattle.reading.specs.declared.Cursor.{Cursor}
 use Rattle.writing.specs.Wrote.{Wrote}
-use Rattle.copying.specs.Standing.{Known, TakesPart}
+use Rattle.reading.specs.Standing.{Known, TakesPart}
 use Rattle.rewrite.specs.Contents.{ContentStands}
 use Rattle.rewrite.specs.declared.contents.Sizes.{Sizes}
 use Rattle.rewrite.specs.declared.contents.Left.{Left}

@@ -1,34 +1,19 @@
 // Code metadata that was accepted, written anew: each number in its fewest bytes, and no function without items.
-ghost use mathlib.Core.Path.{_≡_};
-ghost use Rattle.copying.specs.Standing.{Known};
+ghost use Rattle.reading.specs.Standing.{Known};
 ghost use Rattle.format.specs.Parts.{sized};
 ghost use Rattle.format.specs.Tables.{table};
-ghost use Rattle.rewrite.specs.Items.{refusalIn, RewritesItems};
+ghost use Rattle.rewrite.specs.Items.{RewritesItems};
 use crate::whole::put_whole;
 use copying::groups_length;
-use copying::number_here;
 use copying::put_groups;
 use format::Offset;
 use format::Reason;
 use format::Refusal;
 use format::Written;
-use metadata::Judged;
 use reading::Cursor;
+use reading::again::number_here;
 use writing::number_length;
 use writing::put_number;
-
-// The refusal of a judgement that is not accepted.
-pub fn refusal_of(judged: Judged) -> Refusal
-    ensures { λ r. ⌜ r ≡ refusalIn judged ⌝ }
-{
-    match judged {
-        Judged::Refused(r) => r,
-        Judged::Accepted => Refusal {
-            reason: Reason::NoPreamble,
-            offset: Offset(0),
-        },
-    }
-}
 
 // All functions with their items. They are measured first, so that nothing is stored where the output is too short; and where they come out as long as they are, they are copied.
 pub fn put_items(p: &[u8], c: Cursor, out: &mut [u8]) -> Written

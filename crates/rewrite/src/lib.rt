@@ -9,7 +9,6 @@ ghost use Rattle.format.specs.Names.{knownKind};
 ghost use Rattle.format.specs.Outputs.{Writes};
 use format::Written;
 use metadata::Judged;
-use names::asking;
 use names::judging;
 use reading::Cursor;
 
@@ -17,43 +16,28 @@ use reading::Cursor;
 pub fn names(p: &[u8], out: &mut [u8]) -> Written
     ensures { λ r. ⌜ Writes (canonicalNames knownKind (now (p .entry))) (now (out .entry)) (now (out .exit)) r ⌝ }
 {
-    let judged = judging::judge(p);
-    let judging::Judged::Accepted(_) = judged else {
-        return Written::Refused(asking::refusal_of(judged));
-    };
-    let all = Cursor {
-        at: 0,
-        end: p.len(),
-    };
-    subsections::put_payload(p, all, out)
+    match judging::judge(p) {
+        judging::Judged::Refused(r) => Written::Refused(r),
+        judging::Judged::Accepted(_) => subsections::put_payload(p, Cursor::over(p), out),
+    }
 }
 
 // The canonical form of a metadata payload of any format.
 pub fn metadata(p: &[u8], out: &mut [u8]) -> Written
     ensures { λ r. ⌜ Writes (canonicalMetadata (now (p .entry))) (now (out .entry)) (now (out .exit)) r ⌝ }
 {
-    let judged = metadata::judge(p);
-    let Judged::Accepted = judged else {
-        return Written::Refused(items::refusal_of(judged));
-    };
-    let all = Cursor {
-        at: 0,
-        end: p.len(),
-    };
-    items::put_items(p, all, out)
+    match metadata::judge(p) {
+        Judged::Refused(r) => Written::Refused(r),
+        Judged::Accepted => items::put_items(p, Cursor::over(p), out),
+    }
 }
 
 // The canonical form of a payload of branch hints.
 pub fn hints(p: &[u8], out: &mut [u8]) -> Written
     ensures { λ r. ⌜ Writes (canonicalHints (now (p .entry))) (now (out .entry)) (now (out .exit)) r ⌝ }
 {
-    let judged = metadata::judge_hints(p);
-    let Judged::Accepted = judged else {
-        return Written::Refused(items::refusal_of(judged));
-    };
-    let all = Cursor {
-        at: 0,
-        end: p.len(),
-    };
-    items::put_items(p, all, out)
+    match metadata::judge_hints(p) {
+        Judged::Refused(r) => Written::Refused(r),
+        Judged::Accepted => items::put_items(p, Cursor::over(p), out),
+    }
 }

@@ -7,7 +7,6 @@ use crate::contents::Left;
 use crate::contents::content_left;
 use crate::contents::put_content;
 use crate::whole::put_whole;
-use copying::part_here;
 use copying::sized_length;
 use format::Offset;
 use format::Reason;
@@ -15,6 +14,7 @@ use format::Refusal;
 use format::Written;
 use names::kinds::kind_of;
 use reading::Cursor;
+use reading::again::part_here;
 use writing::put_byte;
 use writing::put_number;
 

@@ -3,3 +3,8 @@ pub mod Laws
 pub mod Hints
 pub mod RowSteps
 pub mod Turns
+pub mod Accepted
+pub mod Along
+pub mod StepLaws
+pub mod FindLaws
+pub mod Same

@@ -11,7 +11,7 @@ use lib.Dec.{leb}
 use Rattle.format.specs.Reading.{Outcome, got, stop, Reader}
 use Rattle.format.specs.Numbers.{number}
 use Rattle.format.specs.Parts.{Part, sized}
-use Rattle.format.specs.Tables.{Table, lookup, table}
+use Rattle.format.specs.Tables.{Table, table}
 use Rattle.format.specs.Metadata.{hintOf, anyItem, hintItem}
 use Rattle.format.specs.Options.{isSome}
 use Rattle.format.specs.Text.{utf8}
@@ -26,10 +26,11 @@ use Rattle.reading.specs.declared.PartRead.{PartRead}
 use Rattle.reading.specs.declared.PartRead.the-variants.{Part as APart, Refused as NoPart}
 use Rattle.reading.proofs.Laws.{number-means, number-inside, number-end, sized-means, part-behind}
 use Rattle.reading.proofs.PartSteps.{name-refused, name-taken, name-not-text}
-use Rattle.tables.specs.Seeking.{readerOf, isItem, notItem, sought, Seeks}
+use Rattle.tables.specs.Seeking.{readerOf, isItem, notItem, wantedIn, sought, Seeks}
 use Rattle.tables.specs.Steps.{indexFrom, IndexReads, passing, RowReads}
 use Rattle.tables.specs.declared.Item.{Item}
 use Rattle.tables.specs.declared.Item.the-variants.{Name, Data, Hint}
+use Rattle.tables.specs.declared.Wanted.{Wanted}
 use Rattle.tables.specs.declared.Seek.{Seek}
 use Rattle.tables.specs.declared.Seek.the-variants.{None, Found, Refused as NoSeek}
 use Rattle.tables.specs.declared.Held.the-variants.{Nothing, Part as Held·Part}
@@ -146,7 +147,7 @@ module _ {s : List ℕ} {c : Cursor} {x : NumberRead} {least : ℕ} where
         }
 
 -- one whose value is a table: what the table was asked
-inSought : {C : Type 0} (value : Reader Part) (inner o : ℕ) (bs : List ℕ) {found : Option Part} {o′ : ℕ} {rest : List ℕ} → sought value inner o bs ≡ got found o′ rest → ((t : Table Part) → table value o bs ≡ got t o′ rest → lookup inner t ≡ found → C) → C
+inSought : {C : Type 0} (value : Reader Part) (inner : Wanted) (o : ℕ) (bs : List ℕ) {found : Option Part} {o′ : ℕ} {rest : List ℕ} → sought value inner o bs ≡ got found o′ rest → ((t : Table Part) → table value o bs ≡ got t o′ rest → wantedIn inner t ≡ found → C) → C
 unfolding sought
 inSought value inner o bs e k = inTurn (table value o bs) _ e λ t o₁ r₁ e₁ e₂. k t (rw (got-next e₂, got-rest e₂) at e₁) (got-value e₂)
 
@@ -154,16 +155,16 @@ inSought value inner o bs e k = inTurn (table value o bs) _ e λ t o₁ r₁ e�
 stops-alike : {A B : Type 0} {n m at at′ : ℕ} → _≡_ {A = Outcome A} (stop n at) (stop m at′) → _≡_ {A = Outcome B} (stop m at′) (stop n at)
 stops-alike {n = n} {m = m} {at = at} {at′ = at′} e = let number : n ≡ m = cc in let place : at ≡ at′ = cc in rw (number, place)
 
-unsought : (value : Reader Part) (inner o : ℕ) (bs : List ℕ) {n at : ℕ} → stop n at ≡ sought value inner o bs → table value o bs ≡ stop n at
+unsought : (value : Reader Part) (inner : Wanted) (o : ℕ) (bs : List ℕ) {n at : ℕ} → stop n at ≡ sought value inner o bs → table value o bs ≡ stop n at
 unfolding sought
 unsought value inner o bs e = byOutcome (table value o bs) (λ t o₁ r₁ e₁. absurd (not-got (rw e₁ at e))) (λ n at e₁. e₁ ∙ stops-alike (rw e₁ at e))
 
-module _ (value : Reader Part) (inner : ℕ) {s : List ℕ} {c : Cursor} {x : NumberRead} {least k : ℕ} {d : Cursor} {y : Seek} where
-  pub group-refused : {r : Refusal} → IndexReads least s c x → x ≡ Value k d → Seeks (sought value inner) s d y → y ≡ NoSeek r → RowReads (table value) (lookup inner) least s c (NoRow r)
+module _ (value : Reader Part) (inner : Wanted) {s : List ℕ} {c : Cursor} {x : NumberRead} {least k : ℕ} {d : Cursor} {y : Seek} where
+  pub group-refused : {r : Refusal} → IndexReads least s c x → x ≡ Value k d → Seeks (sought value inner) s d y → y ≡ NoSeek r → RowReads (table value) (wantedIn inner) least s c (NoRow r)
   unfolding passing
   group-refused n e v q = record { means = rw (index-means n e, unsought value inner (d .at) (left s d) (rw q at (v .means))); same-part = tt }
 
-  pub group-none : {next : Cursor} → Inside s c → IndexReads least s c x → x ≡ Value k d → Seeks (sought value inner) s d y → y ≡ None next → RowReads (table value) (lookup inner) least s c (Row k Nothing next)
+  pub group-none : {next : Cursor} → Inside s c → IndexReads least s c x → x ≡ Value k d → Seeks (sought value inner) s d y → y ≡ None next → RowReads (table value) (wantedIn inner) least s c (Row k Nothing next)
   unfolding passing
   group-none i n e v q =
       inSought value inner (d .at) (left s d) (none-means v q) λ t e₁ is.
@@ -172,7 +173,7 @@ module _ (value : Reader Part) (inner : ℕ) {s : List ℕ} {c : Cursor} {x : Nu
       let end = index-end n e in
       record { means = rw (index-means n e, e₁, is); same-part = (tt, omega (arith, b .ahead), far ∙ end) }
 
-  pub group-found : {part next : Cursor} → Inside s c → IndexReads least s c x → x ≡ Value k d → Seeks (sought value inner) s d y → y ≡ Found part next → RowReads (table value) (lookup inner) least s c (Row k (Held·Part part) next)
+  pub group-found : {part next : Cursor} → Inside s c → IndexReads least s c x → x ≡ Value k d → Seeks (sought value inner) s d y → y ≡ Found part next → RowReads (table value) (wantedIn inner) least s c (Row k (Held·Part part) next)
   unfolding passing
   group-found i n e v q =
       inSought value inner (d .at) (left s d) (found-means v q) λ t e₁ is.

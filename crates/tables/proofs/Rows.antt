@@ -8,11 +8,12 @@ use native.Mathlib.Omega.{arith}
 use borrow.Author.Tests.{eqb-true, ne-eqb}
 use lib.Dec.{leb, eqb}
 use Rattle.format.specs.Reading.{Outcome, got, stop, Reader, andThen, return}
-use Rattle.format.specs.Numbers.{number}
+use Rattle.format.specs.Numbers.{number, limit32}
 use Rattle.format.specs.Parts.{Part}
 use Rattle.format.specs.Tables.{Table, row, lookup, rows}
 use Rattle.format.specs.Options.{thenSome, orElse}
 use Rattle.format.specs.Laws.Outcomes.{got-value, byTest, byOutcome}
+use Rattle.format.specs.Laws.Codecs.{number-sound}
 use Rattle.format.specs.Laws.Turns.{inRow}
 use Rattle.tables.specs.Steps.{indexFrom, Passed, passing}
 
@@ -31,6 +32,14 @@ rows-above value zero least o bs key e h = rw (← got-value e)
 rows-above value (suc n) least o bs key e h =
     inRow value n least o bs e λ k o₁ r₁ v o₂ r₂ more e₁ above e₂ e₃ is.
     rw (← is, ne-eqb key k (λ q. omega arith)) (rows-above value n (suc k) o₂ r₂ key e₃ (omega arith))
+
+-- no row has a number that 32 bits do not hold: where that is wanted, nothing is found
+pub nothing-found : {A : Type 0} (value : Reader A) (n least o : ℕ) (bs : List ℕ) {t : Table A} {o′ : ℕ} {rest : List ℕ} → rows value n least o bs ≡ got t o′ rest → lookup limit32 t ≡ none
+unfolding rows lookup
+nothing-found value zero least o bs e = rw (← got-value e)
+nothing-found value (suc n) least o bs e =
+    inRow value n least o bs e λ k o₁ r₁ v o₂ r₂ more e₁ above e₂ e₃ is.
+    rw (← is, ne-eqb limit32 k (λ q. omega (arith, number-sound o bs e₁ .fine))) (nothing-found value n (suc k) o₂ r₂ e₃)
 
 module _ {A : Type 0} (answer : A → Option Part) (key : ℕ) where
   -- what is held, or else what the value at `key` answers

@@ -11,7 +11,7 @@ use borrow.Author.Tests.{eq-eqb, ne-eqb}
 use lib.Dec.{eqb}
 use Rattle.format.specs.Reading.{got, Reader, andThen}
 use Rattle.format.specs.Parts.{Part}
-use Rattle.format.specs.Tables.{lookup, rows, table}
+use Rattle.format.specs.Tables.{rows, table}
 use Rattle.format.specs.Options.{orElse}
 use Rattle.format.specs.Laws.Outcomes.{byTest}
 use Rattle.format.specs.declared.Refusal.{Refusal}
@@ -20,8 +20,9 @@ use Rattle.reading.specs.declared.Cursor.{Cursor}
 use Rattle.reading.specs.declared.NumberRead.{NumberRead}
 use Rattle.reading.specs.declared.NumberRead.the-variants.{Value, Refused as NoNumber}
 use Rattle.reading.proofs.Laws.{number-means, number-inside, number-end}
-use Rattle.tables.specs.Seeking.{sought, soughtWithin, seekOutcome, seekEnd, seekAhead, Seeks}
+use Rattle.tables.specs.Seeking.{wantedIn, sought, soughtWithin, seekOutcome, seekEnd, seekAhead, Seeks}
 use Rattle.tables.specs.Steps.{passing, soughtRows, heldOf, heldEnd, RowReads, keptOf, seekOf}
+use Rattle.tables.specs.declared.Wanted.{Wanted}
 use Rattle.tables.specs.declared.Seek.{Seek}
 use Rattle.tables.specs.declared.Seek.the-variants.{None, Found, Refused as NoSeek}
 use Rattle.tables.specs.declared.Held.{Held}
@@ -114,21 +115,21 @@ pub ruleset turns = (turn-begins, turn-refused, turn-row, turn-ends, needs)
 
 -- A table: how many rows it has, and the rows
 module _ {s : List ℕ} {c : Cursor} {x : NumberRead} where
-  module _ (value : Reader Part) (key : ℕ) where
-    pub table-no-count : {r : Refusal} → NumberReads s c x → x ≡ NoNumber r → Seeks (sought value key) s c (NoSeek r)
+  module _ (value : Reader Part) (wanted : Wanted) where
+    pub table-no-count : {r : Refusal} → NumberReads s c x → x ≡ NoNumber r → Seeks (sought value wanted) s c (NoSeek r)
     unfolding sought table
     table-no-count n e = record { means = rw (← rw e at (n .means)); same-part = tt; ahead = tt }
 
-    pub table-counted : {m : ℕ} {d : Cursor} {y : Seek} → NumberReads s c x → x ≡ Value m d → Seeks (soughtRows value some key m) s d y → Seeks (sought value key) s c y
+    pub table-counted : {m : ℕ} {d : Cursor} {y : Seek} → NumberReads s c x → x ≡ Value m d → Seeks (soughtRows value some (wanted .0) m) s d y → Seeks (sought value wanted) s c y
     unfolding sought table soughtRows
     table-counted n e r = let far = number-end n e in record { means = r .means ∙ rw (number-means n e) (simp then-some); same-part = rw (← far) (r .same-part); ahead = rw (← far) (r .ahead) }
 
-  module _ (value : Reader Part) (key inner : ℕ) where
-    pub tables-no-count : {r : Refusal} → NumberReads s c x → x ≡ NoNumber r → Seeks (soughtWithin value key inner) s c (NoSeek r)
+  module _ (value : Reader Part) (wanted inner : Wanted) where
+    pub tables-no-count : {r : Refusal} → NumberReads s c x → x ≡ NoNumber r → Seeks (soughtWithin value wanted inner) s c (NoSeek r)
     unfolding soughtWithin table
     tables-no-count n e = record { means = rw (← rw e at (n .means)); same-part = tt; ahead = tt }
 
-    pub tables-counted : {m : ℕ} {d : Cursor} {y : Seek} → NumberReads s c x → x ≡ Value m d → Seeks (soughtRows (table value) (lookup inner) key m) s d y → Seeks (soughtWithin value key inner) s c y
+    pub tables-counted : {m : ℕ} {d : Cursor} {y : Seek} → NumberReads s c x → x ≡ Value m d → Seeks (soughtRows (table value) (wantedIn inner) (wanted .0) m) s d y → Seeks (soughtWithin value wanted inner) s c y
     unfolding soughtWithin table soughtRows
     tables-counted n e r = let far = number-end n e in record { means = r .means ∙ rw (number-means n e); same-part = rw (← far) (r .same-part); ahead = rw (← far) (r .ahead) }
 

@@ -1,2 +1,4 @@
 pub mod Seeking
 pub mod Steps
+pub mod Stepping
+pub mod Finding

@@ -6,7 +6,7 @@ use mathlib.Core.Option.{Option, none, some}
 use mathlib.Core.Path.{_≡_}
 use Rattle.format.specs.Reading.{_>>=_, Outcome, got, Reader, return}
 use Rattle.format.specs.Parts.{Part, name}
-use Rattle.format.specs.Tables.{lookup, table}
+use Rattle.format.specs.Tables.{Table, lookup, table}
 use Rattle.format.specs.Metadata.{hintOf, anyItem, hintItem}
 use Rattle.format.specs.Text.{utf8}
 use Rattle.format.specs.declared.Refusal.{Refusal}
@@ -16,6 +16,7 @@ use Rattle.reading.specs.Cursors.{left, partOf, refusalOf}
 use Rattle.reading.specs.declared.Cursor.{Cursor}
 use Rattle.tables.specs.declared.Item.{Item}
 use Rattle.tables.specs.declared.Item.the-variants.{Name, Data, Hint}
+use Rattle.tables.specs.declared.Wanted.{Wanted}
 use Rattle.tables.specs.declared.Seek.{Seek}
 use Rattle.tables.specs.declared.Seek.the-variants.{None, Found, Refused}
 
@@ -36,17 +37,21 @@ notItem Name size text = record { reason = NotText; offset = record { 0 = text }
 notItem Data size text = record { reason = NotText; offset = record { 0 = text } }
 notItem Hint size text = record { reason = NotHint; offset = record { 0 = size } }
 
--- what a table has at `key`
-unfoldable pub sought : Reader Part → ℕ → Reader (Option Part)
-sought value key = do
-  t ← table value
-  return (lookup key t)
+-- what a table has at the number that is wanted
+abbrev pub wantedIn : {A : Type 0} → Wanted → Table A → Option A
+wantedIn wanted t = lookup (wanted .0) t
 
--- what the table at `key` has at `inner`
-unfoldable pub soughtWithin : Reader Part → ℕ → ℕ → Reader (Option Part)
-soughtWithin value key inner = do
+-- what is wanted of a table
+unfoldable pub sought : Reader Part → Wanted → Reader (Option Part)
+sought value wanted = do
+  t ← table value
+  return (wantedIn wanted t)
+
+-- what is wanted of the table that is wanted
+unfoldable pub soughtWithin : Reader Part → (wanted inner : Wanted) → Reader (Option Part)
+soughtWithin value wanted inner = do
   t ← table (table value)
-  return (thenSome (lookup key t) (lookup inner))
+  return (thenSome (wantedIn wanted t) (wantedIn inner))
 
 -- what a search found
 abbrev pub seekOutcome : List ℕ → Seek → Outcome (Option Part)

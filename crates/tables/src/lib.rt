@@ -4,9 +4,9 @@ ghost use mathlib.Core.Path.{_≡_};
 ghost use Rattle.format.specs.Options.{isSome};
 ghost use Rattle.format.specs.Metadata.{hintOf};
 ghost use Rattle.format.specs.Text.{utf8};
-ghost use Rattle.format.specs.Tables.{table, lookup};
+ghost use Rattle.format.specs.Tables.{table};
 ghost use Rattle.reading.specs.Cursors.{Inside, left, PartReads};
-ghost use Rattle.tables.specs.Seeking.{readerOf, isItem, notItem, sought, soughtWithin, Seeks};
+ghost use Rattle.tables.specs.Seeking.{readerOf, isItem, notItem, wantedIn, sought, soughtWithin, Seeks};
 ghost use Rattle.tables.specs.Steps.{isShortHint, isShort, IndexReads, RowReads, keptOf, seekOf, soughtRows};
 use format::Offset;
 use format::Reason;
@@ -15,6 +15,9 @@ use reading::Cursor;
 use reading::NumberRead;
 use reading::PartRead;
 use reading::text::is_text;
+
+pub mod finding;
+pub mod stepping;
 
 // A hint's data is one byte.
 const HINT_SIZE: usize = 1;
@@ -33,6 +36,12 @@ pub enum Item {
     Data,
     Hint,
 }
+
+// What a search is for: what a table has at this number.
+pub struct Wanted(pub u64);
+
+// No row has this number, which is above those that 32 bits hold: where nothing is wanted, a table is judged alone.
+pub const NOTHING: Wanted = Wanted(0x1_0000_0000);
 
 // What a search finds: the cursor behind the table, and before it the part that was found.
 pub enum Seek {
@@ -196,10 +205,10 @@ fn row(c: Cursor, s: &[u8], item: Item, least: u64) -> RowRead
     }
 }
 
-// A row whose value is a table, which answers with what it has at `inner`.
-fn group(c: Cursor, s: &[u8], item: Item, inner: u32, least: u64) -> RowRead
+// A row whose value is a table, which answers with what is wanted of it.
+fn group(c: Cursor, s: &[u8], item: Item, inner: Wanted, least: u64) -> RowRead
     requires { ⌜ Inside (now s) c ⌝ }
-    ensures { λ r. ⌜ RowReads (table (readerOf item)) (lookup inner) least (now (s .entry)) c r ⌝ }
+    ensures { λ r. ⌜ RowReads (table (readerOf item)) (wantedIn inner) least (now (s .entry)) c r ⌝ }
 {
     match index(c, s, least) {
         NumberRead::Refused(r) => RowRead::Refused(r),
@@ -212,13 +221,13 @@ fn group(c: Cursor, s: &[u8], item: Item, inner: u32, least: u64) -> RowRead
 }
 
 // What is held once a row was passed: the first answer of a row with the key.
-fn kept(held: Held, key: u32, k: u32, answer: Held) -> Held
+fn kept(held: Held, key: u64, k: u32, answer: Held) -> Held
     ensures { λ r. ⌜ r ≡ keptOf held key k answer ⌝ }
 {
     match held {
         Held::Part(part) => Held::Part(part),
         Held::Nothing => {
-            if key == k {
+            if key == (k as u64) {
                 return answer;
             }
             Held::Nothing
@@ -237,7 +246,7 @@ fn ended(held: Held, next: Cursor) -> Seek
 }
 
 // So many rows with items.
-fn table_rows(c: Cursor, s: &[u8], item: Item, key: u32, n: u32) -> Seek
+fn table_rows(c: Cursor, s: &[u8], item: Item, key: u64, n: u32) -> Seek
     requires { ⌜ Inside (now s) c ⌝ }
     ensures { λ r. ⌜ Seeks (soughtRows (readerOf item) some key n) (now (s .entry)) c r ⌝ }
 {
@@ -261,21 +270,21 @@ fn table_rows(c: Cursor, s: &[u8], item: Item, key: u32, n: u32) -> Seek
     ended(held, next)
 }
 
-// A list of (rising number, item): what it has at `key`.
-pub fn table(c: Cursor, s: &[u8], item: Item, key: u32) -> Seek
+// A list of (rising number, item): what is wanted of it.
+pub fn table(c: Cursor, s: &[u8], item: Item, wanted: Wanted) -> Seek
     requires { ⌜ Inside (now s) c ⌝ }
-    ensures { λ r. ⌜ Seeks (sought (readerOf item) key) (now (s .entry)) c r ⌝ }
+    ensures { λ r. ⌜ Seeks (sought (readerOf item) wanted) (now (s .entry)) c r ⌝ }
 {
     match c.number(s) {
         NumberRead::Refused(r) => Seek::Refused(r),
-        NumberRead::Value(n, d) => table_rows(d, s, item, key, n),
+        NumberRead::Value(n, d) => table_rows(d, s, item, wanted.0, n),
     }
 }
 
 // So many rows with tables.
-fn tables_rows(c: Cursor, s: &[u8], item: Item, key: u32, inner: u32, n: u32) -> Seek
+fn tables_rows(c: Cursor, s: &[u8], item: Item, key: u64, inner: Wanted, n: u32) -> Seek
     requires { ⌜ Inside (now s) c ⌝ }
-    ensures { λ r. ⌜ Seeks (soughtRows (table (readerOf item)) (lookup inner) key n) (now (s .entry)) c r ⌝ }
+    ensures { λ r. ⌜ Seeks (soughtRows (table (readerOf item)) (wantedIn inner) key n) (now (s .entry)) c r ⌝ }
 {
     let mut next = c;
     let mut least: u64 = 0;
@@ -297,13 +306,13 @@ fn tables_rows(c: Cursor, s: &[u8], item: Item, key: u32, inner: u32, n: u32) ->
     ended(held, next)
 }
 
-// A list of (rising number, table): what the table at `key` has at `inner`.
-pub fn tables(c: Cursor, s: &[u8], item: Item, key: u32, inner: u32) -> Seek
+// A list of (rising number, table): what is wanted of the one that is wanted.
+pub fn tables(c: Cursor, s: &[u8], item: Item, wanted: Wanted, inner: Wanted) -> Seek
     requires { ⌜ Inside (now s) c ⌝ }
-    ensures { λ r. ⌜ Seeks (soughtWithin (readerOf item) key inner) (now (s .entry)) c r ⌝ }
+    ensures { λ r. ⌜ Seeks (soughtWithin (readerOf item) wanted inner) (now (s .entry)) c r ⌝ }
 {
     match c.number(s) {
         NumberRead::Refused(r) => Seek::Refused(r),
-        NumberRead::Value(n, d) => tables_rows(d, s, item, key, inner, n),
+        NumberRead::Value(n, d) => tables_rows(d, s, item, wanted.0, inner, n),
     }
 }

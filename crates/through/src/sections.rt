@@ -40,10 +40,7 @@ pub fn metadata_section(m: &[u8], format: &[u8]) -> Answer
 pub fn item_of(format: &[u8]) -> Item
     ensures { λ r. ⌜ r ≡ itemCalled (now (format .entry)) ⌝ }
 {
-    let all = Cursor {
-        at: 0,
-        end: format.len(),
-    };
+    let all = Cursor::over(format);
     if is_called(format, all, &BRANCH_HINT) {
         return Item::Hint;
     }

@@ -3,19 +3,28 @@ use Rattle.copying.proofs.groups_length.Statement.{statement}
 use Rattle.copying.proofs.groups_length.Tie as tie
 
 abbrev Inv-loop : tie.InvT-loop
-Inv-loop s n next₀ more₀ kept₀ length₀ next more kept length = CountingGroups n s next₀ next more kept length
+Inv-loop s n left₀ kept₀ length₀ left kept length = CountingGroups s left₀ left kept length
 
 abbrev μ-loop : tie.MeasureT-loop
-μ-loop s n next₀ more₀ kept₀ length₀ next more kept length = more
+μ-loop s n left₀ kept₀ length₀ left kept length = left .more
 
 loop-holds : tie.Need-loop-holds Inv-loop μ-loop
 loop-holds c = search counting-groups
 
-number-here-requires : tie.Need-number-here-requires Inv-loop μ-loop
-number-here-requires c κs = search counting-groups
+group-step-requires : tie.Need-group-step-requires Inv-loop μ-loop
+group-step-requires c κs = search counting-groups
 
-number-here-requires-2 : tie.Need-number-here-requires-2 Inv-loop μ-loop
-number-here-requires-2 c κs = search counting-groups
+enum-told : tie.Need-enum-told Inv-loop μ-loop
+enum-told c = search counting-groups
+
+returns : tie.Need-returns Inv-loop μ-loop
+returns c = search counting-groups
+
+enum-known-index : tie.Need-enum-known-index Inv-loop μ-loop
+enum-known-index c = search counting-groups
+
+rows-here-requires : tie.Need-rows-here-requires Inv-loop μ-loop
+rows-here-requires c κs = search counting-groups
 
 rows-length-requires : tie.Need-rows-length-requires Inv-loop μ-loop
 rows-length-requires c κs = search counting-groups
@@ -32,17 +41,14 @@ add-length c = search counting-groups
 add-kept : tie.Need-add-kept Inv-loop μ-loop
 add-kept c = search counting-groups
 
-sub-more : tie.Need-sub-more Inv-loop μ-loop
-sub-more c = search counting-groups
+behind-requires : tie.Need-behind-requires Inv-loop μ-loop
+behind-requires c κs = search counting-groups
 
 loop-less : tie.Need-loop-less Inv-loop μ-loop
 loop-less c = search counting-groups
 
 loop-again : tie.Need-loop-again Inv-loop μ-loop
 loop-again c = search counting-groups
-
-returns : tie.Need-returns Inv-loop μ-loop
-returns c = search counting-groups
 
 pub groups-length-spec : {M : Type 1} → statement M
 groups-length-spec =
@@ -51,14 +57,16 @@ groups-length-spec =
     Inv-loop
     μ-loop
     loop-holds
-    number-here-requires
-    number-here-requires-2
+    group-step-requires
+    enum-told
+    returns
+    enum-known-index
+    rows-here-requires
     rows-length-requires
     group-length-requires
     one-if-some-requires
     add-length
     add-kept
-    sub-more
+    behind-requires
     loop-less
-    loop-again
-    returns)
+    loop-again)

@@ -3,19 +3,25 @@ use Rattle.copying.proofs.rows_length.Statement.{statement}
 use Rattle.copying.proofs.rows_length.Tie as tie
 
 abbrev Inv-loop : tie.InvT-loop
-Inv-loop s n next₀ more₀ length₀ next more length = Counting n s next₀ next more length
+Inv-loop s n left₀ length₀ left length = Counting s left₀ left length
 
 abbrev μ-loop : tie.MeasureT-loop
-μ-loop s n next₀ more₀ length₀ next more length = more
+μ-loop s n left₀ length₀ left length = left .more
 
 loop-holds : tie.Need-loop-holds Inv-loop μ-loop
 loop-holds c = search counting
 
-number-here-requires : tie.Need-number-here-requires Inv-loop μ-loop
-number-here-requires c κs = search counting
+row-step-requires : tie.Need-row-step-requires Inv-loop μ-loop
+row-step-requires c κs = search counting
 
-part-here-requires : tie.Need-part-here-requires Inv-loop μ-loop
-part-here-requires c κs = search counting
+enum-told : tie.Need-enum-told Inv-loop μ-loop
+enum-told c = search counting
+
+returns : tie.Need-returns Inv-loop μ-loop
+returns c = search counting
+
+enum-known-index : tie.Need-enum-known-index Inv-loop μ-loop
+enum-known-index c = search counting
 
 number-length-requires : tie.Need-number-length-requires Inv-loop μ-loop
 number-length-requires c κs = search counting
@@ -32,17 +38,14 @@ add-length c = search counting
 add-length-2 : tie.Need-add-length-2 Inv-loop μ-loop
 add-length-2 c = search counting
 
-sub-more : tie.Need-sub-more Inv-loop μ-loop
-sub-more c = search counting
+behind-requires : tie.Need-behind-requires Inv-loop μ-loop
+behind-requires c κs = search counting
 
 loop-less : tie.Need-loop-less Inv-loop μ-loop
 loop-less c = search counting
 
 loop-again : tie.Need-loop-again Inv-loop μ-loop
 loop-again c = search counting
-
-returns : tie.Need-returns Inv-loop μ-loop
-returns c = search counting
 
 pub rows-length-spec : {M : Type 1} → statement M
 rows-length-spec =
@@ -51,14 +54,15 @@ rows-length-spec =
     Inv-loop
     μ-loop
     loop-holds
-    number-here-requires
-    part-here-requires
+    row-step-requires
+    enum-told
+    returns
+    enum-known-index
     number-length-requires
     sub-sized-length
     sized-length-requires
     add-length
     add-length-2
-    sub-more
+    behind-requires
     loop-less
-    loop-again
-    returns)
+    loop-again)

@@ -2,6 +2,9 @@ use Rattle.metadata.proofs.WholeLaws.{wholes}
 use Rattle.metadata.proofs.hint.Statement.{statement}
 use Rattle.metadata.proofs.hint.Tie as tie
 
+over-requires : tie.Need-over-requires
+over-requires c κs = search wholes
+
 hint-in-requires : tie.Need-hint-in-requires
 hint-in-requires c κs = search wholes
 
@@ -9,4 +12,4 @@ returns : tie.Need-returns
 returns c = search wholes
 
 pub hint-spec : {M : Type 1} → statement M
-hint-spec = tie.close (tie.spec hint-in-requires returns)
+hint-spec = tie.close (tie.spec over-requires hint-in-requires returns)

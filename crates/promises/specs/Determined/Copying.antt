@@ -5,17 +5,15 @@ use mathlib.Core.Path.{_≡_}
 use lib.ListN.{length}
 use Rattle.format.specs.Canonical.{writePart}
 use Rattle.format.specs.Determined.{Determines, equal-determined}
-use Rattle.format.specs.Numbers.{number, shortest}
+use Rattle.format.specs.Numbers.{shortest}
 use Rattle.format.specs.Parts.{sized}
 use Rattle.format.specs.Reading.{Reader}
 use Rattle.format.specs.Tables.{rows, table}
-use Rattle.copying.proofs.Same.{number-here-same, part-here-same, measured-same, groups-same, put-same}
+use Rattle.copying.proofs.Same.{measured-same, groups-same, put-same}
 use Rattle.copying.specs.Bytes.{rowsOf, groupsOf}
-use Rattle.copying.specs.Standing.{Stands, TakesPart, Measures, MeasuresGroups, Puts}
+use Rattle.copying.specs.Standing.{Measures, MeasuresGroups, Puts}
 use Rattle.copying.specs.declared.Groups.{Groups}
 use Rattle.copying.specs.declared.Measured.{Measured}
-use Rattle.copying.specs.declared.Number.{Number}
-use Rattle.copying.specs.declared.Piece.{Piece}
 use Rattle.copying.specs.declared.Put.{Put}
 use Rattle.reading.specs.Cursors.{left}
 use Rattle.reading.specs.declared.Cursor.{Cursor}
@@ -25,12 +23,6 @@ use Rattle.promises.specs.Determined.Writing.{wrote-determined}
 -- One answer and one end state alone meet the promise that what stands there is written
 pub put-determined : {A : Type 0} (read : Reader A) (write : A → List ℕ) (s : List ℕ) (c : Cursor) (old : List ℕ) (at : ℕ) → Determines (λ (r : Put × List ℕ). Puts read write s c old (r .1) at (r .0))
 put-determined read write s c old at a b p q = let one = put-same read write (a .0) (b .0) p q in λ i. (one .0 i, one .1 i)
-
-pub number-here-determined : (c : Cursor) (s : List ℕ) → Determines (λ (r : Number). Stands number s c (r .value) (r .next))
-number-here-determined c s = number-here-same
-
-pub part-here-determined : (c : Cursor) (s : List ℕ) → Determines (λ (r : Piece). TakesPart s c r)
-part-here-determined c s = part-here-same
 
 pub sized-length-determined : (size : ℕ) → Determines (λ (r : ℕ). r ≡ length (shortest size) + size)
 sized-length-determined size = equal-determined _

@@ -14,7 +14,7 @@ use Rattle.format.specs.Tables.{Table}
 use Rattle.format.specs.declared.Answer.{Answer}
 use Rattle.format.specs.declared.Refusal.{Refusal}
 use Rattle.names.proofs.Same.{judge-same, kind-same, frame-same, placed-same, stands-same}
-use Rattle.names.specs.Contents.{kindMeant, Asks, Rules, endOf}
+use Rattle.names.specs.Contents.{kindMeant, Asks, Rules}
 use Rattle.names.specs.Frames.{frame, subsection, FrameReads, judgeFrames}
 use Rattle.names.specs.Places.{Puts, placedAt, AsksAt, Judges, refusalIn, Finds}
 use Rattle.names.specs.declared.frames.FrameRead.{FrameRead}
@@ -24,7 +24,6 @@ use Rattle.names.specs.declared.places.Places.{Places}
 use Rattle.tables.specs.declared.Held.{Held}
 use Rattle.reading.specs.Cursors.{left}
 use Rattle.reading.specs.declared.Cursor.{Cursor}
-use Rattle.tables.specs.declared.Seek.{Seek}
 
 -- names
 pub ask-determined : (p : List ℕ) (q : Question) → Determines (λ (r : Answer). answered r ≡ asPlace (ask knownKind q p))
@@ -52,15 +51,6 @@ all-kept-determined s place a b h h′ = same-answer a b (h .says ∙ sym (h′ 
 -- names::contents
 pub one-name-determined : (s : List ℕ) (part : Cursor) → Determines (λ (r : Answer). Asks oneName ItsName s part r)
 one-name-determined s part a b h h′ = same-answer a b (h .says ∙ sym (h′ .says))
-
-pub name-map-determined : (s : List ℕ) (part : Cursor) (key : ℕ) → Determines (λ (r : Answer). Asks nameMap (NameOf key) s part r)
-name-map-determined s part key a b h h′ = same-answer a b (h .says ∙ sym (h′ .says))
-
-pub indirect-map-determined : (s : List ℕ) (part : Cursor) (key inner : ℕ) → Determines (λ (r : Answer). Asks indirectMap (NameWithin key inner) s part r)
-indirect-map-determined s part key inner a b h h′ = same-answer a b (h .says ∙ sym (h′ .says))
-
-pub ended-determined : (found : Seek) → Determines (λ (r : Answer). r ≡ endOf found)
-ended-determined found = equal-determined _
 
 -- names::frames
 pub frame-determined : (s : List ℕ) (c : Cursor) (least : ℕ) → Determines (λ (r : FrameRead). FrameReads frame least s c r)

@@ -1,11 +1,11 @@
-use Rattle.format.specs.Tables.{lookup, table}
-use Rattle.tables.specs.Seeking.{readerOf}
+use Rattle.format.specs.Tables.{table}
+use Rattle.tables.specs.Seeking.{readerOf, wantedIn}
 use Rattle.tables.proofs.Turns.{Turn, turns}
 use Rattle.tables.proofs.tables_rows.Statement.{statement}
 use Rattle.tables.proofs.tables_rows.Tie as tie
 
 abbrev Inv-loop : tie.InvT-loop
-Inv-loop s item key inner n next₀ least₀ more₀ held₀ next least more held = Turn (table (readerOf item)) (lookup inner) key n s next₀ next least more held
+Inv-loop s item key inner n next₀ least₀ more₀ held₀ next least more held = Turn (table (readerOf item)) (wantedIn inner) key n s next₀ next least more held
 
 abbrev μ-loop : tie.MeasureT-loop
 μ-loop s item key inner n next₀ least₀ more₀ held₀ next least more held = more

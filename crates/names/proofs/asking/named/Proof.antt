@@ -8,11 +8,11 @@ enum-told c = search map-steps
 enum-known-place : tie.Need-enum-known-place
 enum-known-place c = search map-steps
 
-table-requires : tie.Need-table-requires
-table-requires c κs = search map-steps
+find-row-requires : tie.Need-find-row-requires
+find-row-requires c κs = search map-steps
 
-ended-requires : tie.Need-ended-requires
-ended-requires c κs = search map-steps
+answer-of-requires : tie.Need-answer-of-requires
+answer-of-requires c κs = search map-steps
 
 returns : tie.Need-returns
 returns c = search map-steps
@@ -21,4 +21,6 @@ returns-2 : tie.Need-returns-2
 returns-2 c = search map-steps
 
 pub named-spec : {M : Type 1} → statement M
-named-spec = tie.close (tie.spec enum-told enum-known-place table-requires ended-requires returns returns-2)
+named-spec =
+    tie.close
+    (tie.spec enum-told enum-known-place find-row-requires answer-of-requires returns returns-2)

@@ -3,6 +3,9 @@ use Rattle.through.proofs.SectionLaws.{sections}
 use Rattle.through.proofs.sections.item_of.Statement.{statement}
 use Rattle.through.proofs.sections.item_of.Tie as tie
 
+over-requires : tie.Need-over-requires
+over-requires c κs = search sections
+
 slice-aggregate-is-called : tie.Need-slice-aggregate-is-called
 slice-aggregate-is-called c = search sections
 
@@ -18,4 +21,4 @@ unfolding ascii
 returns-2 c = search sections
 
 pub item-of-spec : {M : Type 1} → statement M
-item-of-spec = tie.close (tie.spec slice-aggregate-is-called is-called-requires returns returns-2)
+item-of-spec = tie.close (tie.spec over-requires slice-aggregate-is-called is-called-requires returns returns-2)

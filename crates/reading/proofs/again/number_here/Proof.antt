@@ -1,7 +1,7 @@
 use Prim.Native.Nat.{_-_}
-use Rattle.copying.proofs.HereSteps.{Going, number-steps}
-use Rattle.copying.proofs.number_here.Statement.{statement}
-use Rattle.copying.proofs.number_here.Tie as tie
+use Rattle.reading.proofs.AgainSteps.{Going, number-steps}
+use Rattle.reading.proofs.again.number_here.Statement.{statement}
+use Rattle.reading.proofs.again.number_here.Tie as tie
 
 abbrev Inv-loop : tie.InvT-loop
 Inv-loop s end value₀ weight₀ i₀ b₀ value weight i b = Going s (record { at = i₀; end = end }) value weight i b

@@ -1,6 +1,6 @@
-use Rattle.copying.proofs.HereSteps.{part-steps}
-use Rattle.copying.proofs.part_here.Statement.{statement}
-use Rattle.copying.proofs.part_here.Tie as tie
+use Rattle.reading.proofs.AgainSteps.{part-steps}
+use Rattle.reading.proofs.again.part_here.Statement.{statement}
+use Rattle.reading.proofs.again.part_here.Tie as tie
 
 number-here-requires : tie.Need-number-here-requires
 number-here-requires c κs = search part-steps

@@ -14,13 +14,13 @@ use Rattle.format.specs.Parts.{sized}
 use Rattle.format.specs.Laws.Outcomes.{not-got, byTest, got-value, got-rest}
 use Rattle.format.specs.Laws.Turns.{inSized}
 use Rattle.format.specs.Laws.Passing.{number-passes}
 use Rattle.reading.specs.Cursors.{left, NumberReads}
 use Rattle.reading.specs.declared.Cursor.{Cursor}
 use Rattle.reading.specs.declared.NumberRead.the-variants.{Value}
 use Rattle.reading.proofs.Laws.{reached, number-inside, sized-means, part-behind}
 use Rattle.reading.proofs.NumberLoop.{onto, Turn, number-begins, group-product, group-sum, next-weight, fifth-product, fifth-sum, last-product, last-sum, number-goes-on, number-ends, fifth-ends}
 use Rattle.reading.proofs.PartSteps.{sized-fits}
-use Rattle.copying.specs.Standing.{Stands, Known, TakesPart}
+use Rattle.reading.specs.Standing.{Stands, Known, TakesPart}
 
 -- The loop over a number's groups: `b` is the byte at `i`, and what begins with it is the rest of a number
 pub record Going (s : List ℕ) (c : Cursor) (value weight i b : ℕ) : Type 0 where

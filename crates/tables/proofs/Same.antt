@@ -1,0 +1,77 @@
+-- Two results that meet one promise about an accepted table are equal.
+use Prim.Native.Nat.{ℕ}
+use mathlib.Core.List.{List}
+use mathlib.Core.Option.{Option}
+use mathlib.Core.Path.{_≡_, refl, sym, ap, _∙_}
+use native.Mathlib.Omega.{arith}
+use Rattle.format.specs.Reading.{Reader}
+use Rattle.format.specs.Numbers.{number}
+use Rattle.format.specs.Parts.{Part}
+use Rattle.format.specs.Laws.Options.{not-some, some-is}
+use Rattle.reading.specs.Standing.{Stands}
+use Rattle.reading.specs.declared.Cursor.{Cursor}
+use Rattle.reading.proofs.Same.{same-part}
+use Rattle.reading.proofs.Standing.{one-value, one-end}
+use Rattle.tables.specs.Stepping.{Splits, RowSteps, GroupSteps}
+use Rattle.tables.specs.Finding.{Finds, Skips}
+use Rattle.tables.specs.Steps.{heldOf}
+use Rattle.tables.specs.declared.Held.{Held}
+use Rattle.tables.specs.declared.Held.the-variants.{Nothing, Part as APart}
+use Rattle.tables.specs.declared.stepping.Rows.{Rows}
+use Rattle.tables.specs.declared.stepping.RowStep.{RowStep}
+use Rattle.tables.specs.declared.stepping.RowStep.the-variants.{End as NoRow, Row}
+use Rattle.tables.specs.declared.stepping.GroupStep.{GroupStep}
+use Rattle.tables.specs.declared.stepping.GroupStep.the-variants.{End as NoGroup, Group}
+
+pub rows-here-same : {s : List ℕ} {c : Cursor} (r r′ : Rows) → Stands number s c (r .more) (r .next) → Stands number s c (r′ .more) (r′ .next) → r ≡ r′
+rows-here-same r r′ p q = let more = one-value p q in let next = one-end p q in λ i. record { next = next i; more = more i }
+
+-- one row alone is the first of the rows to come
+module _ {A : Type 0} (read : Reader A) {s : List ℕ} {left : Rows} {k k′ : ℕ} {place place′ : Cursor} {v v′ : A} {next next′ : Cursor} (p : Splits read s left k place v next) (q : Splits read s left k′ place′ v′ next′) where
+  same-index : k ≡ k′
+  same-index = one-value (p .index) (q .index)
+
+  same-place : place ≡ place′
+  same-place = one-end (p .index) (q .index)
+
+  same-value : v ≡ v′
+  same-value = one-value (rw same-place at (p .value)) (q .value)
+
+  same-behind : next ≡ next′
+  same-behind = one-end (rw same-place at (p .value)) (q .value)
+
+pub row-step-same : {s : List ℕ} {left : Rows} (r r′ : RowStep) → RowSteps s left r → RowSteps s left r′ → r ≡ r′
+row-step-same NoRow NoRow a b = refl
+row-step-same NoRow (Row k part next) a b = absurd (omega (arith, a .steps, b .steps .splits .some-left))
+row-step-same (Row k part next) NoRow a b = absurd (omega (arith, b .steps, a .steps .splits .some-left))
+row-step-same {s} (Row k part next) (Row k′ part′ next′) a b =
+    let p = a .steps .splits in
+    let q = b .steps .splits in
+    let index = same-index _ p q in
+    let parts = same-part part part′ (a .steps .in-part) (b .steps .in-part) (same-value _ p q) in
+    let nexts = same-behind _ p q in
+    λ i. Row (index i) (parts i) (nexts i)
+
+pub group-step-same : {s : List ℕ} {left : Rows} (r r′ : GroupStep) → GroupSteps s left r → GroupSteps s left r′ → r ≡ r′
+group-step-same NoGroup NoGroup a b = refl
+group-step-same NoGroup (Group k place) a b = absurd (omega (arith, a .steps, b .steps .splits .some-left))
+group-step-same (Group k place) NoGroup a b = absurd (omega (arith, b .steps, a .steps .splits .some-left))
+group-step-same (Group k place) (Group k′ place′) a b =
+    let p = a .steps .splits in
+    let q = b .steps .splits in
+    let index = same-index _ p q in
+    let places = same-place _ p q in
+    λ i. Group (index i) (places i)
+
+module _ {A : Type 0} (read : Reader A) (answer : A → Option Part) {s : List ℕ} {c : Cursor} where
+  same-found : {r r′ : Held} → Finds read answer s c r → Finds read answer s c r′ → heldOf s r ≡ heldOf s r′
+  same-found p q = p .found ∙ ap answer (one-value (p .stands) (q .stands)) ∙ sym (q .found)
+
+  pub finds-same : (r r′ : Held) → Finds read answer s c r → Finds read answer s c r′ → r ≡ r′
+  finds-same Nothing Nothing p q = refl
+  finds-same Nothing (APart part) p q = absurd (not-some (same-found p q))
+  finds-same (APart part) Nothing p q = absurd (not-some (sym (same-found p q)))
+  finds-same (APart part) (APart part′) p q = ap APart (same-part part part′ (p .inside) (q .inside) (some-is (same-found p q)))
+
+pub skips-same : {s : List ℕ} {c : Cursor} (next next′ : Cursor) → Skips s c next → Skips s c next′ → next ≡ next′
+skips-same next next′ p q = one-end (p .stands) (q .stands)
