@@ -1,12 +1,35 @@
 -- An arm of a match that binds nothing gives the tag alone: which case it is.
 use mathlib.Core.Path.{_≡_, refl}
 use native.Mathlib.Omega.{arith}
+use borrow.Author.Needs.{needs}
 use denote.Enum.Declared.{tagOf}
 use Rattle.format.specs.declared.Answer.{Answer}
-use Rattle.format.specs.declared.Answer.the-variants.{None, Found, Refused}
+use Rattle.format.specs.Verdicts.{refusalIn}
+use Rattle.format.specs.declared.Answer.the-variants.{None, Found, Refused as NotAnswered}
+use Rattle.format.specs.declared.Reason.the-variants.{NoPreamble}
+use Rattle.format.specs.declared.Refusal.{Refusal}
+use Rattle.format.specs.declared.Verdict.{Verdict}
+use Rattle.format.specs.declared.Verdict.the-variants.{Accepted, Refused}
 use Rattle.format.proofs.Answer as answer-type
+use Rattle.format.proofs.Verdict as verdict-type
+
+pub as-accepted : (v : Verdict) → tagOf verdict-type.the-type v ≡ 0 → v ≡ Accepted
+as-accepted Accepted h = refl
+as-accepted (Refused r) h = absurd (omega arith)
+
+pub as-refused : (v : Verdict) → tagOf verdict-type.the-type v ≡ 1 → v ≡ Refused (refusalIn v)
+as-refused Accepted h = absurd (omega arith)
+as-refused (Refused r) h = refl
+
+pub refusal-is : (v : Verdict) {r : Refusal} → v ≡ Refused r → r ≡ refusalIn v
+refusal-is v e = rw e
+
+pub refusal-none : (v : Verdict) → tagOf verdict-type.the-type v ≡ 0 → record { reason = NoPreamble; offset = record { 0 = 0 } } ≡ refusalIn v
+refusal-none v h = rw (as-accepted v h)
+
+pub ruleset refusals = (refusal-is, refusal-none, needs)
 
 pub no-answer : (a : Answer) → tagOf answer-type.the-type a ≡ 0 → a ≡ None
 no-answer None h = refl
 no-answer (Found p) h = absurd (omega arith)
-no-answer (Refused r) h = absurd (omega arith)
+no-answer (NotAnswered r) h = absurd (omega arith)

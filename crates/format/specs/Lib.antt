@@ -2,6 +2,7 @@ pub mod Refusals
 pub mod Bytes
 pub mod Options
 pub mod Reading
+pub mod Verdicts
 pub mod Numbers
 pub mod Text
 pub mod Parts

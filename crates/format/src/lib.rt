@@ -2,6 +2,7 @@
 ghost use mathlib.Core.Path.{_≡_};
 ghost use Rattle.format.specs.Questions.{idOf, queryOf};
 ghost use Rattle.format.specs.Refusals.{numberOf};
+ghost use Rattle.format.specs.Verdicts.{refusalIn};
 
 // A byte offset, counted from the start of what was lent.
 pub struct Offset(pub usize);
@@ -91,6 +92,12 @@ pub enum Answer {
     Refused(Refusal),
 }
 
+// What judging a payload whole comes to.
+pub enum Verdict {
+    Accepted,
+    Refused(Refusal),
+}
+
 pub enum Hint {
     Unlikely,
     Likely,
@@ -107,6 +114,20 @@ pub enum HintAnswer {
 pub enum Written {
     Length(usize),
     Refused(Refusal),
+}
+
+// The refusal of a verdict that is one: a let .. else binds nothing in its other branch.
+pub fn refusal_of(verdict: Verdict) -> Refusal
+    ensures { λ r. ⌜ r ≡ refusalIn verdict ⌝ }
+{
+    match verdict {
+        Verdict::Refused(r) => r,
+        // never asked for
+        Verdict::Accepted => Refusal {
+            reason: Reason::NoPreamble,
+            offset: Offset(0),
+        },
+    }
 }
 
 impl Reason {

@@ -18,7 +18,7 @@ use Rattle.format.specs.Laws.Hints.{hint-is, found-hint}
 use Rattle.format.specs.Laws.Places.{lies-inside, lies-there, PartIn, hint-located}
 use Rattle.format.specs.Laws.Found.{item-lies}
 use Rattle.format.specs.declared.Answer.{Answer}
-use Rattle.format.specs.declared.Answer.the-variants.{Refused}
+use Rattle.format.specs.declared.Answer.the-variants.{Refused as NotAnswered}
 use Rattle.format.specs.declared.CodeOffset.{CodeOffset}
 use Rattle.format.specs.declared.FunctionIndex.{FunctionIndex}
 use Rattle.format.specs.declared.Hint.{Hint}
@@ -28,9 +28,12 @@ use Rattle.format.specs.declared.Refusal.{Refusal}
 use Rattle.reading.proofs.Laws.{lies-left}
 use Rattle.reading.specs.Cursors.{Inside, left, partOf}
 use Rattle.reading.specs.declared.Cursor.{Cursor}
-use Rattle.metadata.specs.Judgements.{judged}
-use Rattle.metadata.specs.declared.Judged.the-variants.{Accepted, Refused as NotAccepted}
-use Rattle.tables.specs.Finding.{heldInside, heldOrdered, answerOf}
+use Rattle.format.specs.Verdicts.{verdictOf, refusalIn}
+use Rattle.format.specs.declared.Verdict.{Verdict}
+use Rattle.format.specs.declared.Verdict.the-variants.{Accepted, Refused}
+use Rattle.format.proofs.Tags.{as-accepted, as-refused}
+use Rattle.format.proofs.Verdict as verdict-type
+use Rattle.tables.specs.Finding.{heldOrdered, answerOf}
 use Rattle.tables.specs.Steps.{heldOf}
 use Rattle.tables.specs.declared.Wanted.{Wanted}
 use Rattle.tables.proofs.FindLaws.{held-ordered, held-means}
@@ -38,50 +41,41 @@ use Rattle.metadata.specs.Asking.{asksTo, wantedOf, JudgesFor}
 use Rattle.tables.specs.declared.Held.{Held}
 use Rattle.tables.specs.declared.Held.the-variants.{Nothing, Part as Data}
 use Rattle.metadata.specs.declared.Judgement.{Judgement}
-use Rattle.metadata.specs.declared.Judgement.the-variants.{Accepted as Fine, Refused as NotFine}
-use Rattle.metadata.proofs.Judgement as judgement-type
-use Rattle.metadata.proofs.Tags.{as-fine}
 
 -- what a judgement says of the payload, whatever is wanted
-module _ {value : Reader Part} {function offset : Wanted} {s : List ℕ} {c : Cursor} {j : Judgement} (q : JudgesFor value function offset s c j) where
-  pub judge-refused : {r : Refusal} → j ≡ NotFine r → judged (NotAccepted r) ≡ verdict (judgeMetadata value (c .at) (left s c))
-  unfolding wantedOf
-  judge-refused e = sym (refused-exactly (λ _. tt) (judgeMetadata value (c .at) (left s c)) .1 (refused-exactly _ (judgeMetadata value (c .at) (left s c)) .0 (sym (rw e at (q .says)))))
+verdict-says : (value : Reader Part) (function offset : Wanted) (s : List ℕ) (c : Cursor) (held : Held) (v : Verdict) → asksTo s held v ≡ wantedOf value function offset (c .at) (left s c) → verdictOf v ≡ verdict (judgeMetadata value (c .at) (left s c))
+unfolding wantedOf
+verdict-says value function offset s c held Accepted e = mapped _ (judgeMetadata value (c .at) (left s c)) (sym e) λ t e₁ _. rw e₁
+verdict-says value function offset s c held (Refused r) e = sym (refused-exactly (λ _. tt) (judgeMetadata value (c .at) (left s c)) .1 (refused-exactly _ (judgeMetadata value (c .at) (left s c)) .0 (sym e)))
 
-  judge-fine : {held : Held} → j ≡ Fine held → judged Accepted ≡ verdict (judgeMetadata value (c .at) (left s c))
-  unfolding wantedOf
-  judge-fine e = mapped _ (judgeMetadata value (c .at) (left s c)) (sym (rw e at (q .says))) λ t e₁ _. rw e₁
+pub judgement-says : {value : Reader Part} {function offset : Wanted} {s : List ℕ} {c : Cursor} {j : Judgement} → JudgesFor value function offset s c j → verdictOf (j .verdict) ≡ verdict (judgeMetadata value (c .at) (left s c))
+judgement-says {value} {function} {offset} {s} {c} {j} q = verdict-says value function offset s c (j .held) (j .verdict) (q .says)
 
-pub judge-accepted : {value : Reader Part} {function offset : Wanted} {s : List ℕ} {c : Cursor} (j : Judgement) → JudgesFor value function offset s c j → tagOf judgement-type.the-type j ≡ 0 → judged Accepted ≡ verdict (judgeMetadata value (c .at) (left s c))
-judge-accepted j q h = let (held, e) = as-fine j h in judge-fine q e
-
-pub ruleset judgements = (judge-refused, judge-accepted, needs)
+pub ruleset judgements = (judgement-says, needs)
 
 -- and of the place that is asked for
 module _ {value : Reader Part} {f : FunctionIndex} {at : CodeOffset} {s : List ℕ} {c : Cursor} {j : Judgement} (q : JudgesFor value (record { 0 = f .0 }) (record { 0 = at .0 }) s c j) where
-  asks : asksTo s j ≡ askMetadata value f at (c .at) (left s c)
+  asks : asksTo s (j .held) (j .verdict) ≡ askMetadata value f at (c .at) (left s c)
   unfolding wantedOf askMetadata itemAt
   asks = q .says
 
-  refused-so : {r : Refusal} → j ≡ NotFine r → askMetadata value f at (c .at) (left s c) ≡ refused (numberOf (r .reason)) (r .offset .0)
-  refused-so e = sym (rw e at asks)
+  module _ (h : tagOf verdict-type.the-type (j .verdict) ≡ 1) {r : Refusal} (is : r ≡ refusalIn (j .verdict)) where
+    refused-so : askMetadata value f at (c .at) (left s c) ≡ refused (numberOf (r .reason)) (r .offset .0)
+    refused-so = let told = rw (as-refused (j .verdict) h) at asks in rw is (sym told)
 
-  pub find-refused : {r : Refusal} → j ≡ NotFine r → answered (Refused r) ≡ asPlace (askMetadata value f at (c .at) (left s c))
-  unfolding asPlace
-  find-refused e = rw (refused-so e)
+    pub find-refused : answered (NotAnswered r) ≡ asPlace (askMetadata value f at (c .at) (left s c))
+    unfolding asPlace
+    find-refused = rw refused-so
 
-  module _ {held : Held} (e : j ≡ Fine held) where
-    holds : askMetadata value f at (c .at) (left s c) ≡ accepted (heldOf s held)
-    holds = sym (rw e at asks)
+  module _ (h : tagOf verdict-type.the-type (j .verdict) ≡ 0) where
+    holds : askMetadata value f at (c .at) (left s c) ≡ accepted (heldOf s (j .held))
+    holds = sym (rw (as-accepted (j .verdict) h) at asks)
 
-    held-there : heldInside s held
-    held-there = rw e at (q .inside)
+    pub find-ordered : heldOrdered (j .held)
+    find-ordered = held-ordered s (j .held) (q .inside)
 
-    pub find-ordered : heldOrdered held
-    find-ordered = held-ordered s held held-there
-
-    pub find-held : {y : Answer} → y ≡ answerOf held → answered y ≡ asPlace (askMetadata value f at (c .at) (left s c))
-    find-held is = rw (is, holds) (held-means s held held-there)
+    pub find-held : {y : Answer} → y ≡ answerOf (j .held) → answered y ≡ asPlace (askMetadata value f at (c .at) (left s c))
+    find-held is = rw (is, holds) (held-means s (j .held) (q .inside))
 
 pub ruleset finds = (find-refused, find-ordered, find-held, needs)
 
@@ -114,16 +108,16 @@ hint-told f at o bs {x} {h} e q = rw e (ap accepted (rw q (hint-is h)))
 
 -- a hint's judgement, and the data byte of a hint that was found
 module _ {f : FunctionIndex} {at : CodeOffset} {s : List ℕ} {c : Cursor} {j : Judgement} (i : Inside s c) (q : JudgesFor hintItem (record { 0 = f .0 }) (record { 0 = at .0 }) s c j) where
-  pub hint-refused : {r : Refusal} → j ≡ NotFine r → hintAnswered (NotHinted r) ≡ askHint f at (c .at) (left s c)
+  pub hint-refused : tagOf verdict-type.the-type (j .verdict) ≡ 1 → {r : Refusal} → r ≡ refusalIn (j .verdict) → hintAnswered (NotHinted r) ≡ askHint f at (c .at) (left s c)
   unfolding askHint
-  hint-refused e = sym (refused-exactly hintIn (askMetadata hintItem f at (c .at) (left s c)) .1 (refused-so q e))
+  hint-refused h is = sym (refused-exactly hintIn (askMetadata hintItem f at (c .at) (left s c)) .1 (refused-so q h is))
 
-  module _ {held : Held} (e : j ≡ Fine held) where
-    pub hint-none : held ≡ Nothing → hintAnswered NoHint ≡ askHint f at (c .at) (left s c)
+  module _ (e : tagOf verdict-type.the-type (j .verdict) ≡ 0) where
+    pub hint-none : j .held ≡ Nothing → hintAnswered NoHint ≡ askHint f at (c .at) (left s c)
     unfolding askHint hintIn
     hint-none h = rw (holds q e, h)
 
-    module _ {data′ : Cursor} (is : held ≡ Data data′) where
+    module _ {data′ : Cursor} (is : j .held ≡ Data data′) where
       -- one byte, which says which hint
       record HintThere : Type 0 where
         hint : Hint

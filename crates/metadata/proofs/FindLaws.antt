@@ -26,11 +26,11 @@ use Rattle.tables.specs.declared.Seek.{Seek}
 use Rattle.tables.specs.declared.Seek.the-variants.{None as NoPart, Found as SeekPart, Refused as NoSeek}
 use Rattle.tables.proofs.Laws.{refused-means, none-means, none-inside, found-means, found-inside, found-part}
 use Rattle.tables.specs.Steps.{heldOf}
-use Rattle.metadata.specs.Asking.{filledWith, wantedOf, JudgesFor}
+use Rattle.metadata.specs.Asking.{refusedBy, filledWith, wantedOf, JudgesFor}
 use Rattle.tables.specs.declared.Held.{Held}
 use Rattle.tables.specs.declared.Held.the-variants.{Nothing, Part as APart}
 use Rattle.metadata.specs.declared.Judgement.{Judgement}
-use Rattle.metadata.specs.declared.Judgement.the-variants.{Accepted, Refused}
+use Rattle.format.specs.declared.Verdict.the-variants.{Accepted}
 
 -- by what the search came to
 module _ (value : Reader Part) (f at : Wanted) (o : ℕ) (bs : List ℕ) where
@@ -63,18 +63,18 @@ something-left {s} {c} i h = slice-cons (c .at) (c .end) s 0 h (i .within)
 
 -- nothing behind the lists, or something
 module _ (held : Held) {next : Cursor} where
-  pub fills : next .end ≤ next .at → Accepted held ≡ filledWith held next
+  pub fills : next .end ≤ next .at → record { verdict = Accepted; held = held } ≡ filledWith held next
   fills h = rw (le-ltb (next .at) (next .end) h)
 
-  pub leaves-over : next .at < next .end → Refused (record { reason = LeftOver; offset = record { 0 = next .at } }) ≡ filledWith held next
-  leaves-over h = rw (lt-ltb (next .at) (next .end) h)
+  pub leaves-over : {j : Judgement} → j ≡ refusedBy (record { reason = LeftOver; offset = record { 0 = next .at } }) → next .at < next .end → j ≡ filledWith held next
+  leaves-over e h = rw (lt-ltb (next .at) (next .end) h) e
 
 pub ruleset fillings = (fills, leaves-over, needs)
 
 -- what the judgement comes to
 module _ {s : List ℕ} {c : Cursor} (value : Reader Part) (f at : Wanted) {x : Seek} (i : Inside s c) (k : Seeks (soughtWithin value f at) s c x) where
-  pub judged-refused : {r : Refusal} → x ≡ NoSeek r → JudgesFor value f at s c (Refused r)
-  judged-refused e = record { says = sym (sought-stops value f at (c .at) (left s c) (refused-means k e)); inside = tt }
+  pub judged-refused : {r : Refusal} {y : Judgement} → x ≡ NoSeek r → y ≡ refusedBy r → JudgesFor value f at s c y
+  judged-refused e is = rw is (record { says = sym (sought-stops value f at (c .at) (left s c) (refused-means k e)); inside = tt })
 
   by-filling : {y : Judgement} (held : Held) {next : Cursor} → heldInside s held → Inside s next → soughtWithin value f at (c .at) (left s c) ≡ got (heldOf s held) (next .at) (left s next) → y ≡ filledWith held next → JudgesFor value f at s c y
   by-filling held {next} there j means is =

@@ -1,6 +1,4 @@
-pub mod Tags
 pub mod FindLaws
 pub mod AnswerLaws
 pub mod WholeLaws
 pub mod TakenLaws
-pub mod Same

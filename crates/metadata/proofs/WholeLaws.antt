@@ -14,12 +14,12 @@ use Rattle.format.specs.declared.HintAnswer.{HintAnswer}
 use Rattle.reading.proofs.Laws.{left-all, over-inside}
 use Rattle.reading.specs.Cursors.{overAll, left}
 use Rattle.reading.specs.declared.Cursor.{Cursor}
-use Rattle.metadata.specs.Judgements.{judged}
-use Rattle.metadata.specs.declared.Judged.{Judged}
+use Rattle.format.specs.Verdicts.{verdictOf}
+use Rattle.format.specs.declared.Verdict.{Verdict}
 
 module _ (p : List ℕ) {c : Cursor} (over : c ≡ overAll p) where
   module _ (value : Reader Part) where
-    pub whole-judged : (r : Judged) → judged r ≡ verdict (judgeMetadata value (c .at) (left p c)) → judged r ≡ verdict (judgeMetadata value 0 p)
+    pub whole-judged : (r : Verdict) → verdictOf r ≡ verdict (judgeMetadata value (c .at) (left p c)) → verdictOf r ≡ verdict (judgeMetadata value 0 p)
     whole-judged r e = rw (over, left-all p) at e
 
     pub whole-found : (f : FunctionIndex) (at : CodeOffset) (r : Answer) → answered r ≡ asPlace (askMetadata value f at (c .at) (left p c)) → answered r ≡ asPlace (askMetadata value f at 0 p)

@@ -1,3 +1,2 @@
-pub mod Judgements
 pub mod Asking
 pub mod Demands

@@ -4,8 +4,8 @@ ghost use mathlib.Core.Path.{_≡_};
 ghost use Rattle.format.specs.Metadata.{anyItem, hintItem, askMetadata, judgeMetadata, askHint, hintAnswered};
 ghost use Rattle.format.specs.Questions.{answered, asPlace, asBytes, startOf};
 ghost use Rattle.format.specs.Reading.{verdict};
-ghost use Rattle.metadata.specs.Judgements.{judged};
-ghost use Rattle.metadata.specs.Asking.{filledWith, JudgesFor};
+ghost use Rattle.format.specs.Verdicts.{verdictOf};
+ghost use Rattle.metadata.specs.Asking.{refusedBy, filledWith, JudgesFor};
 ghost use Rattle.reading.specs.Cursors.{Inside, left};
 ghost use Rattle.tables.specs.Seeking.{readerOf};
 use format::Answer;
@@ -16,6 +16,8 @@ use format::HintAnswer;
 use format::Offset;
 use format::Reason;
 use format::Refusal;
+use format::Verdict;
+use format::refusal_of;
 use reading::Cursor;
 use reading::taking::taken;
 use tables::Held;
@@ -25,18 +27,23 @@ use tables::Seek;
 use tables::Wanted;
 use tables::finding::answer_of;
 
-pub enum Judged {
-    Accepted,
-    Refused(Refusal),
-}
-
 // The data byte of a branch that is likely taken.
 const LIKELY: u8 = 1;
 
-// What judging a payload whole comes to: what it has where it is asked, or its refusal.
-enum Judgement {
-    Accepted(Held),
-    Refused(Refusal),
+// The verdict on a payload, and what it has where it is asked: nothing, where it is refused.
+struct Judgement {
+    verdict: Verdict,
+    held: Held,
+}
+
+// A payload that is refused.
+fn refused(r: Refusal) -> Judgement
+    ensures { λ j. ⌜ j ≡ refusedBy r ⌝ }
+{
+    Judgement {
+        verdict: Verdict::Refused(r),
+        held: Held::Nothing,
+    }
 }
 
 // The lists fill the payload: what was held is what it has.
@@ -44,12 +51,15 @@ fn filled(held: Held, next: Cursor) -> Judgement
     ensures { λ r. ⌜ r ≡ filledWith held next ⌝ }
 {
     if next.at < next.end {
-        return Judgement::Refused(Refusal {
+        return refused(Refusal {
             reason: Reason::LeftOver,
             offset: Offset(next.at),
         });
     }
-    Judgement::Accepted(held)
+    Judgement {
+        verdict: Verdict::Accepted,
+        held,
+    }
 }
 
 // Judges a payload that lies in `s` where the cursor says, and holds on to what is wanted of it: one pass does both.
@@ -58,7 +68,7 @@ fn judge_for(s: &[u8], c: Cursor, item: Item, function: Wanted, offset: Wanted) 
     ensures { λ r. ⌜ JudgesFor (readerOf item) function offset (now (s .entry)) c r ⌝ }
 {
     match tables::tables(c, s, item, function, offset) {
-        Seek::Refused(r) => Judgement::Refused(r),
+        Seek::Refused(r) => refused(r),
         Seek::None(next) => filled(Held::Nothing, next),
         Seek::Found(part, next) => filled(Held::Part(part), next),
     }
@@ -69,21 +79,22 @@ pub fn find_in(s: &[u8], c: Cursor, item: Item, f: FunctionIndex, at: CodeOffset
     requires { ⌜ Inside (now s) c ⌝ }
     ensures { λ r. ⌜ answered r ≡ asPlace (askMetadata (readerOf item) f at (c .at) (left (now (s .entry)) c)) ⌝ }
 {
-    match judge_for(s, c, item, Wanted(f.0 as u64), Wanted(at.0 as u64)) {
-        Judgement::Refused(r) => Answer::Refused(r),
-        Judgement::Accepted(held) => answer_of(held),
-    }
+    let judgement = judge_for(s, c, item, Wanted(f.0 as u64), Wanted(at.0 as u64));
+    let verdict = judgement.verdict;
+    let Verdict::Accepted = verdict else {
+        return Answer::Refused(refusal_of(verdict));
+    };
+    let held = judgement.held;
+    answer_of(held)
 }
 
 // Judges a payload that lies in `s` where the cursor says.
-pub fn judge_in(s: &[u8], c: Cursor, item: Item) -> Judged
+pub fn judge_in(s: &[u8], c: Cursor, item: Item) -> Verdict
     requires { ⌜ Inside (now s) c ⌝ }
-    ensures { λ r. ⌜ judged r ≡ verdict (judgeMetadata (readerOf item) (c .at) (left (now (s .entry)) c)) ⌝ }
+    ensures { λ r. ⌜ verdictOf r ≡ verdict (judgeMetadata (readerOf item) (c .at) (left (now (s .entry)) c)) ⌝ }
 {
-    match judge_for(s, c, item, NOTHING, NOTHING) {
-        Judgement::Refused(r) => Judged::Refused(r),
-        Judgement::Accepted(_) => Judged::Accepted,
-    }
+    let judgement = judge_for(s, c, item, NOTHING, NOTHING);
+    judgement.verdict
 }
 
 // The hint at an offset of a function, in a payload that lies in `s` where the cursor says.
@@ -91,32 +102,35 @@ pub fn hint_in(s: &[u8], c: Cursor, f: FunctionIndex, at: CodeOffset) -> HintAns
     requires { ⌜ Inside (now s) c ⌝ }
     ensures { λ r. ⌜ hintAnswered r ≡ askHint f at (c .at) (left (now (s .entry)) c) ⌝ }
 {
-    match judge_for(s, c, Item::Hint, Wanted(f.0 as u64), Wanted(at.0 as u64)) {
-        Judgement::Refused(r) => HintAnswer::Refused(r),
-        Judgement::Accepted(held) => match held {
-            Held::Nothing => HintAnswer::None,
-            Held::Part(data) => {
-                let byte = data.at;
-                if s[byte] == LIKELY {
-                    return HintAnswer::Found(Hint::Likely);
-                }
-                HintAnswer::Found(Hint::Unlikely)
+    let judgement = judge_for(s, c, Item::Hint, Wanted(f.0 as u64), Wanted(at.0 as u64));
+    let verdict = judgement.verdict;
+    let Verdict::Accepted = verdict else {
+        return HintAnswer::Refused(refusal_of(verdict));
+    };
+    let held = judgement.held;
+    match held {
+        Held::Nothing => HintAnswer::None,
+        Held::Part(data) => {
+            let byte = data.at;
+            if s[byte] == LIKELY {
+                return HintAnswer::Found(Hint::Likely);
             }
-        },
+            HintAnswer::Found(Hint::Unlikely)
+        }
     }
 }
 
 // Judges a payload of any format.
-pub fn judge(p: &[u8]) -> Judged
-    ensures { λ r. ⌜ judged r ≡ verdict (judgeMetadata anyItem 0 (now (p .entry))) ⌝ }
+pub fn judge(p: &[u8]) -> Verdict
+    ensures { λ r. ⌜ verdictOf r ≡ verdict (judgeMetadata anyItem 0 (now (p .entry))) ⌝ }
 {
     let all = Cursor::over(p);
     judge_in(p, all, Item::Data)
 }
 
 // Judges a payload of branch hints.
-pub fn judge_hints(p: &[u8]) -> Judged
-    ensures { λ r. ⌜ judged r ≡ verdict (judgeMetadata hintItem 0 (now (p .entry))) ⌝ }
+pub fn judge_hints(p: &[u8]) -> Verdict
+    ensures { λ r. ⌜ verdictOf r ≡ verdict (judgeMetadata hintItem 0 (now (p .entry))) ⌝ }
 {
     let all = Cursor::over(p);
     judge_in(p, all, Item::Hint)

@@ -8,7 +8,7 @@ use native.Mathlib.Omega.{arith}
 use borrow.Author.Needs.{needs}
 use denote.Enum.Declared.{tagOf}
 use lib.ListN.{length}
-use lib.Seq.{length-slice, take-length}
+use lib.Seq.{length-slice}
 use Rattle.format.specs.Reading.{filling, accepted, judge, mapJudged}
 use Rattle.format.specs.Parts.{Part, name, remaining}
 use Rattle.format.specs.Tables.{lookup, table}
@@ -18,41 +18,30 @@ use Rattle.format.specs.declared.Question.{Question}
 use Rattle.format.specs.declared.Question.the-variants.{ModuleName, FunctionName, TypeName, TagName, LocalName, FieldName, KeptContents}
 use Rattle.format.specs.declared.Query.{Query}
 use Rattle.format.specs.declared.Query.the-variants.{ItsName, ItsContents, NameOf, NameWithin}
+use Rattle.format.specs.Verdicts.{refusalIn}
 use Rattle.format.specs.Laws.Outcomes.{not-accepted, accepted-is, byOutcome, mapped}
 use Rattle.format.specs.declared.Answer.{Answer}
 use Rattle.format.specs.declared.Answer.the-variants.{None as NoAnswer, Refused as NotAnswered}
 use Rattle.format.specs.declared.Refusal.{Refusal}
-use Rattle.format.specs.declared.Reason.the-variants.{NoPreamble}
-use Rattle.reading.specs.Cursors.{Inside, left}
+use Rattle.reading.proofs.Laws.{left-all, over-inside}
+use Rattle.reading.specs.Cursors.{Inside, left, overAll}
 use Rattle.reading.specs.declared.Cursor.{Cursor}
 use Rattle.names.specs.Contents.{kindMeant, asksIn, Asks, placeAt}
-use Rattle.names.specs.Places.{subOf, subInside, placedAt, KnownAt, Stands, Accepts, Judges, Finds, AsksAt, refusalIn}
+use Rattle.names.specs.Places.{subOf, subInside, placedAt, KnownAt, Stands, Accepts, Judges, Finds, AsksAt}
 use Rattle.names.specs.declared.kinds.Kind.{Kind}
 use Rattle.names.specs.declared.kinds.Kind.the-variants.{OneName, NameMap, IndirectMap, Kept}
 use Rattle.tables.specs.declared.Held.{Held}
 use Rattle.tables.specs.declared.Held.the-variants.{Nothing as Absent, Part as At}
 use Rattle.names.specs.declared.places.Places.{Places}
 use Rattle.names.specs.declared.judging.Judged.{Judged}
-use Rattle.names.specs.declared.judging.Judged.the-variants.{Accepted, Refused}
 use Rattle.format.proofs.Query as query-type
+use Rattle.format.proofs.Tags.{as-refused, as-accepted}
+use Rattle.format.proofs.Verdict as verdict-type
 use Rattle.names.proofs.kinds.Kind as kind-type
 use Rattle.tables.proofs.Held as held-type
-use Rattle.names.proofs.judging.Judged as judged-type
-use Rattle.names.proofs.Tags.{as-refused, as-accepted}
 use Rattle.names.proofs.ContentLaws.{map-known, map-asked, indirect-known, indirect-asked, found-ordered}
 use Rattle.names.proofs.FrameLaws.{asked-lies}
 use Rattle.names.proofs.PlaceLaws.{name-known, map-known as map-is-known, indirect-known as indirect-is-known, by-kind}
-use Rattle.names.proofs.JudgeLaws.{all-inside}
-
--- A judgement's refusal
-pub refusal-is : (j : Judged) {r : Refusal} → j ≡ Refused r → r ≡ refusalIn j
-refusal-is j e = rw e
-
-pub refusal-none : (j : Judged) → tagOf judged-type.the-type j ≡ 0 → record { reason = NoPreamble; offset = record { 0 = 0 } } ≡ refusalIn j
-refusal-none (Accepted p) h = refl
-refusal-none (Refused r) h = absurd (omega arith)
-
-pub ruleset refusal-steps = (refusal-is, refusal-none, needs)
 
 -- The contents at a place
 as-absent : (x : Held) → tagOf held-type.the-type x ≡ 0 → x ≡ Absent
@@ -177,14 +166,14 @@ pub ruleset answers = (name-inside, name-answers, map-there, map-answers, indire
 
 -- A payload that is not accepted, and one that is
 module _ {kindOf : ℕ → AnyKind} {s : List ℕ} {at : ℕ} {bs : List ℕ} {j : Judged} (judged : Judges kindOf s at bs j) where
-  pub question-refused : (q : Question) (r : Refusal) → tagOf judged-type.the-type j ≡ 1 → r ≡ refusalIn j → answered (NotAnswered r) ≡ asPlace (askAt kindOf q at bs)
+  pub question-refused : (q : Question) (r : Refusal) → tagOf verdict-type.the-type (j .verdict) ≡ 1 → r ≡ refusalIn (j .verdict) → answered (NotAnswered r) ≡ asPlace (askAt kindOf q at bs)
   unfolding askAt asked asPlace
   question-refused q r h is =
-      let says = rw (as-refused j h) at (judged .says) in
-      rw (is, says)
+      let says = rw (as-refused (j .verdict) h) at (judged .says) in
+      rw (is, says .0)
 
-  pub accepts : {p : Places} → j ≡ Accepted p → Accepts kindOf s at bs p
-  accepts e = rw e at (judged .says)
+  pub accepts : tagOf verdict-type.the-type (j .verdict) ≡ 0 → Accepts kindOf s at bs (j .places)
+  accepts h = rw (as-accepted (j .verdict) h) at (judged .says)
 
 pub ruleset questions = (question-refused, accepts, needs)
 
@@ -228,8 +217,8 @@ module _ {kindOf : ℕ → AnyKind} {s : List ℕ} {at : ℕ} {bs : List ℕ} {p
 pub ruleset kept-questions = (kept-known, kept-found, found-inside, needs)
 
 -- asked of all that was lent
-pub asks-all : (kindOf : ℕ → AnyKind) (y : Answer) (q : Question) (s : List ℕ) → answered y ≡ asPlace (askAt kindOf q 0 (left s (record { at = 0; end = length s }))) → answered y ≡ asPlace (ask kindOf q s)
+pub asks-all : (kindOf : ℕ → AnyKind) (y : Answer) (q : Question) (s : List ℕ) {c : Cursor} → c ≡ overAll s → answered y ≡ asPlace (askAt kindOf q (c .at) (left s c)) → answered y ≡ asPlace (ask kindOf q s)
 unfolding ask
-asks-all kindOf y q s e = rw (take-length s) at e
+asks-all kindOf y q s over e = rw (over, left-all s) at e
 
-pub ruleset asked-all = (asks-all, all-inside, needs)
+pub ruleset asked-all = (asks-all, over-inside, needs)

@@ -10,7 +10,7 @@ use borrow.Author.Tests.{eqb-true, eqb-false, eq-eqb, ne-eqb}
 use denote.Enum.Declared.{tagOf}
 use lib.Dec.{eqb}
 use lib.ListN.{length}
-use lib.Seq.{length-slice, take-length}
+use lib.Seq.{length-slice}
 use Rattle.format.specs.Refusals.{numberOf}
 use Rattle.format.specs.Options.{mapSome}
 use Rattle.format.specs.Reading.{Outcome, got, stop, Reader, andThen}
@@ -20,20 +20,21 @@ use Rattle.format.specs.Names.{Kind, payload, judgeNames}
 use Rattle.format.specs.Laws.Outcomes.{not-got, got-value, byTest, inTurn, judged}
 use Rattle.format.specs.Laws.Tables.{lookup-map}
 use Rattle.format.specs.declared.Refusal.{Refusal}
-use Rattle.reading.specs.Cursors.{Inside, left, partOf}
+use Rattle.reading.proofs.Laws.{left-all, over-inside}
+use Rattle.reading.specs.Cursors.{Inside, left, partOf, overAll}
 use Rattle.reading.specs.declared.Cursor.{Cursor}
 use Rattle.names.specs.Frames.{Headed, frame, frames, judgeFrames, subsection, Forward, FrameReads}
-use Rattle.names.specs.Places.{subOf, subInside, Stands, placedAt, Judges, Puts, Finds}
+use Rattle.names.specs.Places.{subOf, subInside, Stands, nowhere, placedAt, Judges, Puts, Finds}
 use Rattle.names.specs.declared.frames.FrameRead.{FrameRead}
 use Rattle.names.specs.declared.frames.FrameRead.the-variants.{Frame, End, Refused as NoFrame}
 use Rattle.tables.specs.declared.Held.{Held}
 use Rattle.tables.specs.declared.Held.the-variants.{Nothing as Absent, Part as At}
 use Rattle.names.specs.declared.places.Places.{Places}
 use Rattle.names.specs.declared.judging.Judged.{Judged}
-use Rattle.names.specs.declared.judging.Judged.the-variants.{Accepted, Refused}
+use Rattle.format.specs.declared.Verdict.the-variants.{Accepted, Refused}
 use Rattle.names.proofs.frames.FrameRead as frame-type
 use Rattle.names.proofs.FrameSteps.{as-end}
-use Rattle.names.proofs.PlaceLaws.{HasPlace, Placed, known-placed, first-place, put-here, put-elsewhere, put-inside, nowhere, nothing-there, by-kind}
+use Rattle.names.proofs.PlaceLaws.{HasPlace, Placed, known-placed, first-place, put-here, put-elsewhere, put-inside, nothing-there, by-kind}
 use Rattle.names.proofs.FrameLaws.{partAt, holding, or-none, behind, Framed, framed, subsections-framed, framed-parts, behindJudged, judged-turn, frame-turn}
 
 -- what stops a search stops the reading
@@ -83,13 +84,13 @@ module _ {kindOf : ℕ → Kind} {s : List ℕ} {c : Cursor} where
     opened : (j : ℕ) → HasPlace j → partAt lies j none (whole kindOf s c) ≡ andThen (subsection kindOf least (next .at) (left s next)) (behindJudged kindOf j (subOf s (placedAt p j)) (t .most - 1))
     opened j k = t .same j k ∙ judged-turn kindOf j (subOf s (placedAt p j)) (t .most) least (next .at) (left s next) (omega (arith, t .enough, length-slice (next .at) (next .end) s (t .inside .within)))
 
-    pub turn-refused : {r : Refusal} → x ≡ NoFrame r → Judges kindOf s (c .at) (left s c) (Refused r)
+    pub turn-refused : {r : Refusal} → x ≡ NoFrame r → Judges kindOf s (c .at) (left s c) (record { verdict = Refused r; places = nowhere })
     unfolding judgeNames payload
     turn-refused {r} e =
         let halted : whole kindOf s c ≡ stop (numberOf (r .reason)) (r .offset .0) = stopped lies 0 (whole kindOf s c) (opened 0 first-place ∙ rw (← rw e at (f .means))) in
-        record { says = rw (subsections-framed kindOf (length (left s c)) 0 (c .at) (left s c), halted) }
+        record { says = (rw (subsections-framed kindOf (length (left s c)) 0 (c .at) (left s c), halted), refl) }
 
-    pub turn-ends : Placed kindOf → tagOf frame-type.the-type x ≡ 1 → Judges kindOf s (c .at) (left s c) (Accepted p)
+    pub turn-ends : Placed kindOf → tagOf frame-type.the-type x ≡ 1 → Judges kindOf s (c .at) (left s c) (record { verdict = Accepted; places = p })
     unfolding judgeNames payload judgeFrames
     turn-ends placed h =
         let ends : (j : ℕ) → HasPlace j → partAt lies j none (whole kindOf s c) ≡ got (subOf s (placedAt p j)) (next .at) [] = λ j k. opened j k ∙ rw (← rw (as-end x h) at (f .means)) in
@@ -131,13 +132,10 @@ module _ {kindOf : ℕ → Kind} {s : List ℕ} {c : Cursor} where
 pub ruleset judge-turns = (turn-begins, turn-refused, turn-ends, known-placed, turn-next, frame-shorter, needs)
 
 -- all of what was lent
-pub judge-all : {kindOf : ℕ → Kind} {s : List ℕ} {r : Judged} → Judges kindOf s 0 (left s (record { at = 0; end = length s })) r → Judges kindOf s 0 s r
-judge-all {s = s} j = rw (take-length s) at j
+pub judge-all : {kindOf : ℕ → Kind} {s : List ℕ} {c : Cursor} {r : Judged} → c ≡ overAll s → Judges kindOf s (c .at) (left s c) r → Judges kindOf s 0 s r
+judge-all {s = s} over j = rw (over, left-all s) at j
 
-pub all-inside : {s : List ℕ} → Inside s (record { at = 0; end = length s })
-all-inside = record { ahead = omega arith; within = omega arith }
-
-pub ruleset judge-steps = (judge-all, all-inside, needs)
+pub ruleset judge-steps = (judge-all, over-inside, needs)
 
 -- Finding an id: whenever the loop is reached, it has not been passed
 abbrev wholeFrames : List ℕ → Cursor → Outcome (Table Part)

@@ -1,4 +1,3 @@
-pub mod Tags
 pub mod ContentLaws
 pub mod FrameSteps
 pub mod PlaceLaws

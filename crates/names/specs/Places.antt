@@ -6,15 +6,15 @@ use mathlib.Core.Option.{Option, none, some}
 use mathlib.Core.Path.{_≡_}
 use lib.Dec.{eqb}
 use Rattle.format.specs.Refusals.{numberOf}
-use Rattle.format.specs.Reading.{Judged as Judgement, accepted, refused, judge, Accepted as AcceptedBy}
+use Rattle.format.specs.Reading.{accepted, refused, judge, Accepted as AcceptedBy}
 use Rattle.format.specs.Parts.{Part}
 use Rattle.format.specs.Tables.{Table, nil, row, lookup}
 use Rattle.format.specs.Names.{Kind, oneName, nameMap, indirectMap, kept, Content, contents, judgeNames}
 use Rattle.format.specs.Questions.{answered, asPlace}
 use Rattle.format.specs.declared.Query.{Query}
 use Rattle.format.specs.declared.Answer.{Answer}
-use Rattle.format.specs.declared.Reason.the-variants.{NoPreamble}
-use Rattle.format.specs.declared.Refusal.{Refusal}
+use Rattle.format.specs.declared.Verdict.{Verdict}
+use Rattle.format.specs.declared.Verdict.the-variants.{Accepted, Refused}
 use Rattle.reading.specs.Cursors.{Inside, left, partOf}
 use Rattle.reading.specs.declared.Cursor.{Cursor}
 use Rattle.names.specs.Contents.{asksIn}
@@ -23,7 +23,6 @@ use Rattle.tables.specs.declared.Held.{Held}
 use Rattle.tables.specs.declared.Held.the-variants.{Nothing as Absent, Part as At}
 use Rattle.names.specs.declared.places.Places.{Places}
 use Rattle.names.specs.declared.judging.Judged.{Judged}
-use Rattle.names.specs.declared.judging.Judged.the-variants.{Accepted, Refused}
 
 -- the part that a place stands for
 abbrev pub subOf : List ℕ → Held → Option Part
@@ -47,6 +46,9 @@ placesOf p =
     (row 4 (p .types)
     (row 10 (p .fields)
     (row 11 (p .tags) nil)))))
+
+abbrev pub nowhere : Places
+nowhere = record { «module» = Absent; functions = Absent; locals = Absent; types = Absent; fields = Absent; tags = Absent }
 
 abbrev pub orAbsent : Option Held → Held
 orAbsent none = Absent
@@ -83,17 +85,12 @@ module _ (kindOf : ℕ → Kind) where
     pub framed : judgeFrames at bs ≡ accepted lying
     pub all-stand : AllStand s p lying
 
-  abbrev pub judgesTo : List ℕ → ℕ → List ℕ → Judged → Type 0
-  judgesTo s at bs (Accepted p) = Accepts s at bs p
-  judgesTo s at bs (Refused r) = judgeNames kindOf at bs ≡ refused (numberOf (r .reason)) (r .offset .0)
+  abbrev pub judgesTo : List ℕ → ℕ → List ℕ → Places → Verdict → Type 0
+  judgesTo s at bs p Accepted = Accepts s at bs p
+  judgesTo s at bs p (Refused r) = (judgeNames kindOf at bs ≡ refused (numberOf (r .reason)) (r .offset .0)) × (p ≡ nowhere)
 
   pub record Judges (s : List ℕ) (at : ℕ) (bs : List ℕ) (r : Judged) : Type 0 where
-    pub says : judgesTo s at bs r
-
--- the verdict of a judgement, and that it is the payload's
-abbrev pub verdictOf : Judged → Judgement (Unit {0})
-verdictOf (Accepted p) = accepted tt
-verdictOf (Refused r) = refused (numberOf (r .reason)) (r .offset .0)
+    pub says : judgesTo s at bs (r .places) (r .verdict)
 
 -- where an id lies in an accepted payload
 pub record Finds (s : List ℕ) (at : ℕ) (bs : List ℕ) (id : ℕ) (r : Held) : Type 0 where
@@ -111,8 +108,3 @@ pub record KnownAt (kind : Kind) (s : List ℕ) (place : Held) : Type 0 where
 -- What the contents at a place answer
 pub record AsksAt (kind : Kind) (q : Query) (s : List ℕ) (place : Held) (r : Answer) : Type 0 where
   pub says : answered r ≡ asPlace (asksIn kind q (subOf s place))
-
--- the refusal of a judgement that is not accepted
-abbrev pub refusalIn : Judged → Refusal
-refusalIn (Accepted p) = record { reason = NoPreamble; offset = record { 0 = 0 } }
-refusalIn (Refused r) = r

@@ -2,31 +2,15 @@
 ghost use mathlib.Core.Path.{_≡_};
 ghost use Rattle.format.specs.Names.{oneName, nameMap, indirectMap, kept};
 ghost use Rattle.format.specs.declared.Query.the-variants.{ItsName, ItsContents, NameOf, NameWithin};
-ghost use Rattle.names.specs.Places.{subInside, KnownAt, AsksAt, refusalIn};
+ghost use Rattle.names.specs.Places.{subInside, KnownAt, AsksAt};
 use crate::contents::one_name;
-use crate::judging::Judged;
 use format::Answer;
 use format::Offset;
 use format::Place;
-use format::Reason;
-use format::Refusal;
 use tables::Held;
 use tables::finding::answer_of;
 use tables::finding::find_group;
 use tables::finding::find_row;
-
-// The refusal of a judgement that is not accepted.
-pub fn refusal_of(judged: Judged) -> Refusal
-    ensures { λ r. ⌜ r ≡ refusalIn judged ⌝ }
-{
-    match judged {
-        Judged::Refused(r) => r,
-        Judged::Accepted(_) => Refusal {
-            reason: Reason::NoPreamble,
-            offset: Offset(0),
-        },
-    }
-}
 
 // The one name there.
 pub fn the_name(s: &[u8], place: Held) -> Answer

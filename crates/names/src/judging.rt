@@ -7,13 +7,14 @@ use crate::frames::frame;
 use crate::frames::subsection;
 use crate::places::Places;
 use crate::places::placed;
-use format::Refusal;
+use format::Verdict;
 use reading::Cursor;
 use tables::Held;
 
-pub enum Judged {
-    Accepted(Places),
-    Refused(Refusal),
+// The verdict on a payload, and where its known subsections lie: nowhere, where it is refused.
+pub struct Judged {
+    pub verdict: Verdict,
+    pub places: Places,
 }
 
 const NOWHERE: Places = Places {
@@ -36,10 +37,16 @@ pub fn judge_in(s: &[u8], c: Cursor) -> Judged
     loop {
         match subsection(s, next, least) {
             FrameRead::Refused(r) => {
-                return Judged::Refused(r);
+                return Judged {
+                    verdict: Verdict::Refused(r),
+                    places: NOWHERE,
+                };
             }
             FrameRead::End => {
-                return Judged::Accepted(places);
+                return Judged {
+                    verdict: Verdict::Accepted,
+                    places,
+                };
             }
             FrameRead::Frame(id, part, after) => {
                 places = placed(places, id, part);
@@ -54,13 +61,7 @@ pub fn judge_in(s: &[u8], c: Cursor) -> Judged
 pub fn judge(p: &[u8]) -> Judged
     ensures { λ r. ⌜ Judges knownKind (now (p .entry)) 0 (now (p .entry)) r ⌝ }
 {
-    judge_in(
-        p,
-        Cursor {
-            at: 0,
-            end: p.len(),
-        },
-    )
+    judge_in(p, Cursor::over(p))
 }
 
 // Where the subsection with an id lies in an accepted payload.

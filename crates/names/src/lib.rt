@@ -20,11 +20,7 @@ pub mod within;
 pub fn ask(p: &[u8], q: Question) -> Answer
     ensures { λ r. ⌜ answered r ≡ asPlace (ask knownKind q (now (p .entry))) ⌝ }
 {
-    let all = Cursor {
-        at: 0,
-        end: p.len(),
-    };
-    within::ask_in(p, all, q)
+    within::ask_in(p, Cursor::over(p), q)
 }
 
 // The bytes of what was answered, as a part of what was lent: empty, and at its start, for none and for a refusal.

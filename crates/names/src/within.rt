@@ -8,9 +8,7 @@ ghost use Rattle.reading.specs.Cursors.{Inside, left};
 use crate::asking::all_kept;
 use crate::asking::named;
 use crate::asking::named_within;
-use crate::asking::refusal_of;
 use crate::asking::the_name;
-use crate::judging::Judged;
 use crate::judging::find;
 use crate::judging::judge_in;
 use crate::kinds::Kind;
@@ -20,6 +18,8 @@ use crate::places::place_of;
 use format::Answer;
 use format::Query;
 use format::Question;
+use format::Verdict;
+use format::refusal_of;
 use reading::Cursor;
 
 // The contents of a subsection whose id has no meaning here; none for the ids that have one.
@@ -53,8 +53,10 @@ pub fn ask_in(s: &[u8], c: Cursor, q: Question) -> Answer
     ensures { λ r. ⌜ answered r ≡ asPlace (askAt knownKind q (c .at) (left (now (s .entry)) c)) ⌝ }
 {
     let judged = judge_in(s, c);
-    let Judged::Accepted(places) = judged else {
-        return Answer::Refused(refusal_of(judged));
+    let verdict = judged.verdict;
+    let Verdict::Accepted = verdict else {
+        return Answer::Refused(refusal_of(verdict));
     };
+    let places = judged.places;
     answer(s, c, places, q)
 }

@@ -13,8 +13,8 @@ use Rattle.format.specs.Reading.{Judged, accepted, refused, verdict}
 use Rattle.format.specs.Tables.{lookup, rows, table}
 use Rattle.format.specs.Text.{utf8, continues, following, wellFormed}
 use Rattle.format.specs.Walk.{preamble, begins, greatestId, isCustom, isCode, isData, rank, custom, isCalled, nameSection, hintSection, nothing, seeing, idRules, nameRules, section, sections, framing, walk, sectionCount}
-use Rattle.metadata.specs.Judgements.{judged}
-use Rattle.names.specs.Places.{Judges, verdictOf}
+use Rattle.format.specs.Verdicts.{verdictOf}
+use Rattle.names.specs.Places.{Judges}
 use Rattle.names.proofs.Verdicts.{verdict-is}
 use Rattle.walk.specs.Surveys.{counted}
 use Rattle.wakemiono.specs.Calls as call
@@ -47,7 +47,7 @@ names-computed : map (λ (row : Row (List ℕ) (Judged (Unit {0}))). verdict (ju
 unfolding hex digit number groups utf8 continues following wellFormed sized name remaining lookup rows table known knownKind contents subsections payload judgeNames
 names-computed = refl
 
-pub names-judge : Demanded (λ p r. Judges knownKind p 0 p r) verdictOf name-rows
+pub names-judge : Demanded (λ p r. Judges knownKind p 0 p r) (λ r. verdictOf (r .verdict)) name-rows
 names-judge = by-table (λ p r meets. verdict-is knownKind p 0 p r meets) name-rows names-computed
 
 pub wm-names-judge : Demanded (λ p a. call.wm-names-judge p a) saysVerdict name-rows
@@ -67,7 +67,7 @@ metadata-computed : map (λ (row : Row (List ℕ) (Judged (Unit {0}))). verdict 
 unfolding hex digit number groups sized rows table anyItem metadata judgeMetadata
 metadata-computed = refl
 
-pub metadata-judge : Demanded (λ p r. judged r ≡ verdict (judgeMetadata anyItem 0 p)) judged metadata-rows
+pub metadata-judge : Demanded (λ p r. verdictOf r ≡ verdict (judgeMetadata anyItem 0 p)) verdictOf metadata-rows
 metadata-judge = by-table (λ p r meets. meets) metadata-rows metadata-computed
 
 pub wm-metadata-judge : Demanded (λ p a. call.wm-metadata-judge p a) saysVerdict metadata-rows
@@ -87,7 +87,7 @@ hints-computed : map (λ (row : Row (List ℕ) (Judged (Unit {0}))). verdict (ju
 unfolding hex digit number groups sized rows table hintOf hintItem metadata judgeMetadata
 hints-computed = refl
 
-pub metadata-judge-hints : Demanded (λ p r. judged r ≡ verdict (judgeMetadata hintItem 0 p)) judged hint-rows
+pub metadata-judge-hints : Demanded (λ p r. verdictOf r ≡ verdict (judgeMetadata hintItem 0 p)) verdictOf hint-rows
 metadata-judge-hints = by-table (λ p r meets. meets) hint-rows hints-computed
 
 pub wm-hints-judge : Demanded (λ p a. call.wm-hints-judge p a) saysVerdict hint-rows

@@ -16,9 +16,10 @@ use Rattle.format.specs.Tables.{Table, nil, row, lookup}
 use Rattle.format.specs.Walk.{greatestId, isCustom, isData, rank, nameRow, isRow, idRules, nameRules}
 use Rattle.format.specs.declared.Reason.the-variants.{NoPreamble, PastItsPart}
 use Rattle.names.specs.Contents.{kindMeant}
-use Rattle.names.specs.Places.{placesOf, placedAt, replaced, Puts, refusalIn}
-use Rattle.names.specs.declared.judging.Judged.{Judged as JudgedNames}
-use Rattle.names.specs.declared.judging.Judged.the-variants.{Refused}
+use Rattle.names.specs.Places.{placesOf, placedAt, replaced, Puts}
+use Rattle.format.specs.Verdicts.{refusalIn}
+use Rattle.format.specs.declared.Verdict.{Verdict}
+use Rattle.format.specs.declared.Verdict.the-variants.{Refused}
 use Rattle.names.specs.declared.places.Places.{Places}
 use Rattle.tables.specs.declared.Held.{Held}
 use Rattle.tables.specs.declared.Held.the-variants.{Nothing as Absent, Part as At}
@@ -28,7 +29,7 @@ use Rattle.walk.specs.Sections.{bit, seenOf, ruling, IdRuled, rowCalled, NameRu
 use Rattle.walk.specs.declared.rules.Called.{Called}
 use Rattle.walk.specs.declared.rules.Called.the-variants.{Row, Other}
 use Rattle.walk.specs.declared.rules.Seen.{Seen}
-use Rattle.walk.specs.declared.rules.Verdict.{Verdict}
+use Rattle.walk.specs.declared.rules.Verdict.{Verdict as Ruling}
 use Rattle.promises.specs.RuledOut.{RuledOut, Refuses, Accepts, Tells, by-input, by-two-inputs}
 
 -- format: one number for every reason
@@ -38,6 +39,13 @@ reason-number n = by-two-inputs {says = λ r. r} (λ reason r meets. meets) (λ 
 -- format: one subsection for every question
 pub question-id : (id : ℕ) → RuledOut (λ q r. r ≡ idOf q) (λ _ r. r ≡ id)
 question-id id = by-two-inputs {says = λ r. r} (λ q r meets. meets) (λ r. some r) (eqb 0) ModuleName (KeptContents 3) refl refl refl refl id
+
+-- format: every refusal at one offset
+abbrev refusedAt : ℕ → Verdict
+refusedAt at = Refused (record { reason = PastItsPart; offset = record { 0 = at } })
+
+pub refusal-of : (at : ℕ) → RuledOut (λ verdict r. r ≡ refusalIn verdict) (λ _ r. r .offset .0 ≡ at)
+refusal-of at = by-two-inputs {says = λ r. r .offset .0} (λ verdict r meets. ap (λ r. r .offset .0) meets) (λ o. some o) (eqb 0) (refusedAt 0) (refusedAt 1) refl refl refl refl at
 
 -- reading: one number for every byte
 pub wide : (n : ℕ) → RuledOut (λ (x : ℕ) r. r ≡ x) (λ _ r. r ≡ n)
@@ -90,19 +98,12 @@ pub place-of : (place : Held) → RuledOut (λ (x : Places × ℕ) r. r ≡ plac
 unfolding placedAt placesOf lookup
 place-of place = by-two-inputs {says = λ r. r} (λ x r meets. meets) (λ r. some r) isAt (record { «module» = At front; functions = Absent; locals = Absent; types = Absent; fields = Absent; tags = Absent }, 0) (nowhere, 0) {k = At front} {l = Absent} refl refl refl refl place
 
--- names: every refusal at one offset
-abbrev refusedAt : ℕ → JudgedNames
-refusedAt at = Refused (record { reason = PastItsPart; offset = record { 0 = at } })
-
-pub refusal-of : (at : ℕ) → RuledOut (λ judged r. r ≡ refusalIn judged) (λ _ r. r .offset .0 ≡ at)
-refusal-of at = by-two-inputs {says = λ r. r .offset .0} (λ judged r meets. ap (λ r. r .offset .0) meets) (λ o. some o) (eqb 0) (refusedAt 0) (refusedAt 1) refl refl refl refl at
-
 -- walk: never against an id, or always. 255 is no section; 1 may be the first
 abbrev cameOut : Outcome (Unit {0}) → Judged (Unit {0})
 cameOut (got v o bs) = accepted v
 cameOut (stop n at) = refused n at
 
-abbrev ruled : Verdict → Judged (Unit {0})
+abbrev ruled : Ruling → Judged (Unit {0})
 ruled v = cameOut (ruling v 0 0 [])
 
 abbrev nothingSeen : Seen

@@ -12,8 +12,8 @@ use Rattle.format.specs.Numbers.{number, groups}
 use Rattle.format.specs.Parts.{sized}
 use Rattle.format.specs.Reading.{Judged, refused, verdict}
 use Rattle.format.specs.Tables.{lookup, rows, table}
-use Rattle.metadata.specs.Judgements.{judged}
-use Rattle.names.specs.Places.{Judges, verdictOf}
+use Rattle.format.specs.Verdicts.{verdictOf}
+use Rattle.names.specs.Places.{Judges}
 use Rattle.names.proofs.Verdicts.{verdict-is}
 use Rattle.wakemiono.specs.Calls as call
 use Rattle.promises.specs.Answers.{saysVerdict, verdict-said}
@@ -48,7 +48,7 @@ names-verdicts : Verdicts (λ p. verdict (judgeNames knownKind 0 p))
 unfolding hex digit number groups sized known knownKind lookup contents subsections payload judgeNames table
 names-verdicts = record { fine = hex ""; bad = refuses (hex "01 00") 2 2; worse = refuses (hex "01") 2 1; is-fine = λ h. h; is-bad = refl; is-worse = refl; apart = refl }
 
-pub names-judge : JudgesRightly (λ p r. Judges knownKind p 0 p r) verdictOf
+pub names-judge : JudgesRightly (λ p r. Judges knownKind p 0 p r) (λ r. verdictOf (r .verdict))
 names-judge = judges-rightly (λ p r meets. verdict-is knownKind p 0 p r meets) names-verdicts
 
 pub wm-names-judge : JudgesRightly (λ p a. call.wm-names-judge p a) saysVerdict
@@ -63,13 +63,13 @@ hints-verdicts : Verdicts (λ p. verdict (judgeMetadata hintItem 0 p))
 unfolding hex digit number groups sized rows table hintOf hintItem metadata judgeMetadata
 hints-verdicts = record { fine = hex "00"; bad = refuses (hex "01 02 01 05 01 02") 12 4; worse = refuses (hex "01") 2 1; is-fine = λ h. h; is-bad = refl; is-worse = refl; apart = refl }
 
-pub metadata-judge : JudgesRightly (λ p r. judged r ≡ verdict (judgeMetadata anyItem 0 p)) judged
+pub metadata-judge : JudgesRightly (λ p r. verdictOf r ≡ verdict (judgeMetadata anyItem 0 p)) verdictOf
 metadata-judge = judges-rightly (λ p r meets. meets) metadata-verdicts
 
 pub wm-metadata-judge : JudgesRightly (λ p a. call.wm-metadata-judge p a) saysVerdict
 wm-metadata-judge = judges-rightly (λ p a meets. ap saysVerdict meets ∙ verdict-said (length p) (verdict (judgeMetadata anyItem 0 p))) metadata-verdicts
 
-pub metadata-judge-hints : JudgesRightly (λ p r. judged r ≡ verdict (judgeMetadata hintItem 0 p)) judged
+pub metadata-judge-hints : JudgesRightly (λ p r. verdictOf r ≡ verdict (judgeMetadata hintItem 0 p)) verdictOf
 metadata-judge-hints = judges-rightly (λ p r meets. meets) hints-verdicts
 
 pub wm-hints-judge : JudgesRightly (λ p a. call.wm-hints-judge p a) saysVerdict

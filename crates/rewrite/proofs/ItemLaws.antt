@@ -33,11 +33,11 @@ use Rattle.copying.specs.declared.Put.{Put}
 use Rattle.tables.proofs.Accepted.{table-passable, known-count, table-rows, rows-table}
 use Rattle.reading.proofs.Standing.{stand, one-value}
 use Rattle.copying.proofs.Laws.{part-length, number-shorter, groups-count, groups-shorter}
-use Rattle.metadata.specs.Judgements.{judged as saysOf}
-use Rattle.metadata.specs.declared.Judged.{Judged}
-use Rattle.metadata.specs.declared.Judged.the-variants.{Refused as NotAccepted}
-use Rattle.metadata.proofs.Judged as judged-type
-use Rattle.metadata.proofs.Tags.{as-accepted}
+use Rattle.format.specs.Verdicts.{verdictOf, refusalIn}
+use Rattle.format.specs.declared.Verdict.{Verdict}
+use Rattle.format.specs.declared.Verdict.the-variants.{Refused as NotAccepted}
+use Rattle.format.proofs.Tags.{as-accepted, as-refused}
+use Rattle.format.proofs.Verdict as verdict-type
 use Rattle.reading.specs.Cursors.{overAll, left}
 use Rattle.reading.specs.declared.Cursor.{Cursor}
 use Rattle.reading.proofs.Laws.{left-all, over-inside}
@@ -104,20 +104,20 @@ module _ {s : List ℕ} {c : Cursor} (known : Known (table (table sized)) s c) w
 pub ruleset item-steps = (items-count, items-ordered, items-groups, items-fit, items-short, items-whole-room, items-whole, items-groups-room, items-put, needs)
 
 -- A payload that was judged: refused, or its functions stand where it begins
-module _ (item : Reader Part) (p : List ℕ) (j : Judged) (says : saysOf j ≡ verdict (judgeMetadata item 0 p)) where
-  payload-refused : {old : List ℕ} {r : Refusal} → j ≡ NotAccepted r → Writes (canonicalOf item p) old old (Refused r)
+module _ (item : Reader Part) (p : List ℕ) (j : Verdict) (says : verdictOf j ≡ verdict (judgeMetadata item 0 p)) where
+  payload-refused : {old : List ℕ} {r : Refusal} → tagOf verdict-type.the-type j ≡ 1 → r ≡ refusalIn j → Writes (canonicalOf item p) old old (Refused r)
   unfolding canonicalOf
-  payload-refused {r = r} e =
-      let told : verdict (judgeMetadata item 0 p) ≡ saysOf (NotAccepted r) = sym says ∙ ap saysOf e in
+  payload-refused h is =
+      let told : verdict (judgeMetadata item 0 p) ≡ verdictOf (NotAccepted (refusalIn j)) = sym says ∙ ap verdictOf (as-refused j h) in
       let no = refused-exactly (λ _. tt) (judgeMetadata item 0 p) .0 told in
-      writes-refused (refused-exactly rewriteMetadata (judgeMetadata item 0 p) .1 no)
+      rw is (writes-refused (refused-exactly rewriteMetadata (judgeMetadata item 0 p) .1 no))
 
-  module _ (lax : Laxer item sized) (h : tagOf judged-type.the-type j ≡ 0) where
+  module _ (lax : Laxer item sized) (h : tagOf verdict-type.the-type j ≡ 0) where
     -- read without the item's checks, what was accepted stands there
     payload-stands : (v : Table (Table Part)) × (judgeMetadata item 0 p ≡ accepted v) × (next : Cursor) × Stands (table (table sized)) p (overAll p) v next
     unfolding judgeMetadata metadata
     payload-stands =
-        let told : verdict (judgeMetadata item 0 p) ≡ accepted tt = sym says ∙ ap saysOf (as-accepted j h) in
+        let told : verdict (judgeMetadata item 0 p) ≡ accepted tt = sym says ∙ ap verdictOf (as-accepted j h) in
         mapped (λ _. tt) (judgeMetadata item 0 p) told λ v e _.
         judged (filling (table (table item)) 0 p) e λ o rest e₁.
         let (o₁, e₂) = filled-laxer (table-laxer (table-laxer lax)) 0 p e₁ in
@@ -135,28 +135,28 @@ module _ (item : Reader Part) (p : List ℕ) (j : Judged) (says : saysOf j ≡ v
         rw (e, same) (w .writes)
 
 -- of any format, and hints
-module _ (p : List ℕ) (j : Judged) where
-  module _ (says : saysOf j ≡ verdict (judgeMetadata anyItem 0 p)) where
-    pub any-refused : {old : List ℕ} {r : Refusal} → j ≡ NotAccepted r → Writes (canonicalMetadata p) old old (Refused r)
+module _ (p : List ℕ) (j : Verdict) where
+  module _ (says : verdictOf j ≡ verdict (judgeMetadata anyItem 0 p)) where
+    pub any-refused : {old : List ℕ} {r : Refusal} → tagOf verdict-type.the-type j ≡ 1 → r ≡ refusalIn j → Writes (canonicalMetadata p) old old (Refused r)
     unfolding canonicalMetadata
-    any-refused e = payload-refused anyItem p j says e
+    any-refused h is = payload-refused anyItem p j says h is
 
-    pub any-known : tagOf judged-type.the-type j ≡ 0 → {c : Cursor} → c ≡ overAll p → Known (table (table sized)) p c
+    pub any-known : tagOf verdict-type.the-type j ≡ 0 → {c : Cursor} → c ≡ overAll p → Known (table (table sized)) p c
     any-known h over = payload-known anyItem p j says any-laxer h over
 
-    pub any-written : tagOf judged-type.the-type j ≡ 0 → {c : Cursor} → c ≡ overAll p → {old new : List ℕ} {r : Written} → RewritesItems p c old new r → Writes (canonicalMetadata p) old new r
+    pub any-written : tagOf verdict-type.the-type j ≡ 0 → {c : Cursor} → c ≡ overAll p → {old new : List ℕ} {r : Written} → RewritesItems p c old new r → Writes (canonicalMetadata p) old new r
     unfolding canonicalMetadata
     any-written h over w = payload-written anyItem p j says any-laxer h over w
 
-  module _ (says : saysOf j ≡ verdict (judgeMetadata hintItem 0 p)) where
-    pub hints-refused : {old : List ℕ} {r : Refusal} → j ≡ NotAccepted r → Writes (canonicalHints p) old old (Refused r)
+  module _ (says : verdictOf j ≡ verdict (judgeMetadata hintItem 0 p)) where
+    pub hints-refused : {old : List ℕ} {r : Refusal} → tagOf verdict-type.the-type j ≡ 1 → r ≡ refusalIn j → Writes (canonicalHints p) old old (Refused r)
     unfolding canonicalHints
-    hints-refused e = payload-refused hintItem p j says e
+    hints-refused h is = payload-refused hintItem p j says h is
 
-    pub hints-known : tagOf judged-type.the-type j ≡ 0 → {c : Cursor} → c ≡ overAll p → Known (table (table sized)) p c
+    pub hints-known : tagOf verdict-type.the-type j ≡ 0 → {c : Cursor} → c ≡ overAll p → Known (table (table sized)) p c
     hints-known h over = payload-known hintItem p j says hint-laxer h over
 
-    pub hints-written : tagOf judged-type.the-type j ≡ 0 → {c : Cursor} → c ≡ overAll p → {old new : List ℕ} {r : Written} → RewritesItems p c old new r → Writes (canonicalHints p) old new r
+    pub hints-written : tagOf verdict-type.the-type j ≡ 0 → {c : Cursor} → c ≡ overAll p → {old new : List ℕ} {r : Written} → RewritesItems p c old new r → Writes (canonicalHints p) old new r
     unfolding canonicalHints
     hints-written h over w = payload-written hintItem p j says hint-laxer h over w
 

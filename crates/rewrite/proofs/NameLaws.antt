@@ -4,8 +4,7 @@ use mathlib.Core.List.{List}
 use mathlib.Core.Path.{_≡_, refl}
 use borrow.Author.Needs.{needs}
 use denote.Enum.Declared.{tagOf}
-use Rattle.format.specs.Reading.{accepted, refused, Accepted}
-use Rattle.format.specs.Refusals.{numberOf}
+use Rattle.format.specs.Reading.{accepted, Accepted}
 use Rattle.format.specs.Names.{Kind as AnyKind, payload, judgeNames}
 use Rattle.format.specs.Canonical.{canonicalNames}
 use Rattle.format.specs.Outputs.{Writes}
@@ -20,23 +19,22 @@ use Rattle.reading.proofs.Laws.{left-all, over-inside}
 use Rattle.reading.specs.Cursors.{overAll}
 use Rattle.names.specs.Places.{Judges, Accepts}
 use Rattle.names.specs.declared.judging.Judged.{Judged}
-use Rattle.names.specs.declared.judging.Judged.the-variants.{Refused as NotAccepted}
-use Rattle.names.proofs.judging.Judged as judged-type
-use Rattle.names.proofs.Tags.{as-accepted}
+use Rattle.format.specs.Verdicts.{refusalIn}
+use Rattle.format.proofs.Tags.{as-accepted, as-refused}
+use Rattle.format.proofs.Verdict as verdict-type
 use Rattle.rewrite.specs.Subsections.{PayloadStands, KnownPayload, RewritesNames}
 
 module _ {kindOf : ℕ → AnyKind} (p : List ℕ) (j : Judged) (says : Judges kindOf p 0 p j) where
-  pub names-refused : {old : List ℕ} {r : Refusal} → j ≡ NotAccepted r → Writes (canonicalNames kindOf p) old old (NotWritten r)
+  pub names-refused : {old : List ℕ} {r : Refusal} → tagOf verdict-type.the-type (j .verdict) ≡ 1 → r ≡ refusalIn (j .verdict) → Writes (canonicalNames kindOf p) old old (NotWritten r)
   unfolding canonicalNames
-  names-refused {r = r} e =
-      let no : judgeNames kindOf 0 p ≡ refused (numberOf (r .reason)) (r .offset .0) = rw e at (says .says) in
-      writes-refused (rw no)
+  names-refused h is =
+      let no = rw (as-refused (j .verdict) h) at (says .says) in
+      rw is (writes-refused (rw (no .0)))
 
-  module _ (h : tagOf judged-type.the-type j ≡ 0) where
+  module _ (h : tagOf verdict-type.the-type (j .verdict) ≡ 0) where
     accepts : Accepted (judgeNames kindOf 0) p
     accepts =
-        let (places, e) = as-accepted j h in
-        let a : Accepts kindOf p 0 p places = rw e at (says .says) in
+        let a : Accepts kindOf p 0 p (j .places) = rw (as-accepted (j .verdict) h) at (says .says) in
         record { value = a .held; judged = a .judged }
 
     stands-whole : PayloadStands kindOf p (overAll p) (accepts .value)

@@ -5,6 +5,9 @@ use mathlib.Core.Logic.{_↔_, Iff·trans}
 use mathlib.Core.Option.{Option, none, some}
 use mathlib.Core.Path.{_≡_, refl, sym, ap, _∙_}
 use Rattle.format.specs.Reading.{Judged, accepted, refused}
+use Rattle.format.specs.Verdicts.{verdictOf}
+use Rattle.format.specs.declared.Verdict.{Verdict}
+use Rattle.format.specs.declared.Verdict.the-variants.{Accepted as IsAccepted, Refused as IsRefused}
 use Rattle.format.specs.Parts.{Part}
 use Rattle.format.specs.Questions.{asPlace, asBytes, asTold, answered}
 use Rattle.format.specs.Laws.Answers.{told-none}
@@ -12,13 +15,6 @@ use Rattle.format.specs.Laws.Calls.{none-told}
 use Rattle.format.specs.Laws.Outcomes.{not-accepted}
 use Rattle.format.specs.declared.Answer.{Answer}
 use Rattle.format.specs.declared.Answer.the-variants.{None}
-use Rattle.metadata.specs.Judgements.{judged}
-use Rattle.metadata.specs.declared.Judged.{Judged as ItemsJudged}
-use Rattle.metadata.specs.declared.Judged.the-variants.{Accepted as ItemsAccepted, Refused as ItemsRefused}
-use Rattle.names.specs.Places.{verdictOf}
-use Rattle.names.specs.declared.places.Places.{Places}
-use Rattle.names.specs.declared.judging.Judged.{Judged as NamesJudged}
-use Rattle.names.specs.declared.judging.Judged.the-variants.{Accepted as NamesAccepted, Refused as NamesRefused}
 
 -- "Two answers are the same when both are none, both give the same bytes": what a question's two calls hand back of the one payload and of the other
 pub record SameTold (r r′ : Answer) (bytes bytes′ : List ℕ) : Type 0 where
@@ -47,10 +43,6 @@ same-told j k r r′ bytes bytes′ e b e′ b′ same =
       same-bytes = b ∙ bytes-told j ∙ ap toldBytes (sym same) ∙ sym (bytes-told k) ∙ sym b′;
     }
 
-pub accepted-names : (j : NamesJudged) → verdictOf j ≡ accepted tt → (places : Places) × (j ≡ NamesAccepted places)
-accepted-names (NamesAccepted places) e = (places, refl)
-accepted-names (NamesRefused r) e = absurd (not-accepted e)
-
-pub accepted-items : (j : ItemsJudged) → judged j ≡ accepted tt → j ≡ ItemsAccepted
-accepted-items ItemsAccepted e = refl
-accepted-items (ItemsRefused r) e = absurd (not-accepted e)
+pub accepted-so : (v : Verdict) → verdictOf v ≡ accepted tt → v ≡ IsAccepted
+accepted-so IsAccepted e = refl
+accepted-so (IsRefused r) e = absurd (not-accepted e)

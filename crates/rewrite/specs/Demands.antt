@@ -9,6 +9,9 @@ use Rattle.format.specs.Questions.{InRange, ask, asPlace, asBytes, asTold, answ
 use Rattle.format.specs.declared.Question.{Question}
 use Rattle.format.specs.Metadata.{anyItem, hintItem, judgeMetadata, askMetadata, askHint, hintAnswered}
 use Rattle.format.specs.Canonical.{canonicalNames, canonicalMetadata, canonicalHints}
+use Rattle.format.specs.Verdicts.{verdictOf}
+use Rattle.format.specs.declared.Verdict.{Verdict}
+use Rattle.format.specs.declared.Verdict.the-variants.{Accepted as IsAccepted}
 use Rattle.format.specs.Outputs.{Writes}
 use Rattle.format.specs.Demands.{ItemQuestion, ItemInRange, itemTold, hintTold, questions-rewritten, any-metadata-rewritten, hints-rewritten}
 use Rattle.format.specs.Laws.Questions.{AllPosed}
@@ -16,16 +19,11 @@ use Rattle.format.specs.Laws.Answers.{same-hint-answer}
 use Rattle.format.specs.declared.Answer.{Answer}
 use Rattle.format.specs.declared.HintAnswer.{HintAnswer}
 use Rattle.format.specs.declared.Written.the-variants.{Length}
-use Rattle.metadata.specs.Judgements.{judged}
-use Rattle.metadata.specs.declared.Judged.{Judged as ItemsJudged}
-use Rattle.metadata.specs.declared.Judged.the-variants.{Accepted as ItemsAccepted}
 use Rattle.names.specs.Places.{Judges}
-use Rattle.names.specs.declared.places.Places.{Places}
 use Rattle.names.specs.declared.judging.Judged.{Judged as NamesJudged}
-use Rattle.names.specs.declared.judging.Judged.the-variants.{Accepted as NamesAccepted}
 use Rattle.names.proofs.Verdicts.{verdict-is}
 use Rattle.rewrite.specs.Rewritten.{CallsRewrite, calls-rewrite}
-use Rattle.rewrite.specs.Alike.{SameTold, same-told, accepted-names, accepted-items}
+use Rattle.rewrite.specs.Alike.{SameTold, same-told, accepted-so}
 
 -- "Canonical rewritings of two accepted payloads are equal byte by byte exactly when every allowed question gets the same answer from both. A rewriting is accepted, answers as its original, is never longer, and rewriting it again changes nothing."
 pub names-calls : (kindOf : ℕ → Kind) → AllPosed kindOf → CallsRewrite (judgeNames kindOf 0) (canonicalNames kindOf) (λ q p. asTold (ask kindOf q p)) InRange
@@ -40,10 +38,10 @@ hint-calls = calls-rewrite hints-rewritten
 
 -- What `names` wrote is accepted by the judging call, and every question's calls tell of it what they tell of the original.
 module _ (kindOf : ℕ → Kind) (posed : AllPosed kindOf) {p old new : List ℕ} {n : ℕ} (a : Accepted (judgeNames kindOf 0) p) (w : Writes (canonicalNames kindOf p) old new (Length n)) where
-  pub names-accepted : (j : NamesJudged) → Judges kindOf (take n new) 0 (take n new) j → (places : Places) × (j ≡ NamesAccepted places)
+  pub names-accepted : (j : NamesJudged) → Judges kindOf (take n new) 0 (take n new) j → j .verdict ≡ IsAccepted
   names-accepted j says =
       let again = names-calls kindOf posed .leaves-canonical a w .is-accepted in
-      accepted-names j (verdict-is kindOf (take n new) 0 (take n new) j says ∙ rw (again .judged))
+      accepted-so (j .verdict) (verdict-is kindOf (take n new) 0 (take n new) j says ∙ rw (again .judged))
 
   pub names-asked : (q : Question) (r r′ : Answer) (bytes bytes′ : List ℕ)
       → answered r ≡ asPlace (ask kindOf q p) → bytes ≡ asBytes (ask kindOf q p)
@@ -52,8 +50,8 @@ module _ (kindOf : ℕ → Kind) (posed : AllPosed kindOf) {p old new : List ℕ
   names-asked q r r′ bytes bytes′ e b e′ b′ = same-told (ask kindOf q p) (ask kindOf q (take n new)) r r′ bytes bytes′ e b e′ b′ (names-calls kindOf posed .leaves-canonical a w .answers-alike q)
 
 -- The same of `metadata`, and of `hints` by likelihood.
-pub metadata-accepted : {p old new : List ℕ} {n : ℕ} → Accepted (judgeMetadata anyItem 0) p → Writes (canonicalMetadata p) old new (Length n) → (j : ItemsJudged) → judged j ≡ verdict (judgeMetadata anyItem 0 (take n new)) → j ≡ ItemsAccepted
-metadata-accepted a w j says = accepted-items j (says ∙ rw (metadata-calls .leaves-canonical a w .is-accepted .judged))
+pub metadata-accepted : {p old new : List ℕ} {n : ℕ} → Accepted (judgeMetadata anyItem 0) p → Writes (canonicalMetadata p) old new (Length n) → (j : Verdict) → verdictOf j ≡ verdict (judgeMetadata anyItem 0 (take n new)) → j ≡ IsAccepted
+metadata-accepted a w j says = accepted-so j (says ∙ rw (metadata-calls .leaves-canonical a w .is-accepted .judged))
 
 pub metadata-asked : {p old new : List ℕ} {n : ℕ} → Accepted (judgeMetadata anyItem 0) p → Writes (canonicalMetadata p) old new (Length n) → (q : ItemQuestion) (r r′ : Answer) (bytes bytes′ : List ℕ)
     → answered r ≡ asPlace (askMetadata anyItem (q .0) (q .1) 0 p) → bytes ≡ asBytes (askMetadata anyItem (q .0) (q .1) 0 p)
@@ -62,8 +60,8 @@ pub metadata-asked : {p old new : List ℕ} {n : ℕ} → Accepted (judgeMetadat
 metadata-asked {p = p} {new = new} {n = n} a w q r r′ bytes bytes′ e b e′ b′ =
     same-told (askMetadata anyItem (q .0) (q .1) 0 p) (askMetadata anyItem (q .0) (q .1) 0 (take n new)) r r′ bytes bytes′ e b e′ b′ (metadata-calls .leaves-canonical a w .answers-alike q)
 
-pub hints-accepted : {p old new : List ℕ} {n : ℕ} → Accepted (judgeMetadata hintItem 0) p → Writes (canonicalHints p) old new (Length n) → (j : ItemsJudged) → judged j ≡ verdict (judgeMetadata hintItem 0 (take n new)) → j ≡ ItemsAccepted
-hints-accepted a w j says = accepted-items j (says ∙ rw (hint-calls .leaves-canonical a w .is-accepted .judged))
+pub hints-accepted : {p old new : List ℕ} {n : ℕ} → Accepted (judgeMetadata hintItem 0) p → Writes (canonicalHints p) old new (Length n) → (j : Verdict) → verdictOf j ≡ verdict (judgeMetadata hintItem 0 (take n new)) → j ≡ IsAccepted
+hints-accepted a w j says = accepted-so j (says ∙ rw (hint-calls .leaves-canonical a w .is-accepted .judged))
 
 pub hints-asked : {p old new : List ℕ} {n : ℕ} → Accepted (judgeMetadata hintItem 0) p → Writes (canonicalHints p) old new (Length n) → (q : ItemQuestion) (r r′ : HintAnswer)
     → hintAnswered r ≡ askHint (q .0) (q .1) 0 p → hintAnswered r′ ≡ askHint (q .0) (q .1) 0 (take n new)

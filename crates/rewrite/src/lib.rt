@@ -7,8 +7,9 @@ mod whole;
 ghost use Rattle.format.specs.Canonical.{canonicalNames, canonicalMetadata, canonicalHints};
 ghost use Rattle.format.specs.Names.{knownKind};
 ghost use Rattle.format.specs.Outputs.{Writes};
+use format::Verdict;
 use format::Written;
-use metadata::Judged;
+use format::refusal_of;
 use names::judging;
 use reading::Cursor;
 
@@ -16,28 +17,32 @@ use reading::Cursor;
 pub fn names(p: &[u8], out: &mut [u8]) -> Written
     ensures { λ r. ⌜ Writes (canonicalNames knownKind (now (p .entry))) (now (out .entry)) (now (out .exit)) r ⌝ }
 {
-    match judging::judge(p) {
-        judging::Judged::Refused(r) => Written::Refused(r),
-        judging::Judged::Accepted(_) => subsections::put_payload(p, Cursor::over(p), out),
-    }
+    let judged = judging::judge(p);
+    let verdict = judged.verdict;
+    let Verdict::Accepted = verdict else {
+        return Written::Refused(refusal_of(verdict));
+    };
+    subsections::put_payload(p, Cursor::over(p), out)
 }
 
 // The canonical form of a metadata payload of any format.
 pub fn metadata(p: &[u8], out: &mut [u8]) -> Written
     ensures { λ r. ⌜ Writes (canonicalMetadata (now (p .entry))) (now (out .entry)) (now (out .exit)) r ⌝ }
 {
-    match metadata::judge(p) {
-        Judged::Refused(r) => Written::Refused(r),
-        Judged::Accepted => items::put_items(p, Cursor::over(p), out),
-    }
+    let verdict = metadata::judge(p);
+    let Verdict::Accepted = verdict else {
+        return Written::Refused(refusal_of(verdict));
+    };
+    items::put_items(p, Cursor::over(p), out)
 }
 
 // The canonical form of a payload of branch hints.
 pub fn hints(p: &[u8], out: &mut [u8]) -> Written
     ensures { λ r. ⌜ Writes (canonicalHints (now (p .entry))) (now (out .entry)) (now (out .exit)) r ⌝ }
 {
-    match metadata::judge_hints(p) {
-        Judged::Refused(r) => Written::Refused(r),
-        Judged::Accepted => items::put_items(p, Cursor::over(p), out),
-    }
+    let verdict = metadata::judge_hints(p);
+    let Verdict::Accepted = verdict else {
+        return Written::Refused(refusal_of(verdict));
+    };
+    items::put_items(p, Cursor::over(p), out)
 }

@@ -3,6 +3,7 @@ use format::Answer;
 use format::Hint;
 use format::HintAnswer;
 use format::Refusal;
+use format::Verdict;
 use format::Written;
 use names::judging;
 use reading::NumberRead;
@@ -128,9 +129,10 @@ pub fn say_hint(case: &[u8], a: HintAnswer) {
 
 pub fn say_names(case: &[u8], judged: judging::Judged) {
     say_case(case);
-    match judged {
-        judging::Judged::Refused(r) => say_refusal(r),
-        judging::Judged::Accepted(_) => say(b"accepted\n"),
+    let verdict = judged.verdict;
+    match verdict {
+        Verdict::Refused(r) => say_refusal(r),
+        Verdict::Accepted => say(b"accepted\n"),
     }
 }
 

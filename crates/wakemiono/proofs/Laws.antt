@@ -24,18 +24,15 @@ use Rattle.format.specs.declared.Refusal.{Refusal}
 use Rattle.format.specs.declared.Written.{Written}
 use Rattle.format.specs.declared.Written.the-variants.{Length, Refused as NotWritten}
 use Rattle.format.proofs.Answer as answer-type
-use Rattle.format.proofs.Tags.{no-answer}
+use Rattle.format.proofs.Tags.{no-answer, as-accepted}
 use Rattle.format.proofs.Hint as likelihood-type
 use Rattle.format.proofs.HintAnswer as hint-type
-use Rattle.metadata.specs.Judgements.{judged}
-use Rattle.metadata.specs.declared.Judged.{Judged}
-use Rattle.metadata.specs.declared.Judged.the-variants.{Refused as NotAccepted}
-use Rattle.metadata.proofs.Judged as judged-type
-use Rattle.metadata.proofs.Tags.{as-accepted}
-use Rattle.names.specs.Places.{verdictOf, Judges}
+use Rattle.format.specs.Verdicts.{verdictOf}
+use Rattle.format.specs.declared.Verdict.{Verdict}
+use Rattle.format.specs.declared.Verdict.the-variants.{Refused as NotAccepted}
+use Rattle.format.proofs.Verdict as verdict-type
+use Rattle.names.specs.Places.{Judges}
 use Rattle.names.specs.declared.judging.Judged.{Judged as NamesJudged}
-use Rattle.names.specs.declared.judging.Judged.the-variants.{Accepted as NamesAccepted, Refused as NamesRefused}
-use Rattle.names.proofs.judging.Judged as names-type
 use Rattle.names.proofs.Verdicts.{verdict-is}
 use Rattle.walk.specs.Surveys.{counted, sectionAnswered}
 use Rattle.walk.specs.declared.Counted.{Counted}
@@ -91,20 +88,12 @@ module _ (x : Answer) where
   place-is p e = rw e
 
 -- a judgement
-module _ (j : Judged) (n : ℕ) where
-  pub judged-refused : (a : WmAnswer) (r : Refusal) → j ≡ NotAccepted r → a ≡ wmRefused (numberOf (r .reason)) (r .offset .0) → a ≡ wmJudged n (judged j)
+module _ (j : Verdict) (n : ℕ) where
+  pub judged-refused : (a : WmAnswer) (r : Refusal) → j ≡ NotAccepted r → a ≡ wmRefused (numberOf (r .reason)) (r .offset .0) → a ≡ wmJudged n (verdictOf j)
   judged-refused a r e q = rw e q
 
-  pub judged-is : (a : WmAnswer) → tagOf judged-type.the-type j ≡ 0 → a ≡ wmFound 0 0 n → a ≡ wmJudged n (judged j)
+  pub judged-is : (a : WmAnswer) → tagOf verdict-type.the-type j ≡ 0 → a ≡ wmFound 0 0 n → a ≡ wmJudged n (verdictOf j)
   judged-is a h e = rw (as-accepted j h) e
-
-module _ (j : NamesJudged) (n : ℕ) where
-  pub names-refused : (a : WmAnswer) (r : Refusal) → j ≡ NamesRefused r → a ≡ wmRefused (numberOf (r .reason)) (r .offset .0) → a ≡ wmJudged n (verdictOf j)
-  names-refused a r e q = rw e q
-
-pub names-accepted : (j : NamesJudged) (n : ℕ) (a : WmAnswer) → tagOf names-type.the-type j ≡ 0 → a ≡ wmFound 0 0 n → a ≡ wmJudged n (verdictOf j)
-names-accepted (NamesAccepted p) n a h e = e
-names-accepted (NamesRefused r) n a h e = absurd (omega arith)
 
 -- a hint
 pub unlikely-is : (h : Hint) → tagOf likelihood-type.the-type h ≡ 0 → record { kind = 3; code = 0; offset = 0; length = 0 } ≡ wmHinted h
@@ -130,7 +119,7 @@ module _ (x : HintAnswer) where
   pub hint-is : (a : WmAnswer) (h : Hint) → x ≡ AHint h → a ≡ wmHinted h → a ≡ wmHint (hintAnswered x)
   hint-is a h e q = rw e q
 
-pub ruleset fields = (refusal-is, count-refused, count-is, written-refused, written-is, section-none, section-refused, section-is, place-none, place-refused, place-is, judged-refused, judged-is, names-refused, names-accepted, unlikely-is, likely-is, hint-none, hint-refused, hint-is, needs)
+pub ruleset fields = (refusal-is, count-refused, count-is, written-refused, written-is, section-none, section-refused, section-is, place-none, place-refused, place-is, judged-refused, judged-is, unlikely-is, likely-is, hint-none, hint-refused, hint-is, needs)
 
 -- and so does each call
 pub says-count : (a : WmAnswer) (x y : Judgement ℕ) → a ≡ wmCount x → x ≡ y → a ≡ wmCount y
@@ -145,7 +134,7 @@ says-place a x y e q = e ∙ ap wmPlace q
 pub says-judged : (a : WmAnswer) (n : ℕ) (x y : Judgement (Unit {0})) → a ≡ wmJudged n x → x ≡ y → a ≡ wmJudged n y
 says-judged a n x y e q = e ∙ ap (wmJudged n) q
 
-pub says-names : (kindOf : ℕ → Kind) (s : List ℕ) (a : WmAnswer) (n : ℕ) (j : NamesJudged) → a ≡ wmJudged n (verdictOf j) → Judges kindOf s 0 s j → a ≡ wmJudged n (verdict (judgeNames kindOf 0 s))
+pub says-names : (kindOf : ℕ → Kind) (s : List ℕ) (a : WmAnswer) (n : ℕ) (j : NamesJudged) → a ≡ wmJudged n (verdictOf (j .verdict)) → Judges kindOf s 0 s j → a ≡ wmJudged n (verdict (judgeNames kindOf 0 s))
 says-names kindOf s a n j e h = e ∙ ap (wmJudged n) (verdict-is kindOf s 0 s j h)
 
 pub says-hint : (a : WmAnswer) (x y : Judgement (Option Hint)) → a ≡ wmHint x → x ≡ y → a ≡ wmHint y

@@ -6,8 +6,7 @@ ghost use Rattle.format.specs.Outputs.{writtenAs};
 ghost use Rattle.format.specs.Questions.{answered};
 ghost use Rattle.format.specs.declared.Question.the-variants.{ModuleName, FunctionName, TypeName, TagName, LocalName, FieldName, KeptContents};
 ghost use Rattle.format.specs.Refusals.{numberOf};
-ghost use Rattle.metadata.specs.Judgements;
-ghost use Rattle.names.specs.Places.{verdictOf};
+ghost use Rattle.format.specs.Verdicts.{verdictOf};
 ghost use Rattle.walk.specs.Surveys.{counted, sectionAnswered};
 ghost use Rattle.wakemiono.specs.Boundary.{wmFound, wmRefused, wmCount, wmSection, wmPlace, wmJudged, wmHinted, wmHint};
 ghost use Rattle.wakemiono.specs.Calls.{wm-walk, wm-section, wm-custom, wm-names-judge, wm-name, wm-metadata-judge, wm-metadata, wm-hints-judge, wm-hint, wm-name-in, wm-metadata-in, wm-hint-in, wm-names-canonical, wm-metadata-canonical, wm-hints-canonical, wm-function-names-write};
@@ -22,8 +21,8 @@ use format::Question;
 use format::Refusal;
 use format::TagIndex;
 use format::TypeIndex;
+use format::Verdict;
 use format::Written;
-use metadata::Judged;
 use names::judging;
 use walk::Counted;
 use walk::survey::SectionAnswer;
@@ -138,21 +137,12 @@ fn all_of(length: usize) -> WmAnswer
     }
 }
 
-fn of_names_judged(judged: judging::Judged, length: usize) -> WmAnswer
-    ensures { λ a. ⌜ a ≡ wmJudged length (verdictOf judged) ⌝ }
+fn of_verdict(verdict: Verdict, length: usize) -> WmAnswer
+    ensures { λ a. ⌜ a ≡ wmJudged length (verdictOf verdict) ⌝ }
 {
-    match judged {
-        judging::Judged::Refused(r) => of_refusal(r),
-        judging::Judged::Accepted(_) => all_of(length),
-    }
-}
-
-fn of_judged(judged: Judged, length: usize) -> WmAnswer
-    ensures { λ a. ⌜ a ≡ wmJudged length (Judgements.judged judged) ⌝ }
-{
-    match judged {
-        Judged::Refused(r) => of_refusal(r),
-        Judged::Accepted => all_of(length),
+    match verdict {
+        Verdict::Refused(r) => of_refusal(r),
+        Verdict::Accepted => all_of(length),
     }
 }
 
@@ -210,7 +200,9 @@ pub extern "C" fn wm_custom(bytes: &[u8], name: &[u8]) -> WmAnswer
 pub extern "C" fn wm_names_judge(payload: &[u8]) -> WmAnswer
     ensures { λ a. ⌜ wm-names-judge (now (payload .entry)) a ⌝ }
 {
-    of_names_judged(judging::judge(payload), payload.len())
+    let judged = judging::judge(payload);
+    let verdict = judged.verdict;
+    of_verdict(verdict, payload.len())
 }
 
 fn local_name(function: u32, local: u32) -> Question
@@ -285,14 +277,14 @@ pub extern "C" fn wm_kept(payload: &[u8], id: u8) -> WmAnswer
 pub extern "C" fn wm_metadata_judge(payload: &[u8]) -> WmAnswer
     ensures { λ a. ⌜ wm-metadata-judge (now (payload .entry)) a ⌝ }
 {
-    of_judged(metadata::judge(payload), payload.len())
+    of_verdict(metadata::judge(payload), payload.len())
 }
 
 #[no_mangle]
 pub extern "C" fn wm_hints_judge(payload: &[u8]) -> WmAnswer
     ensures { λ a. ⌜ wm-hints-judge (now (payload .entry)) a ⌝ }
 {
-    of_judged(metadata::judge_hints(payload), payload.len())
+    of_verdict(metadata::judge_hints(payload), payload.len())
 }
 
 #[no_mangle]

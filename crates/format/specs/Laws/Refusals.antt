@@ -5,7 +5,11 @@ use mathlib.Core.Path.{_≡_, refl, sym, ap, _∙_}
 use lib.ListN.{getD}
 use Rattle.format.specs.Refusals.{numberOf}
 use Rattle.format.specs.Reading.{Outcome, stop, Judged, refused}
+use Rattle.format.specs.Verdicts.{verdictOf}
+use Rattle.format.specs.Laws.Outcomes.{not-accepted}
 use Rattle.format.specs.declared.Refusal.{Refusal}
+use Rattle.format.specs.declared.Verdict.{Verdict}
+use Rattle.format.specs.declared.Verdict.the-variants.{Accepted, Refused}
 use Rattle.format.specs.declared.Reason.{Reason}
 use Rattle.format.specs.declared.Reason.the-variants.{NoPreamble, PastItsPart, NumberTooLarge, NotText, SectionUnknown, SectionOrder, SectionTwice, SectionTooLate, SubsectionOrder, LeftOver, NotAbove, NotHint, OutputTooShort, ListsDisagree, SubsectionTooLarge, InputTooLarge}
 
@@ -48,3 +52,9 @@ module _ {A : Type 0} where
 
   pub same-stop : {r s : Refusal} → _≡_ {A = Outcome A} (stop (numberOf (r .reason)) (r .offset .0)) (stop (numberOf (s .reason)) (s .offset .0)) → r ≡ s
   same-stop {r} {s} e = same-refusal r s (cc) (cc)
+
+pub same-verdict : (a b : Verdict) → verdictOf a ≡ verdictOf b → a ≡ b
+same-verdict Accepted Accepted e = refl
+same-verdict Accepted (Refused r) e = absurd (not-accepted (sym e))
+same-verdict (Refused r) Accepted e = absurd (not-accepted e)
+same-verdict (Refused r) (Refused s) e = ap Refused (same-judgement e)

@@ -8,6 +8,9 @@ tables-requires c κs = search judgings
 enum-known-r : tie.Need-enum-known-r
 enum-known-r c = search judgings
 
+refused-requires : tie.Need-refused-requires
+refused-requires c κs = search judgings
+
 enum-known-next : tie.Need-enum-known-next
 enum-known-next c = search judgings
 
@@ -30,15 +33,4 @@ returns-3 : tie.Need-returns-3
 returns-3 c = search judgings
 
 pub judge-for-spec : {M : Type 1} → statement M
-judge-for-spec =
-    tie.close
-    (tie.spec
-    tables-requires
-    enum-known-r
-    enum-known-next
-    filled-requires
-    enum-known-part
-    filled-requires-2
-    returns
-    returns-2
-    returns-3)
+judge-for-spec = tie.close (tie.spec tables-requires enum-known-r refused-requires enum-known-next filled-requires enum-known-part filled-requires-2 returns returns-2 returns-3)

@@ -12,11 +12,10 @@ use Rattle.format.specs.declared.Query.the-variants.{ItsName, ItsContents, Name
 use Rattle.format.specs.Reading.{verdict, accepted}
 use Rattle.format.specs.Tables.{Table}
 use Rattle.format.specs.declared.Answer.{Answer}
-use Rattle.format.specs.declared.Refusal.{Refusal}
 use Rattle.names.proofs.Same.{judge-same, kind-same, frame-same, placed-same, stands-same}
 use Rattle.names.specs.Contents.{kindMeant, Asks, Rules}
 use Rattle.names.specs.Frames.{frame, subsection, FrameReads, judgeFrames}
-use Rattle.names.specs.Places.{Puts, placedAt, AsksAt, Judges, refusalIn, Finds}
+use Rattle.names.specs.Places.{Puts, placedAt, AsksAt, Judges, Finds}
 use Rattle.names.specs.declared.frames.FrameRead.{FrameRead}
 use Rattle.names.specs.declared.judging.Judged.{Judged}
 use Rattle.names.specs.declared.kinds.Kind.{Kind}
@@ -33,9 +32,6 @@ pub ask-bytes-determined : (p : List ℕ) (lent-at : ℕ × ℕ) (q : Question) 
 ask-bytes-determined p lent-at q = part-determined _ _
 
 -- names::asking
-pub refusal-of-determined : (judged : Judged) → Determines (λ (r : Refusal). r ≡ refusalIn judged)
-refusal-of-determined judged = equal-determined _
-
 pub the-name-determined : (s : List ℕ) (place : Held) → Determines (λ (r : Answer). AsksAt oneName ItsName s place r)
 the-name-determined s place a b h h′ = same-answer a b (h .says ∙ sym (h′ .says))
 

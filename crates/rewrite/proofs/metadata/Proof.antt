@@ -5,20 +5,23 @@ use Rattle.rewrite.proofs.metadata.Tie as tie
 judge-requires : tie.Need-judge-requires
 judge-requires c κs = search payload-steps
 
-enum-known-r : tie.Need-enum-known-r
-enum-known-r c = search payload-steps
-
 enum-told : tie.Need-enum-told
 enum-told c = search payload-steps
+
+enum-told-2 : tie.Need-enum-told-2
+enum-told-2 c = search payload-steps
+
+refusal-of-requires : tie.Need-refusal-of-requires
+refusal-of-requires c κs = search payload-steps
+
+returns : tie.Need-returns
+returns c = search payload-steps
 
 over-requires : tie.Need-over-requires
 over-requires c κs = search payload-steps
 
 put-items-requires : tie.Need-put-items-requires
 put-items-requires c κs = search payload-steps
-
-returns : tie.Need-returns
-returns c = search payload-steps
 
 same-length : tie.Need-same-length
 same-length c = search payload-steps
@@ -27,14 +30,4 @@ returns-2 : tie.Need-returns-2
 returns-2 c = search payload-steps
 
 pub metadata-spec : {M : Type 1} → statement M
-metadata-spec =
-    tie.close
-    (tie.spec
-    judge-requires
-    enum-known-r
-    enum-told
-    over-requires
-    put-items-requires
-    returns
-    same-length
-    returns-2)
+metadata-spec = tie.close (tie.spec judge-requires enum-told enum-told-2 refusal-of-requires returns over-requires put-items-requires same-length returns-2)

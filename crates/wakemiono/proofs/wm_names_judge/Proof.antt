@@ -5,11 +5,11 @@ use Rattle.wakemiono.proofs.wm_names_judge.Tie as tie
 judge-requires : tie.Need-judge-requires
 judge-requires c κs = search calls
 
-of-names-judged-requires : tie.Need-of-names-judged-requires
-of-names-judged-requires c κs = search calls
+of-verdict-requires : tie.Need-of-verdict-requires
+of-verdict-requires c κs = search calls
 
 returns : tie.Need-returns
 returns c = search calls
 
 pub wm-names-judge-spec : {M : Type 1} → statement M
-wm-names-judge-spec = tie.close (tie.spec judge-requires of-names-judged-requires returns)
+wm-names-judge-spec = tie.close (tie.spec judge-requires of-verdict-requires returns)

@@ -21,6 +21,4 @@ returns-2 : tie.Need-returns-2
 returns-2 c = search map-steps
 
 pub named-spec : {M : Type 1} → statement M
-named-spec =
-    tie.close
-    (tie.spec enum-told enum-known-place find-row-requires answer-of-requires returns returns-2)
+named-spec = tie.close (tie.spec enum-told enum-known-place find-row-requires answer-of-requires returns returns-2)

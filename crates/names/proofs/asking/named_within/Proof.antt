@@ -21,6 +21,4 @@ returns-2 : tie.Need-returns-2
 returns-2 c = search map-steps
 
 pub named-within-spec : {M : Type 1} → statement M
-named-within-spec =
-    tie.close
-    (tie.spec enum-told enum-known-place find-group-requires answer-of-requires returns returns-2)
+named-within-spec = tie.close (tie.spec enum-told enum-known-place find-group-requires answer-of-requires returns returns-2)

@@ -2,6 +2,9 @@ use Rattle.names.proofs.JudgeLaws.{judge-steps}
 use Rattle.names.proofs.judging.judge.Statement.{statement}
 use Rattle.names.proofs.judging.judge.Tie as tie
 
+over-requires : tie.Need-over-requires
+over-requires c κs = search judge-steps
+
 judge-in-requires : tie.Need-judge-in-requires
 judge-in-requires c κs = search judge-steps
 
@@ -9,4 +12,4 @@ returns : tie.Need-returns
 returns c = search judge-steps
 
 pub judge-spec : {M : Type 1} → statement M
-judge-spec = tie.close (tie.spec judge-in-requires returns)
+judge-spec = tie.close (tie.spec over-requires judge-in-requires returns)

@@ -40,18 +40,4 @@ returns-4 : tie.Need-returns-4
 returns-4 c = search content-measured
 
 pub content-left-spec : {M : Type 1} → statement M
-content-left-spec =
-    tie.close
-    (tie.spec
-    enum-told
-    one-name-left-requires
-    enum-told-2
-    name-map-left-requires
-    enum-told-3
-    indirect-map-left-requires
-    enum-told-4
-    sub-length
-    returns
-    returns-2
-    returns-3
-    returns-4)
+content-left-spec = tie.close (tie.spec enum-told one-name-left-requires enum-told-2 name-map-left-requires enum-told-3 indirect-map-left-requires enum-told-4 sub-length returns returns-2 returns-3 returns-4)

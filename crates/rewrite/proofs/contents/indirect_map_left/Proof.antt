@@ -22,12 +22,4 @@ returns-2 : tie.Need-returns-2
 returns-2 c = search groups-measured
 
 pub indirect-map-left-spec : {M : Type 1} → statement M
-indirect-map-left-spec =
-    tie.close
-    (tie.spec
-    number-here-requires
-    groups-length-requires
-    returns
-    number-length-requires
-    add-length
-    returns-2)
+indirect-map-left-spec = tie.close (tie.spec number-here-requires groups-length-requires returns number-length-requires add-length returns-2)

@@ -22,12 +22,4 @@ returns-2 : tie.Need-returns-2
 returns-2 c = search map-measured
 
 pub name-map-left-spec : {M : Type 1} → statement M
-name-map-left-spec =
-    tie.close
-    (tie.spec
-    number-here-requires
-    returns
-    rows-length-requires
-    number-length-requires
-    add-length
-    returns-2)
+name-map-left-spec = tie.close (tie.spec number-here-requires returns rows-length-requires number-length-requires add-length returns-2)

@@ -16,5 +16,4 @@ returns : tie.Need-returns
 returns c = search one-measured
 
 pub one-name-left-spec : {M : Type 1} → statement M
-one-name-left-spec =
-    tie.close (tie.spec part-here-requires sub-sized-length sized-length-requires returns)
+one-name-left-spec = tie.close (tie.spec part-here-requires sub-sized-length sized-length-requires returns)

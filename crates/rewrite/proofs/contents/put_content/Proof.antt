@@ -52,22 +52,4 @@ returns-4 : tie.Need-returns-4
 returns-4 c = search content-put
 
 pub put-content-spec : {M : Type 1} → statement M
-put-content-spec =
-    tie.close
-    (tie.spec
-    enum-told
-    put-one-name-requires
-    enum-told-2
-    put-name-map-requires
-    enum-told-3
-    put-indirect-map-requires
-    enum-told-4
-    put-kept-requires
-    same-length
-    returns
-    same-length-2
-    returns-2
-    same-length-3
-    returns-3
-    same-length-4
-    returns-4)
+put-content-spec = tie.close (tie.spec enum-told put-one-name-requires enum-told-2 put-name-map-requires enum-told-3 put-indirect-map-requires enum-told-4 put-kept-requires same-length returns same-length-2 returns-2 same-length-3 returns-3 same-length-4 returns-4)

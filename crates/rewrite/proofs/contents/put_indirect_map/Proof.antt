@@ -19,6 +19,4 @@ returns : tie.Need-returns
 returns c = search groups-put
 
 pub put-indirect-map-spec : {M : Type 1} → statement M
-put-indirect-map-spec =
-    tie.close
-    (tie.spec number-here-requires put-number-requires put-groups-requires same-length returns)
+put-indirect-map-spec = tie.close (tie.spec number-here-requires put-number-requires put-groups-requires same-length returns)

@@ -22,12 +22,4 @@ returns : tie.Need-returns
 returns c = search kept-put
 
 pub put-kept-spec : {M : Type 1} → statement M
-put-kept-spec =
-    tie.close
-    (tie.spec
-    sub-put-bytes
-    part-put-bytes-start
-    part-put-bytes-end
-    put-bytes-requires
-    same-length
-    returns)
+put-kept-spec = tie.close (tie.spec sub-put-bytes part-put-bytes-start part-put-bytes-end put-bytes-requires same-length returns)

@@ -19,6 +19,4 @@ returns : tie.Need-returns
 returns c = search map-put
 
 pub put-name-map-spec : {M : Type 1} → statement M
-put-name-map-spec =
-    tie.close
-    (tie.spec number-here-requires put-number-requires put-rows-requires same-length returns)
+put-name-map-spec = tie.close (tie.spec number-here-requires put-number-requires put-rows-requires same-length returns)

@@ -43,19 +43,4 @@ returns-3 : tie.Need-returns-3
 returns-3 c = search item-steps
 
 pub put-items-spec : {M : Type 1} → statement M
-put-items-spec =
-    tie.close
-    (tie.spec
-    number-here-requires
-    groups-length-requires
-    number-length-requires
-    add-needed
-    returns
-    sub-if2
-    put-whole-requires
-    same-length
-    returns-2
-    put-number-requires
-    put-groups-requires
-    same-length-2
-    returns-3)
+put-items-spec = tie.close (tie.spec number-here-requires groups-length-requires number-length-requires add-needed returns sub-if2 put-whole-requires same-length returns-2 put-number-requires put-groups-requires same-length-2 returns-3)

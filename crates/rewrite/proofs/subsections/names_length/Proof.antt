@@ -38,17 +38,4 @@ returns : tie.Need-returns Inv-loop μ-loop
 returns c = search names-measured
 
 pub names-length-spec : {M : Type 1} → statement M
-names-length-spec =
-    tie.close
-    (tie.spec
-    Inv-loop
-    μ-loop
-    loop-holds
-    frame-here-requires
-    kind-of-requires
-    content-left-requires
-    subsection-length-requires
-    add-length
-    loop-less
-    loop-again
-    returns)
+names-length-spec = tie.close (tie.spec Inv-loop μ-loop loop-holds frame-here-requires kind-of-requires content-left-requires subsection-length-requires add-length loop-less loop-again returns)

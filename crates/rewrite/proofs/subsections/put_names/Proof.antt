@@ -32,15 +32,4 @@ returns : tie.Need-returns Inv-loop μ-loop
 returns c = search names-written
 
 pub put-names-spec : {M : Type 1} → statement M
-put-names-spec =
-    tie.close
-    (tie.spec
-    Inv-loop
-    μ-loop
-    loop-holds
-    frame-here-requires
-    put-subsection-requires
-    loop-less
-    loop-again
-    same-length
-    returns)
+put-names-spec = tie.close (tie.spec Inv-loop μ-loop loop-holds frame-here-requires put-subsection-requires loop-less loop-again same-length returns)

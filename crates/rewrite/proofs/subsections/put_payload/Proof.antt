@@ -31,15 +31,4 @@ returns-3 : tie.Need-returns-3
 returns-3 c = search payload-written
 
 pub put-payload-spec : {M : Type 1} → statement M
-put-payload-spec =
-    tie.close
-    (tie.spec
-    names-length-requires
-    returns
-    sub-if2
-    put-whole-requires
-    same-length
-    returns-2
-    put-names-requires
-    same-length-2
-    returns-3)
+put-payload-spec = tie.close (tie.spec names-length-requires returns sub-if2 put-whole-requires same-length returns-2 put-names-requires same-length-2 returns-3)

@@ -37,17 +37,4 @@ returns-2 : tie.Need-returns-2
 returns-2 c = search subsection-put
 
 pub put-subsection-spec : {M : Type 1} → statement M
-put-subsection-spec =
-    tie.close
-    (tie.spec
-    kind-of-requires
-    content-left-requires
-    enum-told
-    enum-known-sizes
-    put-byte-requires
-    cast-put-number
-    put-number-requires
-    put-content-requires
-    returns
-    same-length
-    returns-2)
+put-subsection-spec = tie.close (tie.spec kind-of-requires content-left-requires enum-told enum-known-sizes put-byte-requires cast-put-number put-number-requires put-content-requires returns same-length returns-2)

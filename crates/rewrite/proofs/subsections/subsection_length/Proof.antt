@@ -22,6 +22,4 @@ returns-2 : tie.Need-returns-2
 returns-2 c = search subsection-measured
 
 pub subsection-length-spec : {M : Type 1} → statement M
-subsection-length-spec =
-    tie.close
-    (tie.spec enum-told enum-known-left sized-length-requires add-result returns returns-2)
+subsection-length-spec = tie.close (tie.spec enum-told enum-known-left sized-length-requires add-result returns returns-2)

@@ -1,9 +1,9 @@
 use Rattle.wakemiono.proofs.Laws.{fields}
-use Rattle.wakemiono.proofs.of_judged.Statement.{statement}
-use Rattle.wakemiono.proofs.of_judged.Tie as tie
+use Rattle.wakemiono.proofs.of_verdict.Statement.{statement}
+use Rattle.wakemiono.proofs.of_verdict.Tie as tie
 
-enum-known-judged : tie.Need-enum-known-judged
-enum-known-judged c = search fields
+enum-known-verdict : tie.Need-enum-known-verdict
+enum-known-verdict c = search fields
 
 of-refusal-requires : tie.Need-of-refusal-requires
 of-refusal-requires c κs = search fields
@@ -20,5 +20,5 @@ returns c = search fields
 returns-2 : tie.Need-returns-2
 returns-2 c = search fields
 
-pub of-judged-spec : {M : Type 1} → statement M
-of-judged-spec = tie.close (tie.spec enum-known-judged of-refusal-requires enum-told all-of-requires returns returns-2)
+pub of-verdict-spec : {M : Type 1} → statement M
+of-verdict-spec = tie.close (tie.spec enum-known-verdict of-refusal-requires enum-told all-of-requires returns returns-2)
