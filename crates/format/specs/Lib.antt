@@ -20,6 +20,6 @@ pub mod Listing
 pub mod Examples
 pub mod Cases
 pub mod Laws
-pub mod Demands
+pub mod Theorems
 pub mod Results
 pub mod Determined

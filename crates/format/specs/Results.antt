@@ -12,7 +12,7 @@ use Rattle.format.specs.Questions.{asPlace, asBytes, asTold, answered}
 use Rattle.format.specs.Holding.{HasWithin}
 use Rattle.format.specs.Metadata.{dataOf, hintItem, judgeMetadata, askHint, hintAnswered}
 use Rattle.format.specs.Canonical.{bareItems}
-use Rattle.format.specs.Demands.{Answers, hints-answered}
+use Rattle.format.specs.Theorems.{Answers, hints-answered}
 use Rattle.format.specs.Laws.Calls.{hint-answer-is, told-part, found-told, told-found, none-told, refused-told}
 use Rattle.format.specs.declared.Answer.{Answer}
 use Rattle.format.specs.declared.Answer.the-variants.{None, Found, Refused}

@@ -1,2 +1,2 @@
 pub mod Asking
-pub mod Demands
+pub mod HandedBack

@@ -19,6 +19,7 @@ use Rattle.format.specs.declared.Question.the-variants.{ModuleName, FunctionNam
 use Rattle.format.specs.declared.Query.{Query}
 use Rattle.format.specs.declared.Query.the-variants.{ItsName, ItsContents, NameOf, NameWithin}
 use Rattle.format.specs.Verdicts.{refusalIn}
+use Rattle.format.specs.Laws.Options.{not-some}
 use Rattle.format.specs.Laws.Outcomes.{not-accepted, accepted-is, byOutcome, mapped}
 use Rattle.format.specs.declared.Answer.{Answer}
 use Rattle.format.specs.declared.Answer.the-variants.{None as NoAnswer, Refused as NotAnswered}
@@ -41,7 +42,7 @@ use Rattle.names.proofs.kinds.Kind as kind-type
 use Rattle.tables.proofs.Held as held-type
 use Rattle.names.proofs.ContentLaws.{map-known, map-asked, indirect-known, indirect-asked, found-ordered}
 use Rattle.names.proofs.FrameLaws.{asked-lies}
-use Rattle.names.proofs.PlaceLaws.{name-known, map-known as map-is-known, indirect-known as indirect-is-known, by-kind}
+use Rattle.names.proofs.PlaceLaws.{name-known, map-known as map-is-known, indirect-known as indirect-is-known, by-kind, unless-known}
 
 -- The contents at a place
 as-absent : (x : Held) → tagOf held-type.the-type x ≡ 0 → x ≡ Absent
@@ -85,7 +86,7 @@ module _ {kindOf : ℕ → AnyKind} {s : List ℕ} {at : ℕ} {bs : List ℕ} {p
       let there : asksIn (kindOf id) ItsName (subOf s (At d)) ≡ accepted (answer id ItsName (a .held)) = ap (asksIn (kindOf id) ItsName) (st .is) ∙ sym (asked-lies kindOf id ItsName at bs (a .judged) (a .framed)) ∙ told in
       record { inside = st .inside; known = mapped (answerIn ItsName) (judge (contents (kindOf id) (d .at) (left _ d))) there λ v e q. record { value = v; judged = e } }
 
--- The kind that a query is for, and that each question asks an id of that kind
+-- The kind that a query is for, and that each question asks an id of that kind, or one that the table keeps
 abbrev kindFor : Query → AnyKind
 kindFor ItsName = oneName
 kindFor (NameOf k) = nameMap
@@ -93,17 +94,17 @@ kindFor (NameWithin k j) = indirectMap
 kindFor ItsContents = kept
 
 abbrev pub Suits : (ℕ → AnyKind) → Type 0
-Suits kindOf = (q : Question) → (kindFor (queryOf q) ≡ kept → ⊥) → kindFor (queryOf q) ≡ kindOf (idOf q)
+Suits kindOf = (q : Question) → (kindFor (queryOf q) ≡ kept → ⊥) → (kindOf (idOf q) ≡ kept → ⊥) → kindFor (queryOf q) ≡ kindOf (idOf q)
 
 pub known-suits : Suits knownKind
 unfolding knownKind known lookup
-known-suits ModuleName n = refl
-known-suits (FunctionName k) n = refl
-known-suits (LocalName k j) n = refl
-known-suits (TypeName k) n = refl
-known-suits (FieldName k j) n = refl
-known-suits (TagName k) n = refl
-known-suits (KeptContents id) n = absurd (n refl)
+known-suits ModuleName n m = refl
+known-suits (FunctionName k) n m = refl
+known-suits (LocalName k j) n m = refl
+known-suits (TypeName k) n m = refl
+known-suits (FieldName k j) n m = refl
+known-suits (TagName k) n m = refl
+known-suits (KeptContents id) n m = absurd (n refl)
 
 -- An arm that binds nothing gives the tag alone
 as-name : (x : Query) → tagOf query-type.the-type x ≡ 0 → x ≡ ItsName
@@ -118,24 +119,58 @@ as-contents (NameOf k) h = absurd (omega arith)
 as-contents (NameWithin k j) h = absurd (omega arith)
 as-contents ItsContents h = refl
 
+-- where nothing is, nothing has to be known
+nothing-known : {s : List ℕ} (place : Held) (kind : AnyKind) → subOf s place ≡ none → KnownAt kind s place
+nothing-known Absent kind e = record { inside = tt; known = tt }
+nothing-known (At d) kind e = absurd (not-some (sym e))
+
+-- what is kept answers nothing but its contents
+kept-silent : (x : Query) (found : Option Part) {y : Option Part} → (kindFor x ≡ kept → ⊥) → asksIn kept x found ≡ accepted y → none ≡ y
+unfolding contents remaining
+kept-silent ItsName none n e = accepted-is e
+kept-silent ItsName (some p) n e = accepted-is e
+kept-silent (NameOf k) none n e = accepted-is e
+kept-silent (NameOf k) (some p) n e = accepted-is e
+kept-silent (NameWithin k j) none n e = accepted-is e
+kept-silent (NameWithin k j) (some p) n e = accepted-is e
+kept-silent ItsContents found n e = absurd (n refl)
+
 -- What an accepted payload answers
 module _ {kindOf : ℕ → AnyKind} {s : List ℕ} {at : ℕ} {bs : List ℕ} {p : Places} (a : Accepts kindOf s at bs p) (suits : Suits kindOf) (q : Question) {x : Query} {id : ℕ} {place : Held} (asks : x ≡ queryOf q) (of : id ≡ idOf q) (there : place ≡ placedAt p id) where
-  -- the place stands where the id lies, and its contents are of the query's kind
-  module _ (n : kindFor x ≡ kept → ⊥) where
-    its-kind : kindFor x ≡ kindOf id
-    its-kind = rw (asks, of) (suits q (rw asks at n))
+  -- a question for an id that is kept: there is no place, and none is the answer
+  module _ (k : kindOf id ≡ kept) where
+    no-place : subOf s place ≡ none
+    no-place = let st = a .all-stand id in rw there ((rw k at st) .is)
 
-    stands : Stands s place (lookup id (a .lying))
-    stands = rw there (by-kind (kindOf id) (lookup id (a .lying)) (λ k q. absurd (n (its-kind ∙ k))) (λ _ q. rw q at (a .all-stand id)))
+    none-asked : (n : kindFor x ≡ kept → ⊥) → asked kindOf id x at bs ≡ accepted none
+    unfolding asked
+    none-asked n =
+        let lies = asked-lies kindOf id x at bs (a .judged) (a .framed) in
+        let told : asked kindOf id x at bs ≡ accepted (answer id x (a .held)) = rw (a .judged) refl in
+        told ∙ ap accepted (sym (kept-silent x (lookup id (a .lying)) n (rw k at (sym lies ∙ told))))
+
+  -- otherwise the place stands where the id lies, and its contents are of the query's kind
+  module _ (n : kindFor x ≡ kept → ⊥) where
+    module _ (m : kindOf id ≡ kept → ⊥) where
+      its-kind : kindFor x ≡ kindOf id
+      its-kind = rw (asks, of) (suits q (rw asks at n) (rw of at m))
+
+      stands : Stands s place (lookup id (a .lying))
+      stands = let st = a .all-stand id in rw there (rw (unless-known (kindOf id) (lookup id (a .lying)) none m) at st)
 
     known-place : KnownAt (kindFor x) s place
-    known-place = rw its-kind (known-stands id place a stands)
+    known-place =
+        by-kind (kindOf id)
+        (λ k. nothing-known place (kindFor x) (no-place k))
+        (λ m. rw (its-kind m) (known-stands id place a (stands m)))
 
     place-asks : {y : Answer} → AsksAt (kindFor x) x s place y → answered y ≡ asPlace (askAt kindOf q at bs)
-    unfolding askAt
+    unfolding askAt asPlace
     place-asks {y} h =
-        let h′ : AsksAt (kindOf id) x s place y = rw its-kind at h in
-        rw (← asks, ← of) (place-answers id x place a stands h′)
+        by-kind (kindOf id)
+        (λ k. rw (← asks, ← of, none-asked k n) (rw (no-place k) at (h .says)))
+        (λ m. let h′ : AsksAt (kindOf id) x s place y = rw (its-kind m) at h in
+        rw (← asks, ← of) (place-answers id x place a (stands m) h′))
 
   module _ (h : tagOf query-type.the-type x ≡ 0) where
     pub name-inside : subInside s place

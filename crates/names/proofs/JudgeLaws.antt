@@ -16,7 +16,7 @@ use Rattle.format.specs.Options.{mapSome}
 use Rattle.format.specs.Reading.{Outcome, got, stop, Reader, andThen}
 use Rattle.format.specs.Parts.{Part}
 use Rattle.format.specs.Tables.{Table, lookup, mapTable}
-use Rattle.format.specs.Names.{Kind, payload, judgeNames}
+use Rattle.format.specs.Names.{Kind, kept, payload, judgeNames}
 use Rattle.format.specs.Laws.Outcomes.{not-got, got-value, byTest, inTurn, judged}
 use Rattle.format.specs.Laws.Tables.{lookup-map}
 use Rattle.format.specs.declared.Refusal.{Refusal}
@@ -34,7 +34,7 @@ use Rattle.names.specs.declared.judging.Judged.{Judged}
 use Rattle.format.specs.declared.Verdict.the-variants.{Accepted, Refused}
 use Rattle.names.proofs.frames.FrameRead as frame-type
 use Rattle.names.proofs.FrameSteps.{as-end}
-use Rattle.names.proofs.PlaceLaws.{HasPlace, Placed, known-placed, first-place, put-here, put-elsewhere, put-inside, nothing-there, by-kind}
+use Rattle.names.proofs.PlaceLaws.{Placed, known-placed, put-here, put-kept, put-elsewhere, put-inside, nothing-there, by-kind, unless-known}
 use Rattle.names.proofs.FrameLaws.{partAt, holding, or-none, behind, Framed, framed, subsections-framed, framed-parts, behindJudged, judged-turn, frame-turn}
 
 -- what stops a search stops the reading
@@ -67,7 +67,8 @@ pub record Turn (kindOf : ℕ → Kind) (s : List ℕ) (c next : Cursor) (least 
   pub enough : next .end - next .at ≤ most
   pub fresh : (j : ℕ) → least ≤ j → placedAt p j ≡ Absent
   pub within : (j : ℕ) → subInside s (placedAt p j)
-  pub same : (j : ℕ) → HasPlace j → partAt lies j none (whole kindOf s c) ≡ partAt lies j (subOf s (placedAt p j)) (framed kindOf most least (next .at) (left s next))
+  pub none-kept : (j : ℕ) → kindOf j ≡ kept → placedAt p j ≡ Absent
+  pub same : (j : ℕ) → (kindOf j ≡ kept → ⊥) → partAt lies j none (whole kindOf s c) ≡ partAt lies j (subOf s (placedAt p j)) (framed kindOf most least (next .at) (left s next))
 
 module _ {kindOf : ℕ → Kind} {s : List ℕ} {c : Cursor} where
   pub turn-begins : Inside s c → Turn kindOf s c c 0 nowhere
@@ -77,43 +78,45 @@ module _ {kindOf : ℕ → Kind} {s : List ℕ} {c : Cursor} where
     enough = omega (arith, length-slice (c .at) (c .end) s (i .within));
     fresh = λ j h. nothing-there j;
     within = λ j. rw (nothing-there j) tt;
+    none-kept = λ j k. nothing-there j;
     same = λ j k. rw (nothing-there j) refl;
   }
 
-  module _ {next : Cursor} {least : ℕ} {p : Places} {x : FrameRead} (t : Turn kindOf s c next least p) (f : FrameReads (subsection kindOf) least s next x) where
-    opened : (j : ℕ) → HasPlace j → partAt lies j none (whole kindOf s c) ≡ andThen (subsection kindOf least (next .at) (left s next)) (behindJudged kindOf j (subOf s (placedAt p j)) (t .most - 1))
+  module _ {next : Cursor} {least : ℕ} {p : Places} {x : FrameRead} (placed : Placed kindOf) (t : Turn kindOf s c next least p) (f : FrameReads (subsection kindOf) least s next x) where
+    opened : (j : ℕ) → (kindOf j ≡ kept → ⊥) → partAt lies j none (whole kindOf s c) ≡ andThen (subsection kindOf least (next .at) (left s next)) (behindJudged kindOf j (subOf s (placedAt p j)) (t .most - 1))
     opened j k = t .same j k ∙ judged-turn kindOf j (subOf s (placedAt p j)) (t .most) least (next .at) (left s next) (omega (arith, t .enough, length-slice (next .at) (next .end) s (t .inside .within)))
 
     pub turn-refused : {r : Refusal} → x ≡ NoFrame r → Judges kindOf s (c .at) (left s c) (record { verdict = Refused r; places = nowhere })
     unfolding judgeNames payload
     turn-refused {r} e =
-        let halted : whole kindOf s c ≡ stop (numberOf (r .reason)) (r .offset .0) = stopped lies 0 (whole kindOf s c) (opened 0 first-place ∙ rw (← rw e at (f .means))) in
+        let halted : whole kindOf s c ≡ stop (numberOf (r .reason)) (r .offset .0) = stopped lies 0 (whole kindOf s c) (opened 0 (placed .first-known) ∙ rw (← rw e at (f .means))) in
         record { says = (rw (subsections-framed kindOf (length (left s c)) 0 (c .at) (left s c), halted), refl) }
 
-    pub turn-ends : Placed kindOf → tagOf frame-type.the-type x ≡ 1 → Judges kindOf s (c .at) (left s c) (record { verdict = Accepted; places = p })
+    pub turn-ends : tagOf frame-type.the-type x ≡ 1 → Judges kindOf s (c .at) (left s c) (record { verdict = Accepted; places = p })
     unfolding judgeNames payload judgeFrames
-    turn-ends placed h =
-        let ends : (j : ℕ) → HasPlace j → partAt lies j none (whole kindOf s c) ≡ got (subOf s (placedAt p j)) (next .at) [] = λ j k. opened j k ∙ rw (← rw (as-end x h) at (f .means)) in
-        inTurn (whole kindOf s c) _ (ends 0 first-place) λ all o rest e e′.
+    turn-ends h =
+        let ends : (j : ℕ) → (kindOf j ≡ kept → ⊥) → partAt lies j none (whole kindOf s c) ≡ got (subOf s (placedAt p j)) (next .at) [] = λ j k. opened j k ∙ rw (← rw (as-end x h) at (f .means)) in
+        inTurn (whole kindOf s c) _ (ends 0 (placed .first-known)) λ all o rest e e′.
         record {
           says = record {
             held = mapTable (λ y. y .content) all;
             lying = mapTable lies all;
             judged = rw (subsections-framed kindOf (length (left s c)) 0 (c .at) (left s c), e);
             framed = rw (framed-parts kindOf (length (left s c)) 0 (c .at) (left s c) e .0);
-            all-stand = λ j. by-kind (kindOf j) (lookup j (mapTable lies all))
-                (λ k q. rw (q, placed .kept-has-none j k p) (record { is = refl; inside = tt }))
-                (λ n q. rw q (record { is = sym (lookup-map lies j all ∙ got-value (rw e at (ends j (placed .known-has j n)))); inside = t .within j }));
+            all-stand = λ j. by-kind (kindOf j)
+                (λ k. rw (k, t .none-kept j k) (record { is = refl; inside = tt }))
+                (λ n. rw (unless-known (kindOf j) (lookup j (mapTable lies all)) none n) (record { is = sym (lookup-map lies j all ∙ got-value (rw e at (ends j n))); inside = t .within j }));
           };
         }
 
-    module _ {id : ℕ} {part after : Cursor} {u : Places} (e : x ≡ Frame id part after) (put : Puts p id part u) where
-      held-then : (j : ℕ) → HasPlace j → holding j (subOf s (placedAt p j)) id (partOf s part) ≡ subOf s (placedAt u j)
+    module _ {id : ℕ} {part after : Cursor} {u : Places} (e : x ≡ Frame id part after) (put : Puts kindOf p id part u) where
+      held-then : (j : ℕ) → (kindOf j ≡ kept → ⊥) → holding j (subOf s (placedAt p j)) id (partOf s part) ≡ subOf s (placedAt u j)
       held-then j k =
           byTest (eqb j id)
           (λ q. let is = eqb-true j id q in
           let none-yet = t .fresh j (omega (arith, forward f e .above)) in
-          let here : placedAt u j ≡ At part = rw is (put-here put (rw is at k)) in
+          let n : kindOf id ≡ kept → ⊥ = rw is at k in
+          let here : placedAt u j ≡ At part = rw is (put-here put n (placed .known-has id n)) in
           rw (q, none-yet, here))
           (λ q. rw (q, or-none, put-elsewhere put j (eqb-false j id q)))
 
@@ -126,6 +129,9 @@ module _ {kindOf : ℕ → Kind} {s : List ℕ} {c : Cursor} where
             enough = omega (arith, t .enough, far .moves, far .same-end, far .in-rest .ahead);
             fresh = λ j h. put-elsewhere put j (λ q. omega arith) ∙ t .fresh j (omega (arith, far .above));
             within = put-inside put s (t .within) (far .in-part);
+            none-kept = λ j k. byTest (eqb j id)
+                (λ q. let is = eqb-true j id q in put-kept put (rw is at k) j ∙ t .none-kept j k)
+                (λ q. put-elsewhere put j (eqb-false j id q) ∙ t .none-kept j k);
             same = λ j k. opened j k ∙ rw (← rw e at (f .means), held-then j k, add-one);
           }
 

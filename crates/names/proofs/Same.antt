@@ -48,7 +48,7 @@ same-places p q there =
     let tags : p .tags ≡ q .tags = there 11 in
     λ i. record { «module» = modules i; functions = functions i; locals = locals i; types = types i; fields = fields i; tags = tags i }
 
-pub placed-same : {p : Places} {id : ℕ} {part : Cursor} (a b : Places) → Puts p id part a → Puts p id part b → a ≡ b
+pub placed-same : {kindOf : ℕ → AnyKind} {p : Places} {id : ℕ} {part : Cursor} (a b : Places) → Puts kindOf p id part a → Puts kindOf p id part b → a ≡ b
 unfolding placedAt
 placed-same a b p q = same-places a b (λ id. ap (λ t. orAbsent (lookup id t)) (p .says ∙ sym (q .says)))
 

@@ -1,4 +1,4 @@
 pub mod Frames
 pub mod Contents
 pub mod Places
-pub mod Demands
+pub mod HandedBack

@@ -61,21 +61,21 @@ unfoldable pub replaced : {A : Type 0} → ℕ → A → Table A → Table A
 replaced k v nil = nil
 replaced k v (row i w t) = row i (cond (eqb i k) v w) (replaced k v t)
 
-pub record Puts (p : Places) (id : ℕ) (part : Cursor) (r : Places) : Type 0 where
-  pub says : placesOf r ≡ replaced id (At part) (placesOf p)
-
 -- an id that is kept has no place
-abbrev pub unlessKept : Kind → Option Part → Option Part
-unlessKept oneName found = found
-unlessKept nameMap found = found
-unlessKept indirectMap found = found
-unlessKept kept found = none
+abbrev pub unlessKept : {A : Type 0} → Kind → A → A → A
+unlessKept oneName x otherwise = x
+unlessKept nameMap x otherwise = x
+unlessKept indirectMap x otherwise = x
+unlessKept kept x otherwise = otherwise
 
 -- Everything from here on is said over a table of ids
 module _ (kindOf : ℕ → Kind) where
+  pub record Puts (p : Places) (id : ℕ) (part : Cursor) (r : Places) : Type 0 where
+    pub says : placesOf r ≡ unlessKept (kindOf id) (replaced id (At part) (placesOf p)) (placesOf p)
+
   -- each place is where its id is
   abbrev pub AllStand : List ℕ → Places → Table Part → Type 0
-  AllStand s p f = (id : ℕ) → Stands s (placedAt p id) (unlessKept (kindOf id) (lookup id f))
+  AllStand s p f = (id : ℕ) → Stands s (placedAt p id) (unlessKept (kindOf id) (lookup id f) none)
 
   -- What a judgement says of the payload that begins at an offset of what was lent
   pub record Accepts (s : List ℕ) (at : ℕ) (bs : List ℕ) (p : Places) : Type 0 where

@@ -1,5 +1,6 @@
 // Where the known subsections lie.
 ghost use mathlib.Core.Path.{_≡_};
+ghost use Rattle.format.specs.Names.{knownKind};
 ghost use Rattle.names.specs.Places.{Puts, placedAt};
 use format::FIELD_NAMES;
 use format::FUNCTION_NAMES;
@@ -21,7 +22,7 @@ pub struct Places {
 
 // The places with that of one more id, if it is a known one.
 pub fn placed(places: Places, id: u8, part: Cursor) -> Places
-    ensures { λ r. ⌜ Puts places id part r ⌝ }
+    ensures { λ r. ⌜ Puts knownKind places id part r ⌝ }
 {
     let here = Held::Part(part);
     match id {

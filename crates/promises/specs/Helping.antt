@@ -16,7 +16,7 @@ use Rattle.format.specs.Tables.{Table, nil, row, lookup}
 use Rattle.format.specs.Walk.{greatestId, isCustom, isData, rank, nameRow, isRow, idRules, nameRules}
 use Rattle.format.specs.declared.Reason.the-variants.{NoPreamble, PastItsPart}
 use Rattle.names.specs.Contents.{kindMeant}
-use Rattle.names.specs.Places.{placesOf, placedAt, replaced, Puts}
+use Rattle.names.specs.Places.{placesOf, placedAt, replaced, unlessKept, Puts}
 use Rattle.format.specs.Verdicts.{refusalIn}
 use Rattle.format.specs.declared.Verdict.{Verdict}
 use Rattle.format.specs.declared.Verdict.the-variants.{Refused}
@@ -86,11 +86,12 @@ abbrev firstOf : Table Held → Held
 firstOf nil = Absent
 firstOf (row i v t) = v
 
-module-put : Tells (λ (x : Places × ℕ × Cursor) r. Puts (x .0) (x .1) (x .2) r) (λ r. r .module) (λ x. cond (eqb 0 (x .1)) (At (x .2)) (x .0 .module))
-unfolding placesOf replaced
+module-put : Tells (λ (x : Places × ℕ × Cursor) r. Puts knownKind (x .0) (x .1) (x .2) r) (λ r. r .module) (λ x. firstOf (unlessKept (knownKind (x .1)) (replaced (x .1) (At (x .2)) (placesOf (x .0))) (placesOf (x .0))))
+unfolding placesOf
 module-put x r meets = ap firstOf (meets .says)
 
-pub placed : (place : Held) → RuledOut (λ (x : Places × ℕ × Cursor) r. Puts (x .0) (x .1) (x .2) r) (λ _ r. r .module ≡ place)
+pub placed : (place : Held) → RuledOut (λ (x : Places × ℕ × Cursor) r. Puts knownKind (x .0) (x .1) (x .2) r) (λ _ r. r .module ≡ place)
+unfolding placesOf replaced knownKind known lookup
 placed place = by-two-inputs module-put (λ p. some p) isAt (nowhere, 0, front) (nowhere, 1, front) refl refl refl refl place
 
 -- names: one place for every id

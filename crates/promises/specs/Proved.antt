@@ -14,7 +14,7 @@ use Rattle.format.specs.Tables.{Table}
 use Rattle.format.specs.Names.{Content, names}
 use Rattle.format.specs.declared.Question.{Question}
 use Rattle.format.specs.declared.Question.the-variants.{ModuleName, FunctionName, TypeName, TagName, LocalName, FieldName, KeptContents}
-use Rattle.format.specs.Demands.{ItemQuestion}
+use Rattle.format.specs.Theorems.{ItemQuestion}
 use Rattle.format.specs.Canonical.{canonicalNames, canonicalMetadata, canonicalHints}
 use Rattle.format.specs.Metadata.{anyItem, hintItem, judgeMetadata, askMetadata, askHint}
 use Rattle.format.specs.Names.{Kind, knownKind, judgeNames}
@@ -26,7 +26,7 @@ use Rattle.format.specs.Through.{askThrough, askMetadataThrough, askHintThrough
 use Rattle.format.specs.Walk.{sectionCount, sectionAt, customPayload}
 use Rattle.wakemiono.specs.Boundary.{wmCount, wmSection, wmPlace, wmJudged, wmHint, WmWrites}
 use Rattle.walk.specs.Surveys.{sectionPlace}
-use Rattle.format.specs.Demands.{Rewrites as AnyRewrites, questions-answered, any-metadata-answered, known-rewritten, any-metadata-rewritten, hints-rewritten}
+use Rattle.format.specs.Theorems.{Rewrites as AnyRewrites, questions-answered, any-metadata-answered, known-rewritten, any-metadata-rewritten, hints-rewritten}
 use Rattle.format.specs.Canonical.{bare, bareItems}
 use Rattle.format.specs.Holding.{HasWithin, Holds}
 use Rattle.format.specs.Outputs.{writeAnswer}

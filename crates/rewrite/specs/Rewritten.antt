@@ -10,7 +10,7 @@ use lib.Seq.{take-at, drop-at}
 use Rattle.format.specs.Bytes.{Bytes}
 use Rattle.format.specs.Reading.{Judged, accepted, Accepted}
 use Rattle.format.specs.Outputs.{fitting, writeAnswer, outputAfter, Writes}
-use Rattle.format.specs.Demands.{Rewrites}
+use Rattle.format.specs.Theorems.{Rewrites}
 use Rattle.format.specs.Laws.Outcomes.{not-accepted, accepted-is, byTest, mapped, followed, refused-exactly}
 use Rattle.format.specs.Laws.Outputs.{writes-all, writes-same}
 use Rattle.format.specs.declared.Refusal.{Refusal}

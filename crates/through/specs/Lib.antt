@@ -1,2 +1,2 @@
 pub mod Sections
-pub mod Demands
+pub mod HandedBack

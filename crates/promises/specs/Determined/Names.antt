@@ -70,7 +70,7 @@ kind-of-determined id = meaning-determined kind-same _
 pub place-of-determined : (places : Places) (id : ℕ) → Determines (λ (r : Held). r ≡ placedAt places id)
 place-of-determined places id = equal-determined _
 
-pub placed-determined : (places : Places) (id : ℕ) (part : Cursor) → Determines (λ (r : Places). Puts places id part r)
+pub placed-determined : (places : Places) (id : ℕ) (part : Cursor) → Determines (λ (r : Places). Puts knownKind places id part r)
 placed-determined places id part = placed-same
 
 -- names::within

@@ -7,7 +7,7 @@ use mathlib.Core.Path.{_≡_, refl, sym, ap, _∙_}
 use lib.Dec.{eqb}
 use lib.ListN.{length, take}
 use Rattle.format.specs.Canonical.{canonicalNames}
-use Rattle.format.specs.Demands.{known-answered}
+use Rattle.format.specs.Theorems.{known-answered}
 use Rattle.format.specs.Laws.Answers.{told-none}
 use Rattle.format.specs.Laws.Holding.{none-exactly}
 use Rattle.format.specs.Laws.Lists.{Written, written, listed-exactly, lists-told, lists-stay}

@@ -4,7 +4,7 @@ use mathlib.Core.List.{List, [], _∷_}
 use mathlib.Core.Logic.{_↔_, Iff·trans}
 use mathlib.Core.Option.{Option}
 use mathlib.Core.Path.{_≡_}
-use Rattle.format.specs.Demands.{Answers, hints-answered}
+use Rattle.format.specs.Theorems.{Answers, hints-answered}
 use Rattle.format.specs.Holding.{Has, HasWithin, Holds, theName, theEntry, theInner, theContents}
 use Rattle.format.specs.Metadata.{dataOf, hintItem, judgeMetadata, askHint}
 use Rattle.format.specs.Names.{Content, single, names, namesBy, whole}

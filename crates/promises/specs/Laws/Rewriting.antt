@@ -8,7 +8,7 @@ use native.Mathlib.Omega.{arith}
 use lib.ListN.{length, take}
 use Rattle.format.specs.Bytes.{Bytes}
 use Rattle.format.specs.Canonical.{rewriteNames, canonicalNames, rewriteMetadata, canonicalOf, canonicalMetadata, canonicalHints}
-use Rattle.format.specs.Demands.{VeryBytes, Rewrites, ItemQuestion, itemTold, known-answered, any-metadata-answered}
+use Rattle.format.specs.Theorems.{VeryBytes, Rewrites, ItemQuestion, itemTold, known-answered, any-metadata-answered}
 use Rattle.format.specs.Laws.Options.{not-some, some-is}
 use Rattle.format.specs.Laws.Outcomes.{accepted-is, mapped}
 use Rattle.format.specs.Metadata.{anyItem, hintItem, judgeMetadata, itemAt, askMetadata}

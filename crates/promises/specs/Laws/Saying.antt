@@ -5,7 +5,7 @@ use mathlib.Core.Logic.{_↔_}
 use mathlib.Core.Option.{Option, none, some}
 use mathlib.Core.Path.{_≡_, refl, sym, ap, _∙_}
 use native.Mathlib.Omega.{arith}
-use Rattle.format.specs.Demands.{VeryBytes}
+use Rattle.format.specs.Theorems.{VeryBytes}
 use Rattle.format.specs.Laws.Options.{not-some, some-is}
 use Rattle.format.specs.Laws.Outcomes.{not-accepted, accepted-is}
 use Rattle.format.specs.Parts.{Part}

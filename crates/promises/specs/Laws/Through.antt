@@ -7,7 +7,7 @@ use mathlib.Core.Path.{_≡_, refl, sym, ap, _∙_}
 use native.Mathlib.Omega.{arith}
 use lib.ListN.{length, take, drop}
 use Rattle.format.specs.Bytes.{same}
-use Rattle.format.specs.Demands.{VeryBytes}
+use Rattle.format.specs.Theorems.{VeryBytes}
 use Rattle.format.specs.Laws.Bytes.{same-true, same-self}
 use Rattle.format.specs.Laws.Found.{payload-lies}
 use Rattle.format.specs.Laws.Laxer.{hint-laxer, table-laxer, filled-laxer}

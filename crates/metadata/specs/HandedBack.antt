@@ -4,7 +4,7 @@ use mathlib.Core.List.{List}
 use mathlib.Core.Path.{_≡_}
 use Rattle.format.specs.Results.{CallAnswers, calls-answer, CallHints, hints-call}
 use Rattle.format.specs.Canonical.{bareItems}
-use Rattle.format.specs.Demands.{ItemQuestion, any-metadata-answered}
+use Rattle.format.specs.Theorems.{ItemQuestion, any-metadata-answered}
 use Rattle.format.specs.Examples.{hex, digit}
 use Rattle.format.specs.Holding.{HasWithin}
 use Rattle.format.specs.Laws.Answers.{same-answer}

@@ -13,7 +13,7 @@ use Rattle.format.specs.declared.Question.{Question}
 use Rattle.format.specs.Metadata.{askMetadata, askHint, hintAnswered}
 use Rattle.format.specs.Walk.{walk, nameSection, hintSection, customPayload}
 use Rattle.format.specs.Through.{through, askThrough, metadataSection, itemOf, askMetadataThrough, askHintThrough}
-use Rattle.format.specs.Demands.{VeryBytes, names-through, metadata-through}
+use Rattle.format.specs.Theorems.{VeryBytes, names-through, metadata-through}
 use Rattle.format.specs.Laws.Answers.{place-found}
 use Rattle.format.specs.Laws.Calls.{none-told, refused-told, hint-answer-is}
 use Rattle.format.specs.declared.Answer.{Answer}

@@ -4,7 +4,7 @@ use mathlib.Core.List.{List}
 use mathlib.Core.Path.{_≡_}
 use Rattle.format.specs.Results.{CallAnswers, calls-answer}
 use Rattle.format.specs.Canonical.{bare}
-use Rattle.format.specs.Demands.{questions-answered}
+use Rattle.format.specs.Theorems.{questions-answered}
 use Rattle.format.specs.Examples.{hex, digit}
 use Rattle.format.specs.Holding.{Holds}
 use Rattle.format.specs.Laws.Answers.{same-answer}

@@ -3,7 +3,7 @@ use Prim.Native.Nat.{ℕ}
 use mathlib.Core.List.{List}
 use mathlib.Core.Path.{_≡_}
 use lib.ListN.{take}
-use Rattle.format.specs.Demands.{WritesLists, lists-written}
+use Rattle.format.specs.Theorems.{WritesLists, lists-written}
 use Rattle.format.specs.Names.{Kind, nameMap}
 use Rattle.format.specs.Lists.{Indices, functionNames}
 use Rattle.format.specs.Laws.Outputs.{on-written, writes-same}

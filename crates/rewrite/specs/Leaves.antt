@@ -13,7 +13,7 @@ use Rattle.format.specs.Verdicts.{verdictOf}
 use Rattle.format.specs.declared.Verdict.{Verdict}
 use Rattle.format.specs.declared.Verdict.the-variants.{Accepted as IsAccepted}
 use Rattle.format.specs.Outputs.{Writes}
-use Rattle.format.specs.Demands.{ItemQuestion, ItemInRange, itemTold, hintTold, questions-rewritten, any-metadata-rewritten, hints-rewritten}
+use Rattle.format.specs.Theorems.{ItemQuestion, ItemInRange, itemTold, hintTold, questions-rewritten, any-metadata-rewritten, hints-rewritten}
 use Rattle.format.specs.Laws.Questions.{AllPosed}
 use Rattle.format.specs.Laws.Answers.{same-hint-answer}
 use Rattle.format.specs.declared.Answer.{Answer}
