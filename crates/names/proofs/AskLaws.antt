@@ -9,10 +9,11 @@ use borrow.Author.Needs.{needs}
 use denote.Enum.Declared.{tagOf}
 use lib.ListN.{length}
 use lib.Seq.{length-slice}
-use Rattle.format.specs.Reading.{filling, accepted, judge, mapJudged}
+use Rattle.format.specs.Reading.{filling, accepted, refused, judge, mapJudged}
+use Rattle.format.specs.Refusals.{numberOf}
 use Rattle.format.specs.Parts.{Part, name, remaining}
 use Rattle.format.specs.Tables.{lookup, table}
-use Rattle.format.specs.Names.{Kind as AnyKind, oneName, nameMap, indirectMap, kept, known, knownKind, contents}
+use Rattle.format.specs.Names.{Kind as AnyKind, oneName, nameMap, indirectMap, kept, known, knownKind, contents, judgeNames}
 use Rattle.format.specs.Questions.{answerIn, answer, asked, askAt, ask, asPlace, answered, idOf, queryOf}
 use Rattle.format.specs.declared.Question.{Question}
 use Rattle.format.specs.declared.Question.the-variants.{ModuleName, FunctionName, TypeName, TagName, LocalName, FieldName, KeptContents}
@@ -24,20 +25,21 @@ use Rattle.format.specs.Laws.Outcomes.{not-accepted, accepted-is, byOutcome, ma
 use Rattle.format.specs.declared.Answer.{Answer}
 use Rattle.format.specs.declared.Answer.the-variants.{None as NoAnswer, Refused as NotAnswered}
 use Rattle.format.specs.declared.Refusal.{Refusal}
+use Rattle.format.specs.declared.Verdict.{Verdict}
 use Rattle.reading.proofs.Laws.{left-all, over-inside}
 use Rattle.reading.specs.Cursors.{Inside, left, overAll}
 use Rattle.reading.specs.declared.Cursor.{Cursor}
 use Rattle.names.specs.Contents.{kindMeant, asksIn, Asks, placeAt}
-use Rattle.names.specs.Places.{subOf, subInside, placedAt, KnownAt, Stands, Accepts, Judges, Finds, AsksAt}
+use Rattle.names.specs.Places.{subOf, subInside, placedAt, KnownAt, Stands, Accepts, judgesTo, Judges, verdictIn, Finds, AsksAt}
 use Rattle.names.specs.declared.kinds.Kind.{Kind}
 use Rattle.names.specs.declared.kinds.Kind.the-variants.{OneName, NameMap, IndirectMap, Kept}
 use Rattle.tables.specs.declared.Held.{Held}
 use Rattle.tables.specs.declared.Held.the-variants.{Nothing as Absent, Part as At}
 use Rattle.names.specs.declared.places.Places.{Places}
 use Rattle.names.specs.declared.judging.Judged.{Judged}
+use Rattle.names.specs.declared.judging.Judged.the-variants.{Accepted, Refused}
+use Rattle.names.proofs.judging.Judged as judged-type
 use Rattle.format.proofs.Query as query-type
-use Rattle.format.proofs.Tags.{as-refused, as-accepted}
-use Rattle.format.proofs.Verdict as verdict-type
 use Rattle.names.proofs.kinds.Kind as kind-type
 use Rattle.tables.proofs.Held as held-type
 use Rattle.names.proofs.ContentLaws.{map-known, map-asked, indirect-known, indirect-asked, found-ordered}
@@ -200,15 +202,17 @@ kept-answers kindOf at bs q x id y asks of h e = let is = as-contents x h in rw 
 pub ruleset answers = (name-inside, name-answers, map-there, map-answers, indirect-there, indirect-answers, kept-answers, known-suits, needs)
 
 -- A payload that is not accepted, and one that is
-module _ {kindOf : ℕ → AnyKind} {s : List ℕ} {at : ℕ} {bs : List ℕ} {j : Judged} (judged : Judges kindOf s at bs j) where
-  pub question-refused : (q : Question) (r : Refusal) → tagOf verdict-type.the-type (j .verdict) ≡ 1 → r ≡ refusalIn (j .verdict) → answered (NotAnswered r) ≡ asPlace (askAt kindOf q at bs)
-  unfolding askAt asked asPlace
-  question-refused q r h is =
-      let says = rw (as-refused (j .verdict) h) at (judged .says) in
-      rw (is, says .0)
+refused-so : (kindOf : ℕ → AnyKind) (s : List ℕ) (at : ℕ) (bs : List ℕ) (j : Judged) → judgesTo kindOf s at bs j → tagOf judged-type.the-type j ≡ 1 → judgeNames kindOf at bs ≡ refused (numberOf (refusalIn (verdictIn j) .reason)) (refusalIn (verdictIn j) .offset .0)
+refused-so kindOf s at bs (Accepted p) says h = absurd (omega arith)
+refused-so kindOf s at bs (Refused r) says h = says
 
-  pub accepts : tagOf verdict-type.the-type (j .verdict) ≡ 0 → Accepts kindOf s at bs (j .places)
-  accepts h = rw (as-accepted (j .verdict) h) at (judged .says)
+module _ {kindOf : ℕ → AnyKind} {s : List ℕ} {at : ℕ} {bs : List ℕ} {j : Judged} (judged : Judges kindOf s at bs j) where
+  pub question-refused : (q : Question) (r : Refusal) {v : Verdict} → tagOf judged-type.the-type j ≡ 1 → v ≡ verdictIn j → r ≡ refusalIn v → answered (NotAnswered r) ≡ asPlace (askAt kindOf q at bs)
+  unfolding askAt asked asPlace
+  question-refused q r h of is = rw (is, of, refused-so kindOf s at bs j (judged .says) h)
+
+  pub accepts : {p : Places} → j ≡ Accepted p → Accepts kindOf s at bs p
+  accepts e = rw e at (judged .says)
 
 pub ruleset questions = (question-refused, accepts, needs)
 

@@ -24,17 +24,19 @@ use Rattle.reading.proofs.Laws.{left-all, over-inside}
 use Rattle.reading.specs.Cursors.{Inside, left, partOf, overAll}
 use Rattle.reading.specs.declared.Cursor.{Cursor}
 use Rattle.names.specs.Frames.{Headed, frame, frames, judgeFrames, subsection, Forward, FrameReads}
-use Rattle.names.specs.Places.{subOf, subInside, Stands, nowhere, placedAt, Judges, Puts, Finds}
+use Rattle.names.specs.Places.{subOf, subInside, Stands, placedAt, verdictIn, Judges, Puts, Finds}
 use Rattle.names.specs.declared.frames.FrameRead.{FrameRead}
 use Rattle.names.specs.declared.frames.FrameRead.the-variants.{Frame, End, Refused as NoFrame}
 use Rattle.tables.specs.declared.Held.{Held}
 use Rattle.tables.specs.declared.Held.the-variants.{Nothing as Absent, Part as At}
 use Rattle.names.specs.declared.places.Places.{Places}
 use Rattle.names.specs.declared.judging.Judged.{Judged}
-use Rattle.format.specs.declared.Verdict.the-variants.{Accepted, Refused}
+use Rattle.names.specs.declared.judging.Judged.the-variants.{Accepted, Refused}
+use Rattle.format.specs.declared.Verdict.the-variants.{Accepted as IsAccepted, Refused as IsRefused}
 use Rattle.names.proofs.frames.FrameRead as frame-type
+use Rattle.names.proofs.judging.Judged as judged-type
 use Rattle.names.proofs.FrameSteps.{as-end}
-use Rattle.names.proofs.PlaceLaws.{Placed, known-placed, put-here, put-kept, put-elsewhere, put-inside, nothing-there, by-kind, unless-known}
+use Rattle.names.proofs.PlaceLaws.{Placed, known-placed, put-here, put-kept, put-elsewhere, put-inside, nowhere, nothing-there, by-kind, unless-known}
 use Rattle.names.proofs.FrameLaws.{partAt, holding, or-none, behind, Framed, framed, subsections-framed, framed-parts, behindJudged, judged-turn, frame-turn}
 
 -- what stops a search stops the reading
@@ -86,13 +88,13 @@ module _ {kindOf : ℕ → Kind} {s : List ℕ} {c : Cursor} where
     opened : (j : ℕ) → (kindOf j ≡ kept → ⊥) → partAt lies j none (whole kindOf s c) ≡ andThen (subsection kindOf least (next .at) (left s next)) (behindJudged kindOf j (subOf s (placedAt p j)) (t .most - 1))
     opened j k = t .same j k ∙ judged-turn kindOf j (subOf s (placedAt p j)) (t .most) least (next .at) (left s next) (omega (arith, t .enough, length-slice (next .at) (next .end) s (t .inside .within)))
 
-    pub turn-refused : {r : Refusal} → x ≡ NoFrame r → Judges kindOf s (c .at) (left s c) (record { verdict = Refused r; places = nowhere })
+    pub turn-refused : {r : Refusal} → x ≡ NoFrame r → Judges kindOf s (c .at) (left s c) (Refused r)
     unfolding judgeNames payload
     turn-refused {r} e =
         let halted : whole kindOf s c ≡ stop (numberOf (r .reason)) (r .offset .0) = stopped lies 0 (whole kindOf s c) (opened 0 (placed .first-known) ∙ rw (← rw e at (f .means))) in
-        record { says = (rw (subsections-framed kindOf (length (left s c)) 0 (c .at) (left s c), halted), refl) }
+        record { says = rw (subsections-framed kindOf (length (left s c)) 0 (c .at) (left s c), halted) }
 
-    pub turn-ends : tagOf frame-type.the-type x ≡ 1 → Judges kindOf s (c .at) (left s c) (record { verdict = Accepted; places = p })
+    pub turn-ends : tagOf frame-type.the-type x ≡ 1 → Judges kindOf s (c .at) (left s c) (Accepted p)
     unfolding judgeNames payload judgeFrames
     turn-ends h =
         let ends : (j : ℕ) → (kindOf j ≡ kept → ⊥) → partAt lies j none (whole kindOf s c) ≡ got (subOf s (placedAt p j)) (next .at) [] = λ j k. opened j k ∙ rw (← rw (as-end x h) at (f .means)) in
@@ -203,3 +205,13 @@ module _ {s : List ℕ} {c : Cursor} {id : ℕ} where
           }
 
 pub ruleset find-turns = (search-begins, search-refused, search-ends, search-here, search-next, frame-shorter, needs)
+
+-- the verdict alone
+pub verdict-accepted : (j : Judged) → tagOf judged-type.the-type j ≡ 0 → IsAccepted ≡ verdictIn j
+verdict-accepted (Accepted p) h = refl
+verdict-accepted (Refused r) h = absurd (omega arith)
+
+pub verdict-refused : (j : Judged) {r : Refusal} → j ≡ Refused r → IsRefused r ≡ verdictIn j
+verdict-refused j e = rw e
+
+pub ruleset verdicts = (verdict-accepted, verdict-refused, needs)

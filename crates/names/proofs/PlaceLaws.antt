@@ -16,7 +16,7 @@ use Rattle.format.specs.Laws.Outcomes.{byTest}
 use Rattle.format.specs.Laws.Options.{not-some, byOption}
 use Rattle.reading.specs.Cursors.{Inside}
 use Rattle.reading.specs.declared.Cursor.{Cursor}
-use Rattle.names.specs.Places.{subInside, nowhere, placesOf, orAbsent, placedAt, unlessKept, replaced, Puts}
+use Rattle.names.specs.Places.{subInside, placesOf, orAbsent, placedAt, unlessKept, replaced, Puts}
 use Rattle.tables.specs.declared.Held.{Held}
 use Rattle.tables.specs.declared.Held.the-variants.{Nothing as Absent, Part as At}
 use Rattle.names.specs.declared.places.Places.{Places}
@@ -126,6 +126,9 @@ module _ {kindOf : ℕ → Kind} {p r : Places} {id : ℕ} {part : Cursor} (put 
       either (some held) = i
 
 -- before the first is put in
+abbrev pub nowhere : Places
+nowhere = record { «module» = Absent; functions = Absent; locals = Absent; types = Absent; fields = Absent; tags = Absent }
+
 pub nothing-there : (j : ℕ) → placedAt nowhere j ≡ Absent
 unfolding placedAt placesOf lookup
 nothing-there j = skip (eqb j 0) _ (skip (eqb j 1) _ (skip (eqb j 2) _ (skip (eqb j 4) _ (skip (eqb j 10) _ (skip (eqb j 11) none refl)))))

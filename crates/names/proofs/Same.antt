@@ -14,7 +14,7 @@ use Rattle.reading.specs.declared.Cursor.{Cursor}
 use Rattle.reading.proofs.Same.{same-cursor, same-part}
 use Rattle.names.specs.Contents.{kindMeant}
 use Rattle.names.specs.Frames.{Headed, FrameReads}
-use Rattle.names.specs.Places.{subOf, subInside, Stands, placesOf, orAbsent, placedAt, Accepts, judgesTo, Judges, Puts}
+use Rattle.names.specs.Places.{subOf, subInside, Stands, placesOf, orAbsent, placedAt, Accepts, Judges, Puts}
 use Rattle.names.specs.declared.kinds.Kind.{Kind}
 use Rattle.names.specs.declared.kinds.Kind.the-variants.{OneName, NameMap, IndirectMap, Kept}
 use Rattle.names.specs.declared.frames.FrameRead.{FrameRead}
@@ -23,8 +23,7 @@ use Rattle.tables.specs.declared.Held.{Held}
 use Rattle.tables.specs.declared.Held.the-variants.{Nothing as Absent, Part as At}
 use Rattle.names.specs.declared.places.Places.{Places}
 use Rattle.names.specs.declared.judging.Judged.{Judged}
-use Rattle.format.specs.declared.Verdict.{Verdict}
-use Rattle.format.specs.declared.Verdict.the-variants.{Accepted, Refused}
+use Rattle.names.specs.declared.judging.Judged.the-variants.{Accepted, Refused}
 
 -- places inside what was lent that stand for one part are one
 same-sub : (s : List ℕ) (a b : Held) → subInside s a → subInside s b → subOf s a ≡ subOf s b → a ≡ b
@@ -57,17 +56,11 @@ accepts-same {kindOf} {s} p q a b =
     let one : a .lying ≡ b .lying = accepted-is (sym (a .framed) ∙ b .framed) in
     same-places p q (λ id. stands-same (placedAt p id) (placedAt q id) (rw one at (a .all-stand id)) (b .all-stand id))
 
-same-judged : (kindOf : ℕ → AnyKind) (s : List ℕ) (at : ℕ) (bs : List ℕ) (p q : Places) (v w : Verdict) → judgesTo kindOf s at bs p v → judgesTo kindOf s at bs q w → _≡_ {A = Judged} (record { verdict = v; places = p }) (record { verdict = w; places = q })
-same-judged kindOf s at bs p q Accepted Accepted i j = let one = accepts-same p q i j in λ k. record { verdict = Accepted; places = one k }
-same-judged kindOf s at bs p q Accepted (Refused r) i j = absurd (not-accepted (sym (j .0) ∙ i .judged))
-same-judged kindOf s at bs p q (Refused r) Accepted i j = absurd (not-accepted (sym (i .0) ∙ j .judged))
-same-judged kindOf s at bs p q (Refused r) (Refused t) i j =
-    let one = same-judgement (sym (i .0) ∙ j .0) in
-    let there = i .1 ∙ sym (j .1) in
-    λ k. record { verdict = Refused (one k); places = there k }
-
 pub judge-same : (kindOf : ℕ → AnyKind) (s : List ℕ) (at : ℕ) (bs : List ℕ) (a b : Judged) → Judges kindOf s at bs a → Judges kindOf s at bs b → a ≡ b
-judge-same kindOf s at bs a b i j = same-judged kindOf s at bs (a .places) (b .places) (a .verdict) (b .verdict) (i .says) (j .says)
+judge-same kindOf s at bs (Accepted p) (Accepted q) i j = ap Accepted (accepts-same p q (i .says) (j .says))
+judge-same kindOf s at bs (Accepted p) (Refused r) i j = absurd (not-accepted (sym (j .says) ∙ i .says .judged))
+judge-same kindOf s at bs (Refused r) (Accepted q) i j = absurd (not-accepted (sym (i .says) ∙ j .says .judged))
+judge-same kindOf s at bs (Refused r) (Refused t) i j = ap Refused (same-judgement (sym (i .says) ∙ j .says))
 
 -- the kind that is meant, as the code has it
 kindOf : AnyKind → Kind

@@ -14,7 +14,7 @@ use Rattle.format.specs.Questions.{answered, asPlace}
 use Rattle.format.specs.declared.Query.{Query}
 use Rattle.format.specs.declared.Answer.{Answer}
 use Rattle.format.specs.declared.Verdict.{Verdict}
-use Rattle.format.specs.declared.Verdict.the-variants.{Accepted, Refused}
+use Rattle.format.specs.declared.Verdict.the-variants.{Accepted as IsAccepted, Refused as IsRefused}
 use Rattle.reading.specs.Cursors.{Inside, left, partOf}
 use Rattle.reading.specs.declared.Cursor.{Cursor}
 use Rattle.names.specs.Contents.{asksIn}
@@ -23,6 +23,7 @@ use Rattle.tables.specs.declared.Held.{Held}
 use Rattle.tables.specs.declared.Held.the-variants.{Nothing as Absent, Part as At}
 use Rattle.names.specs.declared.places.Places.{Places}
 use Rattle.names.specs.declared.judging.Judged.{Judged}
+use Rattle.names.specs.declared.judging.Judged.the-variants.{Accepted, Refused}
 
 -- the part that a place stands for
 abbrev pub subOf : List ℕ → Held → Option Part
@@ -46,9 +47,6 @@ placesOf p =
     (row 4 (p .types)
     (row 10 (p .fields)
     (row 11 (p .tags) nil)))))
-
-abbrev pub nowhere : Places
-nowhere = record { «module» = Absent; functions = Absent; locals = Absent; types = Absent; fields = Absent; tags = Absent }
 
 abbrev pub orAbsent : Option Held → Held
 orAbsent none = Absent
@@ -85,12 +83,17 @@ module _ (kindOf : ℕ → Kind) where
     pub framed : judgeFrames at bs ≡ accepted lying
     pub all-stand : AllStand s p lying
 
-  abbrev pub judgesTo : List ℕ → ℕ → List ℕ → Places → Verdict → Type 0
-  judgesTo s at bs p Accepted = Accepts s at bs p
-  judgesTo s at bs p (Refused r) = (judgeNames kindOf at bs ≡ refused (numberOf (r .reason)) (r .offset .0)) × (p ≡ nowhere)
+  abbrev pub judgesTo : List ℕ → ℕ → List ℕ → Judged → Type 0
+  judgesTo s at bs (Accepted p) = Accepts s at bs p
+  judgesTo s at bs (Refused r) = judgeNames kindOf at bs ≡ refused (numberOf (r .reason)) (r .offset .0)
 
   pub record Judges (s : List ℕ) (at : ℕ) (bs : List ℕ) (r : Judged) : Type 0 where
-    pub says : judgesTo s at bs (r .places) (r .verdict)
+    pub says : judgesTo s at bs r
+
+-- the verdict of a judgement
+abbrev pub verdictIn : Judged → Verdict
+verdictIn (Accepted p) = IsAccepted
+verdictIn (Refused r) = IsRefused r
 
 -- where an id lies in an accepted payload
 pub record Finds (s : List ℕ) (at : ℕ) (bs : List ℕ) (id : ℕ) (r : Held) : Type 0 where

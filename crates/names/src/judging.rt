@@ -1,20 +1,34 @@
 // Judges a name payload, whole and left to right.
 ghost use Rattle.reading.specs.Cursors.{Inside, left};
+ghost use mathlib.Core.Path.{_≡_};
 ghost use Rattle.format.specs.Names.{knownKind};
-ghost use Rattle.names.specs.Places.{Judges, Finds};
+ghost use Rattle.names.specs.Places.{verdictIn, Judges, Finds};
 use crate::frames::FrameRead;
 use crate::frames::frame;
 use crate::frames::subsection;
 use crate::places::Places;
 use crate::places::placed;
+use format::Refusal;
 use format::Verdict;
 use reading::Cursor;
 use tables::Held;
 
-// The verdict on a payload, and where its known subsections lie: nowhere, where it is refused.
-pub struct Judged {
-    pub verdict: Verdict,
-    pub places: Places,
+// What judging a payload comes to: where its known subsections lie, or its refusal.
+pub enum Judged {
+    Accepted(Places),
+    Refused(Refusal),
+}
+
+impl Judged {
+    // The verdict alone.
+    pub fn verdict(self) -> Verdict
+        ensures { λ r. ⌜ r ≡ verdictIn self ⌝ }
+    {
+        match self {
+            Judged::Accepted(_) => Verdict::Accepted,
+            Judged::Refused(r) => Verdict::Refused(r),
+        }
+    }
 }
 
 const NOWHERE: Places = Places {
@@ -37,16 +51,10 @@ pub fn judge_in(s: &[u8], c: Cursor) -> Judged
     loop {
         match subsection(s, next, least) {
             FrameRead::Refused(r) => {
-                return Judged {
-                    verdict: Verdict::Refused(r),
-                    places: NOWHERE,
-                };
+                return Judged::Refused(r);
             }
             FrameRead::End => {
-                return Judged {
-                    verdict: Verdict::Accepted,
-                    places,
-                };
+                return Judged::Accepted(places);
             }
             FrameRead::Frame(id, part, after) => {
                 places = placed(places, id, part);

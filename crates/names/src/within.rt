@@ -9,6 +9,7 @@ use crate::asking::all_kept;
 use crate::asking::named;
 use crate::asking::named_within;
 use crate::asking::the_name;
+use crate::judging::Judged;
 use crate::judging::find;
 use crate::judging::judge_in;
 use crate::kinds::Kind;
@@ -18,7 +19,6 @@ use crate::places::place_of;
 use format::Answer;
 use format::Query;
 use format::Question;
-use format::Verdict;
 use format::refusal_of;
 use reading::Cursor;
 
@@ -53,10 +53,8 @@ pub fn ask_in(s: &[u8], c: Cursor, q: Question) -> Answer
     ensures { λ r. ⌜ answered r ≡ asPlace (askAt knownKind q (c .at) (left (now (s .entry)) c)) ⌝ }
 {
     let judged = judge_in(s, c);
-    let verdict = judged.verdict;
-    let Verdict::Accepted = verdict else {
-        return Answer::Refused(refusal_of(verdict));
+    let Judged::Accepted(places) = judged else {
+        return Answer::Refused(refusal_of(judged.verdict()));
     };
-    let places = judged.places;
     answer(s, c, places, q)
 }

@@ -14,7 +14,7 @@ use Rattle.format.specs.Tables.{lookup, rows, table}
 use Rattle.format.specs.Text.{utf8, continues, following, wellFormed}
 use Rattle.format.specs.Walk.{preamble, begins, greatestId, isCustom, isCode, isData, rank, custom, isCalled, nameSection, hintSection, nothing, seeing, idRules, nameRules, section, sections, framing, walk, sectionCount}
 use Rattle.format.specs.Verdicts.{verdictOf}
-use Rattle.names.specs.Places.{Judges}
+use Rattle.names.specs.Places.{Judges, verdictIn}
 use Rattle.names.proofs.Verdicts.{verdict-is}
 use Rattle.walk.specs.Surveys.{counted}
 use Rattle.wakemiono.specs.Calls as call
@@ -47,7 +47,7 @@ names-computed : map (λ (row : Row (List ℕ) (Judged (Unit {0}))). verdict (ju
 unfolding hex digit number groups utf8 continues following wellFormed sized name remaining lookup rows table known knownKind contents subsections payload judgeNames
 names-computed = refl
 
-pub names-judge : Demanded (λ p r. Judges knownKind p 0 p r) (λ r. verdictOf (r .verdict)) name-rows
+pub names-judge : Demanded (λ p r. Judges knownKind p 0 p r) (λ r. verdictOf (verdictIn r)) name-rows
 names-judge = by-table (λ p r meets. verdict-is knownKind p 0 p r meets) name-rows names-computed
 
 pub wm-names-judge : Demanded (λ p a. call.wm-names-judge p a) saysVerdict name-rows

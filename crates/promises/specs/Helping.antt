@@ -16,10 +16,12 @@ use Rattle.format.specs.Tables.{Table, nil, row, lookup}
 use Rattle.format.specs.Walk.{greatestId, isCustom, isData, rank, nameRow, isRow, idRules, nameRules}
 use Rattle.format.specs.declared.Reason.the-variants.{NoPreamble, PastItsPart}
 use Rattle.names.specs.Contents.{kindMeant}
-use Rattle.names.specs.Places.{placesOf, placedAt, replaced, unlessKept, Puts}
+use Rattle.names.specs.Places.{placesOf, placedAt, replaced, unlessKept, Puts, verdictIn}
 use Rattle.format.specs.Verdicts.{refusalIn}
 use Rattle.format.specs.declared.Verdict.{Verdict}
-use Rattle.format.specs.declared.Verdict.the-variants.{Refused}
+use Rattle.format.specs.declared.Verdict.the-variants.{Accepted, Refused}
+use Rattle.names.specs.declared.judging.Judged.{Judged as Judgement}
+use Rattle.names.specs.declared.judging.Judged.the-variants.{Accepted as AcceptedAt, Refused as NotAccepted}
 use Rattle.names.specs.declared.places.Places.{Places}
 use Rattle.tables.specs.declared.Held.{Held}
 use Rattle.tables.specs.declared.Held.the-variants.{Nothing as Absent, Part as At}
@@ -94,10 +96,18 @@ pub placed : (place : Held) → RuledOut (λ (x : Places × ℕ × Cursor) r. Pu
 unfolding placesOf replaced knownKind known lookup
 placed place = by-two-inputs module-put (λ p. some p) isAt (nowhere, 0, front) (nowhere, 1, front) refl refl refl refl place
 
+abbrev isAccepted : Verdict → Bool
+isAccepted Accepted = true
+isAccepted (Refused r) = false
+
 -- names: one place for every id
 pub place-of : (place : Held) → RuledOut (λ (x : Places × ℕ) r. r ≡ placedAt (x .0) (x .1)) (λ _ r. r ≡ place)
 unfolding placedAt placesOf lookup
 place-of place = by-two-inputs {says = λ r. r} (λ x r meets. meets) (λ r. some r) isAt (record { «module» = At front; functions = Absent; locals = Absent; types = Absent; fields = Absent; tags = Absent }, 0) (nowhere, 0) {k = At front} {l = Absent} refl refl refl refl place
+
+-- names: a verdict is always accepted, or always refused
+pub judged-verdict : (wrong : Bool) → RuledOut (λ (j : Judgement) r. r ≡ verdictIn j) (λ _ r. isAccepted r ≡ wrong)
+judged-verdict wrong = by-two-inputs {says = isAccepted} (λ j r meets. ap isAccepted meets) (λ b. some b) (λ b. b) (AcceptedAt nowhere) (NotAccepted (record { reason = PastItsPart; offset = record { 0 = 0 } })) refl refl refl refl wrong
 
 -- walk: never against an id, or always. 255 is no section; 1 may be the first
 abbrev cameOut : Outcome (Unit {0}) → Judged (Unit {0})

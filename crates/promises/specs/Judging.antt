@@ -13,7 +13,7 @@ use Rattle.format.specs.Parts.{sized}
 use Rattle.format.specs.Reading.{Judged, refused, verdict}
 use Rattle.format.specs.Tables.{lookup, rows, table}
 use Rattle.format.specs.Verdicts.{verdictOf}
-use Rattle.names.specs.Places.{Judges}
+use Rattle.names.specs.Places.{Judges, verdictIn}
 use Rattle.names.proofs.Verdicts.{verdict-is}
 use Rattle.wakemiono.specs.Calls as call
 use Rattle.promises.specs.Answers.{saysVerdict, verdict-said}
@@ -48,7 +48,7 @@ names-verdicts : Verdicts (λ p. verdict (judgeNames knownKind 0 p))
 unfolding hex digit number groups sized known knownKind lookup contents subsections payload judgeNames table
 names-verdicts = record { fine = hex ""; bad = refuses (hex "01 00") 2 2; worse = refuses (hex "01") 2 1; is-fine = λ h. h; is-bad = refl; is-worse = refl; apart = refl }
 
-pub names-judge : JudgesRightly (λ p r. Judges knownKind p 0 p r) (λ r. verdictOf (r .verdict))
+pub names-judge : JudgesRightly (λ p r. Judges knownKind p 0 p r) (λ r. verdictOf (verdictIn r))
 names-judge = judges-rightly (λ p r meets. verdict-is knownKind p 0 p r meets) names-verdicts
 
 pub wm-names-judge : JudgesRightly (λ p a. call.wm-names-judge p a) saysVerdict

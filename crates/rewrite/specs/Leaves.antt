@@ -19,7 +19,7 @@ use Rattle.format.specs.Laws.Answers.{same-hint-answer}
 use Rattle.format.specs.declared.Answer.{Answer}
 use Rattle.format.specs.declared.HintAnswer.{HintAnswer}
 use Rattle.format.specs.declared.Written.the-variants.{Length}
-use Rattle.names.specs.Places.{Judges}
+use Rattle.names.specs.Places.{Judges, verdictIn}
 use Rattle.names.specs.declared.judging.Judged.{Judged as NamesJudged}
 use Rattle.names.proofs.Verdicts.{verdict-is}
 use Rattle.rewrite.specs.Rewritten.{CallsRewrite, calls-rewrite}
@@ -38,10 +38,10 @@ hint-calls = calls-rewrite hints-rewritten
 
 -- What `names` wrote is accepted by the judging call, and every question's calls tell of it what they tell of the original.
 module _ (kindOf : ℕ → Kind) (posed : AllPosed kindOf) {p old new : List ℕ} {n : ℕ} (a : Accepted (judgeNames kindOf 0) p) (w : Writes (canonicalNames kindOf p) old new (Length n)) where
-  pub names-accepted : (j : NamesJudged) → Judges kindOf (take n new) 0 (take n new) j → j .verdict ≡ IsAccepted
+  pub names-accepted : (j : NamesJudged) → Judges kindOf (take n new) 0 (take n new) j → verdictIn j ≡ IsAccepted
   names-accepted j says =
       let again = names-calls kindOf posed .leaves-canonical a w .is-accepted in
-      accepted-so (j .verdict) (verdict-is kindOf (take n new) 0 (take n new) j says ∙ rw (again .judged))
+      accepted-so (verdictIn j) (verdict-is kindOf (take n new) 0 (take n new) j says ∙ rw (again .judged))
 
   pub names-asked : (q : Question) (r r′ : Answer) (bytes bytes′ : List ℕ)
       → answered r ≡ asPlace (ask kindOf q p) → bytes ≡ asBytes (ask kindOf q p)

@@ -18,7 +18,7 @@ pub fn names(p: &[u8], out: &mut [u8]) -> Written
     ensures { λ r. ⌜ Writes (canonicalNames knownKind (now (p .entry))) (now (out .entry)) (now (out .exit)) r ⌝ }
 {
     let judged = judging::judge(p);
-    let verdict = judged.verdict;
+    let verdict = judged.verdict();
     let Verdict::Accepted = verdict else {
         return Written::Refused(refusal_of(verdict));
     };

@@ -129,8 +129,7 @@ pub fn say_hint(case: &[u8], a: HintAnswer) {
 
 pub fn say_names(case: &[u8], judged: judging::Judged) {
     say_case(case);
-    let verdict = judged.verdict;
-    match verdict {
+    match judged.verdict() {
         Verdict::Refused(r) => say_refusal(r),
         Verdict::Accepted => say(b"accepted\n"),
     }

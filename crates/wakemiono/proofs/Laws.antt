@@ -31,7 +31,7 @@ use Rattle.format.specs.Verdicts.{verdictOf}
 use Rattle.format.specs.declared.Verdict.{Verdict}
 use Rattle.format.specs.declared.Verdict.the-variants.{Refused as NotAccepted}
 use Rattle.format.proofs.Verdict as verdict-type
-use Rattle.names.specs.Places.{Judges}
+use Rattle.names.specs.Places.{Judges, verdictIn}
 use Rattle.names.specs.declared.judging.Judged.{Judged as NamesJudged}
 use Rattle.names.proofs.Verdicts.{verdict-is}
 use Rattle.walk.specs.Surveys.{counted, sectionAnswered}
@@ -134,8 +134,8 @@ says-place a x y e q = e ∙ ap wmPlace q
 pub says-judged : (a : WmAnswer) (n : ℕ) (x y : Judgement (Unit {0})) → a ≡ wmJudged n x → x ≡ y → a ≡ wmJudged n y
 says-judged a n x y e q = e ∙ ap (wmJudged n) q
 
-pub says-names : (kindOf : ℕ → Kind) (s : List ℕ) (a : WmAnswer) (n : ℕ) (j : NamesJudged) → a ≡ wmJudged n (verdictOf (j .verdict)) → Judges kindOf s 0 s j → a ≡ wmJudged n (verdict (judgeNames kindOf 0 s))
-says-names kindOf s a n j e h = e ∙ ap (wmJudged n) (verdict-is kindOf s 0 s j h)
+pub says-names : (kindOf : ℕ → Kind) (s : List ℕ) (a : WmAnswer) (n : ℕ) (j : NamesJudged) (v : Verdict) → a ≡ wmJudged n (verdictOf v) → v ≡ verdictIn j → Judges kindOf s 0 s j → a ≡ wmJudged n (verdict (judgeNames kindOf 0 s))
+says-names kindOf s a n j v e of h = e ∙ ap (wmJudged n) (ap (λ w. verdictOf w) of ∙ verdict-is kindOf s 0 s j h)
 
 pub says-hint : (a : WmAnswer) (x y : Judgement (Option Hint)) → a ≡ wmHint x → x ≡ y → a ≡ wmHint y
 says-hint a x y e q = e ∙ ap wmHint q

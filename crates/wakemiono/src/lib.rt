@@ -201,8 +201,7 @@ pub extern "C" fn wm_names_judge(payload: &[u8]) -> WmAnswer
     ensures { λ a. ⌜ wm-names-judge (now (payload .entry)) a ⌝ }
 {
     let judged = judging::judge(payload);
-    let verdict = judged.verdict;
-    of_verdict(verdict, payload.len())
+    of_verdict(judged.verdict(), payload.len())
 }
 
 fn local_name(function: u32, local: u32) -> Question

@@ -12,10 +12,11 @@ use Rattle.format.specs.declared.Query.the-variants.{ItsName, ItsContents, Name
 use Rattle.format.specs.Reading.{verdict, accepted}
 use Rattle.format.specs.Tables.{Table}
 use Rattle.format.specs.declared.Answer.{Answer}
+use Rattle.format.specs.declared.Verdict.{Verdict}
 use Rattle.names.proofs.Same.{judge-same, kind-same, frame-same, placed-same, stands-same}
 use Rattle.names.specs.Contents.{kindMeant, Asks, Rules}
 use Rattle.names.specs.Frames.{frame, subsection, FrameReads, judgeFrames}
-use Rattle.names.specs.Places.{Puts, placedAt, AsksAt, Judges, Finds}
+use Rattle.names.specs.Places.{Puts, placedAt, AsksAt, Judges, verdictIn, Finds}
 use Rattle.names.specs.declared.frames.FrameRead.{FrameRead}
 use Rattle.names.specs.declared.judging.Judged.{Judged}
 use Rattle.names.specs.declared.kinds.Kind.{Kind}
@@ -58,6 +59,9 @@ subsection-determined s c least = frame-same
 -- names::judging
 pub judge-in-determined : (s : List ℕ) (c : Cursor) → Determines (λ (r : Judged). Judges knownKind s (c .at) (left s c) r)
 judge-in-determined s c = judge-same _ _ _ _
+
+pub judged-verdict-determined : (self : Judged) → Determines (λ (r : Verdict). r ≡ verdictIn self)
+judged-verdict-determined self = equal-determined _
 
 pub judge-determined : (p : List ℕ) → Determines (λ (r : Judged). Judges knownKind p 0 p r)
 judge-determined p = judge-same _ _ _ _
