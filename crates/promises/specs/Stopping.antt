@@ -1,16 +1,22 @@
 -- The wrong lookup that stops at the entry that it looks for. What is asked for is found in the first entry; with a second entry, group, function or item that is damaged the payload is refused. Every result that meets the promise says so, and so does every result of the C call.
-use Prim.Native.Nat.{ℕ}
+use Prim.Native.Nat.{ℕ, _+_}
 use mathlib.Core.List.{List, [], _∷_, map}
-use mathlib.Core.Option.{Option, some}
+use mathlib.Core.Option.{Option, some, none}
 use mathlib.Core.Path.{_≡_, refl, ap, _∙_}
+use Prim.Native.String.{String}
+use Rattle.promises.specs.Asking.{withNames}
+use Rattle.format.specs.Walk.{preamble, begins, greatestId, isCustom, isCode, isData, rank, custom, isCalled, nameSection, hintSection, nothing, seeing, idRules, nameRules, section, sections, framing, walk, payloadOf, payloadIn, customPayload}
+use Rattle.format.specs.Through.{through, askThrough}
+use Rattle.format.specs.Canonical.{writePart}
+use Rattle.format.specs.Bytes.{ascii, same}
 use Rattle.format.specs.Examples.{hex, digit}
 use Rattle.format.specs.Metadata.{hintOf, anyItem, hintItem, metadata, judgeMetadata, itemAt, askMetadata, hintIn, askHint, hintAnswered}
 use Rattle.format.specs.Names.{known, knownKind, contents, subsections, payload, judgeNames}
-use Rattle.format.specs.Numbers.{number, groups}
-use Rattle.format.specs.Parts.{sized, name}
+use Rattle.format.specs.Numbers.{number, groups, shortest, fewest}
+use Rattle.format.specs.Parts.{sized, name, remaining}
 use Rattle.format.specs.Questions.{answer, asked, idOf, queryOf, askAt, ask, asPlace, answered}
 use Rattle.format.specs.declared.Question.{Question}
-use Rattle.format.specs.declared.Question.the-variants.{FunctionName, TypeName, TagName, LocalName, FieldName}
+use Rattle.format.specs.declared.Question.the-variants.{FunctionName, TypeName, TagName, LocalName, FieldName, ModuleName, KeptContents}
 use Rattle.format.specs.Reading.{Judged, accepted, refused}
 use Rattle.format.specs.Tables.{lookup, rows, table}
 use Rattle.format.specs.Text.{utf8, continues, following, wellFormed}
@@ -48,33 +54,64 @@ module _ {Lent : Type 0} where
     c-call = by-table (λ x a meets. ap saysHint meets ∙ hint-said (wanted x)) table e;
   }
 
-abbrev pub name-rows : List (Row (List ℕ × Question) (Judged (Option Place)))
-name-rows =
-    (hex "01 04 01 07 01 61", FunctionName (record { 0 = 7 })) demands found 5 1 ∷
-    (hex "01 07 02 07 01 61 07 01 62", FunctionName (record { 0 = 7 })) demands refused 11 6 ∷
-    (hex "01 07 02 07 01 61 08 01 FF", FunctionName (record { 0 = 7 })) demands refused 4 8 ∷
-    (hex "01 07 02 07 01 61 08 02 62", FunctionName (record { 0 = 7 })) demands refused 2 7 ∷
-    (hex "04 04 01 07 01 61", TypeName (record { 0 = 7 })) demands found 5 1 ∷
-    (hex "04 07 02 07 01 61 07 01 62", TypeName (record { 0 = 7 })) demands refused 11 6 ∷
-    (hex "04 07 02 07 01 61 08 01 FF", TypeName (record { 0 = 7 })) demands refused 4 8 ∷
-    (hex "04 07 02 07 01 61 08 02 62", TypeName (record { 0 = 7 })) demands refused 2 7 ∷
-    (hex "0B 04 01 07 01 61", TagName (record { 0 = 7 })) demands found 5 1 ∷
-    (hex "0B 07 02 07 01 61 07 01 62", TagName (record { 0 = 7 })) demands refused 11 6 ∷
-    (hex "0B 07 02 07 01 61 08 01 FF", TagName (record { 0 = 7 })) demands refused 4 8 ∷
-    (hex "0B 07 02 07 01 61 08 02 62", TagName (record { 0 = 7 })) demands refused 2 7 ∷
-    (hex "02 06 01 03 01 00 01 78", LocalName (record { 0 = 3 }) (record { 0 = 0 })) demands found 7 1 ∷
-    (hex "02 0B 02 03 01 00 01 78 03 01 00 01 79", LocalName (record { 0 = 3 }) (record { 0 = 0 })) demands refused 11 8 ∷
-    (hex "02 0B 02 03 01 00 01 78 04 01 00 01 FF", LocalName (record { 0 = 3 }) (record { 0 = 0 })) demands refused 4 12 ∷
-    (hex "02 09 01 03 02 00 01 78 00 01 79", LocalName (record { 0 = 3 }) (record { 0 = 0 })) demands refused 11 8 ∷
-    (hex "0A 06 01 03 01 00 01 78", FieldName (record { 0 = 3 }) (record { 0 = 0 })) demands found 7 1 ∷
-    (hex "0A 0B 02 03 01 00 01 78 03 01 00 01 79", FieldName (record { 0 = 3 }) (record { 0 = 0 })) demands refused 11 8 ∷
-    (hex "0A 0B 02 03 01 00 01 78 04 01 00 01 FF", FieldName (record { 0 = 3 }) (record { 0 = 0 })) demands refused 4 12 ∷
-    (hex "0A 09 01 03 02 00 01 78 00 01 79", FieldName (record { 0 = 3 }) (record { 0 = 0 })) demands refused 11 8 ∷
+-- One table for all questions to a name payload, put to the payload and through a module
+pub record Stopped : Type 0 where
+  pub payload : String
+  pub question : Question
+  pub told : Judged (Option Place)
+
+infixl 90 _of_tells_
+abbrev pub _of_tells_ : Question → String → Judged (Option Place) → Stopped
+_of_tells_ q payload told = record { payload = payload; question = q; told = told }
+
+abbrev pub stopped : List Stopped
+stopped =
+    -- the module's name, and contents that are kept: the subsection behind is damaged
+    ModuleName of "00 02 01 6D" tells found 3 1 ∷
+    ModuleName of "00 02 01 6D 01 00" tells refused 2 6 ∷
+    ModuleName of "00 02 01 6D 00 02 01 6D" tells refused 9 4 ∷
+    KeptContents 3 of "03 01 FF" tells found 2 1 ∷
+    KeptContents 3 of "03 01 FF 04 02 01 07" tells refused 2 7 ∷
+    KeptContents 3 of "03 01 FF 03 00" tells refused 9 3 ∷
+    -- a map's second entry, an indirect map's second group, and its first group's second entry
+    FunctionName (record { 0 = 7 }) of "01 04 01 07 01 61" tells found 5 1 ∷
+    FunctionName (record { 0 = 7 }) of "01 07 02 07 01 61 07 01 62" tells refused 11 6 ∷
+    FunctionName (record { 0 = 7 }) of "01 07 02 07 01 61 08 01 FF" tells refused 4 8 ∷
+    FunctionName (record { 0 = 7 }) of "01 07 02 07 01 61 08 02 62" tells refused 2 7 ∷
+    TypeName (record { 0 = 7 }) of "04 04 01 07 01 61" tells found 5 1 ∷
+    TypeName (record { 0 = 7 }) of "04 07 02 07 01 61 07 01 62" tells refused 11 6 ∷
+    TypeName (record { 0 = 7 }) of "04 07 02 07 01 61 08 01 FF" tells refused 4 8 ∷
+    TypeName (record { 0 = 7 }) of "04 07 02 07 01 61 08 02 62" tells refused 2 7 ∷
+    TagName (record { 0 = 7 }) of "0B 04 01 07 01 61" tells found 5 1 ∷
+    TagName (record { 0 = 7 }) of "0B 07 02 07 01 61 07 01 62" tells refused 11 6 ∷
+    TagName (record { 0 = 7 }) of "0B 07 02 07 01 61 08 01 FF" tells refused 4 8 ∷
+    TagName (record { 0 = 7 }) of "0B 07 02 07 01 61 08 02 62" tells refused 2 7 ∷
+    LocalName (record { 0 = 3 }) (record { 0 = 0 }) of "02 06 01 03 01 00 01 78" tells found 7 1 ∷
+    LocalName (record { 0 = 3 }) (record { 0 = 0 }) of "02 0B 02 03 01 00 01 78 03 01 00 01 79" tells refused 11 8 ∷
+    LocalName (record { 0 = 3 }) (record { 0 = 0 }) of "02 0B 02 03 01 00 01 78 04 01 00 01 FF" tells refused 4 12 ∷
+    LocalName (record { 0 = 3 }) (record { 0 = 0 }) of "02 09 01 03 02 00 01 78 00 01 79" tells refused 11 8 ∷
+    FieldName (record { 0 = 3 }) (record { 0 = 0 }) of "0A 06 01 03 01 00 01 78" tells found 7 1 ∷
+    FieldName (record { 0 = 3 }) (record { 0 = 0 }) of "0A 0B 02 03 01 00 01 78 03 01 00 01 79" tells refused 11 8 ∷
+    FieldName (record { 0 = 3 }) (record { 0 = 0 }) of "0A 0B 02 03 01 00 01 78 04 01 00 01 FF" tells refused 4 12 ∷
+    FieldName (record { 0 = 3 }) (record { 0 = 0 }) of "0A 09 01 03 02 00 01 78 00 01 79" tells refused 11 8 ∷
     []
 
-pub names : PlacesDemanded (λ (x : List ℕ × Question). asPlace (ask knownKind (x .1) (x .0))) name-rows
-unfolding hex digit number groups utf8 continues following wellFormed sized name lookup rows table known knownKind contents subsections payload judgeNames answer asked askAt ask asPlace
-names = places-demanded _ name-rows refl
+-- lent as `lend` makes it of a payload, which then begins `ahead` bytes further on
+abbrev moved : ℕ → Judged (Option Place) → Judged (Option Place)
+moved ahead (accepted none) = accepted none
+moved ahead (accepted (some p)) = found (ahead + p .offset .0) (p .length)
+moved ahead (refused n at) = refused n (ahead + at)
+
+abbrev pub name-rows : (String → List ℕ) → ℕ → List (Row (List ℕ × Question) (Judged (Option Place)))
+name-rows lend ahead = map (λ (s : Stopped). (lend (s .payload), s .question) demands moved ahead (s .told)) stopped
+
+pub names : PlacesDemanded (λ (x : List ℕ × Question). asPlace (ask knownKind (x .1) (x .0))) (name-rows hex 0)
+unfolding hex digit number groups utf8 continues following wellFormed sized name remaining lookup rows table known knownKind contents subsections payload judgeNames answer asked askAt ask asPlace
+names = places-demanded _ (name-rows hex 0) refl
+
+pub names-through : PlacesDemanded (λ (x : List ℕ × Question). asPlace (askThrough knownKind (x .1) (x .0))) (name-rows withNames 15)
+unfolding withNames writePart shortest fewest ascii same preamble begins greatestId isCustom isCode isData rank custom isCalled nameSection hintSection nothing seeing idRules nameRules section sections framing walk payloadOf payloadIn customPayload through askThrough hex digit number groups utf8 continues following wellFormed sized name remaining lookup rows table known knownKind contents subsections payload judgeNames answer asked askAt asPlace
+names-through = places-demanded _ (name-rows withNames 15) refl
 
 abbrev pub find-rows : List (Row (List ℕ × FunctionIndex × CodeOffset) (Judged (Option Place)))
 find-rows =
