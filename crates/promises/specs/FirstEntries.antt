@@ -3,14 +3,19 @@ use Prim.Native.Nat.{ℕ}
 use mathlib.Core.List.{List, [], _∷_, map}
 use mathlib.Core.Path.{_≡_, refl, ap, _∙_}
 use lib.ListN.{length}
+use Rattle.wakemiono.specs.Boundary.{WmWrites}
+use Rattle.wakemiono.specs.declared.WmAnswer.{WmAnswer}
+use Rattle.format.specs.declared.Written.{Written}
+use Rattle.format.specs.Outputs.{fitting, writeAnswer, outputAfter, writtenAs, Writes}
+use Rattle.format.specs.Canonical.{writePart, writeRows, writeTable, unlessEmpty, keepRows, bare, writeContent, writeSubsections, rewriteNames, canonicalNames, rewriteMetadata, canonicalOf, canonicalMetadata, canonicalHints}
 use Rattle.format.specs.Bytes.{ascii, same}
 use Rattle.format.specs.Examples.{hex, digit}
 use Rattle.format.specs.Metadata.{hintOf, anyItem, hintItem, metadata, judgeMetadata}
 use Rattle.format.specs.Names.{known, knownKind, contents, subsections, payload, judgeNames}
-use Rattle.format.specs.Numbers.{number, groups}
+use Rattle.format.specs.Numbers.{number, groups, shortest, fewest}
 use Rattle.format.specs.Parts.{sized, name, remaining}
 use Rattle.format.specs.Reading.{Judged, accepted, refused, verdict}
-use Rattle.format.specs.Tables.{lookup, rows, table}
+use Rattle.format.specs.Tables.{lookup, rows, table, size, mapTable}
 use Rattle.format.specs.Text.{utf8, continues, following, wellFormed}
 use Rattle.format.specs.Walk.{preamble, begins, greatestId, isCustom, isCode, isData, rank, custom, isCalled, nameSection, hintSection, nothing, seeing, idRules, nameRules, section, sections, framing, walk, sectionCount}
 use Rattle.format.specs.Verdicts.{verdictOf}
@@ -114,3 +119,30 @@ walk-count = by-table (λ m r meets. meets) section-rows sections-computed
 
 pub wm-walk : Demanded (λ m a. call.wm-walk m a) saysCount section-rows
 wm-walk = by-table (λ m a meets. ap saysCount meets ∙ count-said (sectionCount m)) section-rows sections-computed
+
+-- The rewritings refuse what the judgement refuses, and write the others: put into an output as long as the payload
+abbrev itself : Row (List ℕ) (Judged (Unit {0})) → Row (List ℕ × List ℕ) (Judged (Unit {0}))
+itself row = (row .input, row .input) demands row .verdict
+
+module _ (wanted : List ℕ → Judged (List ℕ)) (rows : List (Row (List ℕ) (Judged (Unit {0})))) where
+  pub record RewritesSo : Type 0 where
+    pub call : Demanded (λ (x : List ℕ × List ℕ) (r : Written × List ℕ). Writes (wanted (x .0)) (x .1) (r .1) (r .0)) (λ r. verdict (writtenAs (r .0))) (map itself rows)
+    pub c-call : Demanded (λ (x : List ℕ × List ℕ) (a : WmAnswer × List ℕ). WmWrites (wanted (x .0)) (x .1) (a .1) (a .0)) (λ a. verdict (saysCount (a .0))) (map itself rows)
+
+  rewrites-so : map (λ (row : Row (List ℕ × List ℕ) (Judged (Unit {0}))). verdict (writeAnswer (length (row .input .1)) (wanted (row .input .0)))) (map itself rows) ≡ map (λ row. row .verdict) (map itself rows) → RewritesSo
+  rewrites-so e = record {
+    call = by-table (λ x r meets. ap verdict (meets .says)) (map itself rows) e;
+    c-call = by-table (λ x a meets. ap verdict (ap saysCount (meets .says) ∙ count-said (writeAnswer (length (x .1)) (wanted (x .0))))) (map itself rows) e;
+  }
+
+pub rewrite-names : RewritesSo (canonicalNames knownKind) name-rows
+unfolding same hex digit number groups shortest fewest utf8 continues following wellFormed sized name remaining lookup size mapTable rows table known knownKind contents subsections payload judgeNames writePart writeRows writeTable unlessEmpty keepRows bare writeContent writeSubsections rewriteNames canonicalNames fitting writeAnswer outputAfter
+rewrite-names = rewrites-so (canonicalNames knownKind) name-rows refl
+
+pub rewrite-metadata : RewritesSo canonicalMetadata metadata-rows
+unfolding same hex digit number groups shortest fewest sized size mapTable rows table anyItem metadata judgeMetadata writePart writeRows writeTable unlessEmpty keepRows rewriteMetadata canonicalOf canonicalMetadata fitting writeAnswer outputAfter
+rewrite-metadata = rewrites-so canonicalMetadata metadata-rows refl
+
+pub rewrite-hints : RewritesSo canonicalHints hint-rows
+unfolding same hex digit number groups shortest fewest sized size mapTable rows table hintOf hintItem metadata judgeMetadata writePart writeRows writeTable unlessEmpty keepRows rewriteMetadata canonicalOf canonicalHints fitting writeAnswer outputAfter
+rewrite-hints = rewrites-so canonicalHints hint-rows refl
