@@ -17,7 +17,7 @@ use Rattle.format.specs.declared.Reason.the-variants.{SectionUnknown, SectionOr
 use Rattle.walk.specs.Sections.{bit, IdRuled, InTable, NameRuled, ThereAfter}
 use Rattle.walk.proofs.BitLaws.{shifted-bit, with-bit}
 use Rattle.walk.specs.declared.rules.Seen.{Seen}
-use Rattle.walk.specs.declared.rules.Verdict.the-variants.{Fine, Against}
+use Rattle.walk.specs.declared.rules.Ruling.the-variants.{Fine, Against}
 use Rattle.walk.specs.declared.rules.Called.{Called}
 use Rattle.walk.specs.declared.rules.Called.the-variants.{Row, Other}
 

@@ -29,8 +29,8 @@ use Rattle.walk.specs.declared.survey.Tally.{Tally}
 use Rattle.walk.specs.declared.rules.Seen.{Seen}
 use Rattle.walk.specs.declared.rules.Called.{Called}
 use Rattle.walk.specs.declared.rules.Called.the-variants.{Row, Other}
-use Rattle.walk.specs.declared.rules.Verdict.{Verdict}
-use Rattle.walk.specs.declared.rules.Verdict.the-variants.{Fine, Against}
+use Rattle.walk.specs.declared.rules.Ruling.{Ruling}
+use Rattle.walk.specs.declared.rules.Ruling.the-variants.{Fine, Against}
 use Rattle.walk.specs.declared.survey.SectionAnswer.{SectionAnswer}
 use Rattle.walk.specs.declared.survey.SectionAnswer.the-variants.{None as NoSection, Found, Refused as NotFound}
 
@@ -108,17 +108,17 @@ survey-same (NotSurveyed r) (Surveyed-whole t) p q = absurd (not-accepted (p .sa
 survey-same (NotSurveyed r) (NotSurveyed s) p q = ap NotSurveyed (same-judgement (p .says ∙ sym (q .says)))
 
 -- the rules
-same-verdict : (v w : Verdict) → ruling v 0 0 [] ≡ ruling w 0 0 [] → v ≡ w
-same-verdict Fine Fine e = refl
-same-verdict Fine (Against r) e = absurd (not-got (sym e))
-same-verdict (Against r) Fine e = absurd (not-got e)
-same-verdict (Against r) (Against s) e = ap Against (told-apart r s cc)
+same-ruling : (v w : Ruling) → ruling v 0 0 [] ≡ ruling w 0 0 [] → v ≡ w
+same-ruling Fine Fine e = refl
+same-ruling Fine (Against r) e = absurd (not-got (sym e))
+same-ruling (Against r) Fine e = absurd (not-got e)
+same-ruling (Against r) (Against s) e = ap Against (told-apart r s cc)
 
-pub id-same : {seen : Seen} {id : ℕ} (v w : Verdict) → IdRuled seen id v → IdRuled seen id w → v ≡ w
-id-same v w p q = same-verdict v w (p .says 0 0 [] ∙ sym (q .says 0 0 []))
+pub id-same : {seen : Seen} {id : ℕ} (v w : Ruling) → IdRuled seen id v → IdRuled seen id w → v ≡ w
+id-same v w p q = same-ruling v w (p .says 0 0 [] ∙ sym (q .says 0 0 []))
 
-pub name-same : {seen : Seen} (called : Called) (v w : Verdict) → NameRuled seen called v → NameRuled seen called w → v ≡ w
-name-same called v w p q = same-verdict v w (p .says 0 0 [] ∙ sym (q .says 0 0 []))
+pub name-same : {seen : Seen} (called : Called) (v w : Ruling) → NameRuled seen called v → NameRuled seen called w → v ≡ w
+name-same called v w p q = same-ruling v w (p .says 0 0 [] ∙ sym (q .says 0 0 []))
 
 pub see-same : {seen : Seen} {id : ℕ} {called : Called} (a b : Seen) → Sees seen id called a → Sees seen id called b → a ≡ b
 see-same a b p q =

@@ -26,8 +26,8 @@ use Rattle.walk.specs.Steps.{behindSize, AfterSize, Steps}
 use Rattle.walk.specs.declared.rules.Called.{Called}
 use Rattle.walk.specs.declared.rules.Called.the-variants.{Row, Other}
 use Rattle.walk.specs.declared.rules.Seen.{Seen}
-use Rattle.walk.specs.declared.rules.Verdict.{Verdict}
-use Rattle.walk.specs.declared.rules.Verdict.the-variants.{Fine, Against}
+use Rattle.walk.specs.declared.rules.Ruling.{Ruling}
+use Rattle.walk.specs.declared.rules.Ruling.the-variants.{Fine, Against}
 use Rattle.walk.specs.declared.step.Custom.{Custom}
 use Rattle.walk.specs.declared.step.Custom.the-variants.{None, Named}
 use Rattle.walk.specs.declared.step.CustomRead.{CustomRead}
@@ -36,7 +36,7 @@ use Rattle.walk.specs.declared.step.Step.{Step}
 use Rattle.walk.specs.declared.step.Step.the-variants.{Section, Done, Refused}
 use Rattle.walk.specs.declared.step.Walk.{Walk}
 use Rattle.walk.proofs.RowLaws.{row-below}
-use Rattle.walk.proofs.rules.Verdict as verdict-type
+use Rattle.walk.proofs.rules.Ruling as ruling-type
 use Rattle.walk.proofs.step.Custom as custom-type
 
 custom-other : (id o : ℕ) (bs : List ℕ) → (id ≡ 0 → ⊥) → custom id o bs ≡ got none o bs
@@ -84,7 +84,7 @@ module _ {m : List ℕ} where
 pub ruleset namings = (unnamed, name-inside, named, needs)
 
 -- an arm that binds nothing gives the tag alone
-as-fine : (v : Verdict) → tagOf verdict-type.the-type v ≡ 0 → v ≡ Fine
+as-fine : (v : Ruling) → tagOf ruling-type.the-type v ≡ 0 → v ≡ Fine
 as-fine Fine h = refl
 as-fine (Against why) h = absurd (omega arith)
 
@@ -96,7 +96,7 @@ called-in-table {called = Other} k = tt
 pub custom-inside : {m : List ℕ} {id : ℕ} {contents : Cursor} {x : CustomRead} {c : Custom} → CustomReads m id contents x → x ≡ Read c → CustomInside m c
 custom-inside {c = c} r e = r .within c e
 
-ruled : (m : List ℕ) (w : Walk) (c : Custom) (next : ℕ) {called : Called} {v : Verdict} → CallsCustom m c called → NameRuled (w .seen) called v → ruling v (w .at) next (drop next m) ≡ nameRules (seenOf (w .seen)) (w .at) (rowOf (customOf m c)) next (drop next m)
+ruled : (m : List ℕ) (w : Walk) (c : Custom) (next : ℕ) {called : Called} {v : Ruling} → CallsCustom m c called → NameRuled (w .seen) called v → ruling v (w .at) next (drop next m) ≡ nameRules (seenOf (w .seen)) (w .at) (rowOf (customOf m c)) next (drop next m)
 ruled m w c next k j = j .says (w .at) next (drop next m) ∙ ap (λ r. nameRules (seenOf (w .seen)) (w .at) r next (drop next m)) (sym (k .row-is))
 
 module _ {m : List ℕ} {w : Walk} {id : ℕ} {contents : Cursor} {next : ℕ} {x : CustomRead} (r : CustomReads m id contents x) where
@@ -104,12 +104,12 @@ module _ {m : List ℕ} {w : Walk} {id : ℕ} {contents : Cursor} {next : ℕ} {
   unfolding behindSize
   after-refused e = record { means = rw (← r .means next (drop next m), e); seen = tt; forward = tt }
 
-  module _ {c : Custom} {called : Called} {v : Verdict} (e : x ≡ Read c) (k : CallsCustom m c called) (j : NameRuled (w .seen) called v) where
+  module _ {c : Custom} {called : Called} {v : Ruling} (e : x ≡ Read c) (k : CallsCustom m c called) (j : NameRuled (w .seen) called v) where
     pub after-against : {why : Reason} → v ≡ Against why → AfterSize m w id contents next (Refused (record { reason = why; offset = record { 0 = w .at } }))
     unfolding behindSize
     after-against a = record { means = rw (← r .means next (drop next m), e, ← ruled m w c next k j, a); seen = tt; forward = tt }
 
-    pub after-fine : {seen : Seen} → Inside m contents × (w .at < contents .at) × (w .at < next) × (next ≤ length m) → tagOf verdict-type.the-type v ≡ 0 → Sees (w .seen) id called seen → AfterSize m w id contents next (Section (record { id = id; at = record { 0 = w .at }; contents = contents; custom = c }) (record { at = next; seen = seen }))
+    pub after-fine : {seen : Seen} → Inside m contents × (w .at < contents .at) × (w .at < next) × (next ≤ length m) → tagOf ruling-type.the-type v ≡ 0 → Sees (w .seen) id called seen → AfterSize m w id contents next (Section (record { id = id; at = record { 0 = w .at }; contents = contents; custom = c }) (record { at = next; seen = seen }))
     unfolding behindSize seeing
     after-fine i a s = record {
       means = rw (← r .means next (drop next m), e, ← ruled m w c next k j, as-fine v a);
@@ -144,12 +144,12 @@ module _ {m : List ℕ} {w : Walk} where
   unfolding step
   step-done h = record { means = rw (drop-of-length-le m h); seen = tt; forward = tt }
 
-  module _ {v : Verdict} (h : w .at < length m) (j : IdRuled (w .seen) (getD m (w .at) 0) v) where
+  module _ {v : Ruling} (h : w .at < length m) (j : IdRuled (w .seen) (getD m (w .at) 0) v) where
     pub step-against : {why : Reason} → v ≡ Against why → Steps m w (Refused (record { reason = why; offset = record { 0 = w .at } }))
     unfolding section
     step-against a = record { means = rw (opened m w h, ← j .says (w .at) (suc (w .at)) (drop (suc (w .at)) m), a); seen = tt; forward = tt }
 
-    module _ {x : PartRead} (a : tagOf verdict-type.the-type v ≡ 0) (p : PartReads sized m (behindId m w) x) where
+    module _ {x : PartRead} (a : tagOf ruling-type.the-type v ≡ 0) (p : PartReads sized m (behindId m w) x) where
       behind-inside : Inside m (behindId m w)
       behind-inside = record { ahead = omega arith; within = omega arith }
 

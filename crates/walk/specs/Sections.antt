@@ -21,8 +21,8 @@ use Rattle.walk.specs.declared.step.Section.{Section}
 use Rattle.walk.specs.declared.rules.Called.{Called}
 use Rattle.walk.specs.declared.rules.Called.the-variants.{Row, Other}
 use Rattle.walk.specs.declared.rules.Seen.{Seen}
-use Rattle.walk.specs.declared.rules.Verdict.{Verdict}
-use Rattle.walk.specs.declared.rules.Verdict.the-variants.{Fine, Against}
+use Rattle.walk.specs.declared.rules.Ruling.{Ruling}
+use Rattle.walk.specs.declared.rules.Ruling.the-variants.{Fine, Against}
 
 -- the bits of a number, from the lowest on
 abbrev pub bit : ℕ → ℕ → Bool
@@ -32,13 +32,13 @@ bit n (suc k) = bit (n / 2) k
 abbrev pub seenOf : Seen → SeenBefore
 seenOf s = record { rank = s .rank; code = s .code; there = bit (s .there) }
 
--- a verdict says what rules say that are checked with the id byte at an offset
-abbrev pub ruling : Verdict → ℕ → Reader (Unit {0})
+-- a ruling says what rules say that are checked with the id byte at an offset
+abbrev pub ruling : Ruling → ℕ → Reader (Unit {0})
 ruling Fine at o bs = got tt o bs
 ruling (Against why) at o bs = stop (numberOf why) at
 
 -- what the id decides
-pub record IdRuled (seen : Seen) (id : ℕ) (v : Verdict) : Type 0 where
+pub record IdRuled (seen : Seen) (id : ℕ) (v : Ruling) : Type 0 where
   pub says : (at o : ℕ) (bs : List ℕ) → ruling v at o bs ≡ idRules (seenOf seen) at id o bs
 
 -- what a section is called is a row, or none of them
@@ -54,7 +54,7 @@ pub record Calls (name : List ℕ) (called : Called) : Type 0 where
   pub row-is : rowFrom 0 tracked (λ x. same x name) ≡ rowCalled called
 
 -- what a custom section's row decides
-pub record NameRuled (seen : Seen) (called : Called) (v : Verdict) : Type 0 where
+pub record NameRuled (seen : Seen) (called : Called) (v : Ruling) : Type 0 where
   pub says : (at o : ℕ) (bs : List ℕ) → ruling v at o bs ≡ nameRules (seenOf seen) at (rowCalled called) o bs
 
 -- what the rules know behind a section

@@ -23,7 +23,7 @@ pub enum Called {
     Other,
 }
 
-pub enum Verdict {
+pub enum Ruling {
     Fine,
     Against(Reason),
 }
@@ -64,43 +64,43 @@ fn has(there: u8, row: u8) -> bool
 }
 
 // What the id decides, before the size is read.
-pub fn judge_id(seen: Seen, id: u8) -> Verdict
+pub fn judge_id(seen: Seen, id: u8) -> Ruling
     ensures { λ r. ⌜ IdRuled seen id r ⌝ }
 {
     if is_unknown(id) {
-        return Verdict::Against(Reason::SectionUnknown);
+        return Ruling::Against(Reason::SectionUnknown);
     }
     if id == CUSTOM {
-        return Verdict::Fine;
+        return Ruling::Fine;
     }
     if rank(id) <= seen.rank {
-        return Verdict::Against(Reason::SectionOrder);
+        return Ruling::Against(Reason::SectionOrder);
     }
     if id == DATA {
         if has(seen.there, NAME) {
-            return Verdict::Against(Reason::SectionTooLate);
+            return Ruling::Against(Reason::SectionTooLate);
         }
     }
-    Verdict::Fine
+    Ruling::Fine
 }
 
 // What a custom section's row decides, once its name is read.
-pub fn judge_name(seen: Seen, called: Called) -> Verdict
+pub fn judge_name(seen: Seen, called: Called) -> Ruling
     requires { ⌜ InTable called ⌝ }
     ensures { λ r. ⌜ NameRuled seen called r ⌝ }
 {
     match called {
-        Called::Other => Verdict::Fine,
+        Called::Other => Ruling::Fine,
         Called::Row(row) => {
             if has(seen.there, row) {
-                return Verdict::Against(Reason::SectionTwice);
+                return Ruling::Against(Reason::SectionTwice);
             }
             if BEFORE_CODE[row as usize] {
                 if seen.code {
-                    return Verdict::Against(Reason::SectionTooLate);
+                    return Ruling::Against(Reason::SectionTooLate);
                 }
             }
-            Verdict::Fine
+            Ruling::Fine
         }
     }
 }

@@ -8,8 +8,8 @@ use crate::called::is_called;
 use crate::rows::called;
 use crate::rules::CUSTOM;
 use crate::rules::Called;
+use crate::rules::Ruling;
 use crate::rules::Seen;
-use crate::rules::Verdict;
 use crate::rules::judge_id;
 use crate::rules::judge_name;
 use crate::rules::see;
@@ -91,11 +91,11 @@ fn after_size(m: &[u8], walk: Walk, id: u8, contents: Cursor, next: usize) -> St
             let seen = walk.seen;
             let called = called_so(m, custom);
             match judge_name(seen, called) {
-                Verdict::Against(reason) => Step::Refused(Refusal {
+                Ruling::Against(reason) => Step::Refused(Refusal {
                     reason,
                     offset: Offset(at),
                 }),
-                Verdict::Fine => {
+                Ruling::Fine => {
                     let section = Section {
                         id,
                         at: Offset(at),
@@ -157,11 +157,11 @@ impl Walk {
         }
         let id = m[at];
         match judge_id(self.seen, id) {
-            Verdict::Against(reason) => Step::Refused(Refusal {
+            Ruling::Against(reason) => Step::Refused(Refusal {
                 reason,
                 offset: Offset(at),
             }),
-            Verdict::Fine => {
+            Ruling::Fine => {
                 let rest = Cursor {
                     at: at + 1,
                     end: m.len(),
