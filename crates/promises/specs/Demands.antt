@@ -1,9 +1,9 @@
 -- THE FRONT DOOR. What users of the library demand, as types about its C calls, each under the sentence that it comes from, with the name of its proof in Proved.antt. A call is known by its promise alone: what is said here is said of every answer that meets the promise; that the call's own answer meets it is proved of its code.
 use Prim.Native.Nat.{ℕ, suc, _+_, _≤_, _<_}
 use mathlib.Core.List.{List, [], _∷_, _++_}
--- `cond t x y` is x where the test t holds, and y where it does not; `ltb m n` tests m < n
-use mathlib.Core.Bool.{cond}
-use lib.Dec.{ltb}
+-- `cond t x y` is x where the test t holds, and y where it does not; `ltb m n` tests m < n, `eqb m n` tests m ≡ n, and `s || t` is either test
+use mathlib.Core.Bool.{Bool, true, false, cond, _||_}
+use lib.Dec.{ltb, eqb}
 -- `A ↔ B`: each follows from the other; `x ≢ y`: they are not equal; `A × B`: both, and `(x : A) × B`: some x with B; `⊥`: never
 use mathlib.Core.Logic.{_↔_, _≢_}
 use mathlib.Core.Option.{none, some}
@@ -18,6 +18,13 @@ use Rattle.format.specs.Through.{metadataSection}
 -- WHAT COMES BACK. Each call answers with a record of four numbers: `kind` (0 none, 1 found, 2 refused, 3 unlikely, 4 likely), `code`, `offset` and `length`. `wmNone` is four times 0; `wmFound code offset length` is the answer of kind 1 with these; `wmRefused n at` is the answer of kind 2 with the refusal's number n as its code, its offset `at` and the length 0.
 use Rattle.wakemiono.specs.declared.WmAnswer.{WmAnswer}
 use Rattle.wakemiono.specs.Boundary.{wmNone, wmFound, wmRefused}
+-- WHAT THE RULES REFUSE, each with its number and its offset, as the rules are written down in `crates/format/specs`, one file a topic: `Judged A` is `accepted v`, with what was read, or `refused number offset`. `judgeModule m` judges a module, `judgeNames knownKind at p` a name payload that begins at an offset of what was lent, `judgeMetadata anyItem at p` metadata of any format, and `judgeMetadata hintItem at p` branch hints; `itemOf format` is `hintItem` for the format branch_hint and else `anyItem`. Of what was read, `rewriteNames` and `rewriteMetadata` are the bytes of the canonical rewriting.
+use Rattle.format.specs.Reading.{Judged, accepted, refused}
+use Rattle.format.specs.Walk.{walk as judgeModule}
+use Rattle.format.specs.Names.{knownKind, judgeNames}
+use Rattle.format.specs.Metadata.{anyItem, hintItem, judgeMetadata}
+use Rattle.format.specs.Through.{itemOf}
+use Rattle.format.specs.Canonical.{rewriteNames, rewriteMetadata}
 -- WHAT THE RULES ACCEPT. The sources' grammar, written down in the crate `grammar` line by line, apart from the library's readers: `NamePayload SourceIds p m`, `CodeMetadata Unknown p m`, `CodeMetadata BranchHint p m` and `Module p m` say that the bytes p are a name payload, code metadata, branch hints or a module, and mean m. `U32 bs n`: the bytes bs are the number n in LEB128. `Grammar A` are the grammars with meanings in A.
 use Rattle.grammar.specs.Numbers.{Grammar, U32}
 use Rattle.grammar.specs.Names.{SourceIds, NamePayload}
@@ -42,41 +49,117 @@ use Rattle.format.specs.Theorems.{ItemQuestion, ItemInRange}
 -- THE CALLS, each by its promise: `wm-walk bytes a` says that the answer a is one that the promise of wm_walk allows for these bytes. It is the promise itself, the one name that stands in the `ensures` of the call in crates/wakemiono/src/lib.rt. What the promises come to is said below, so that nothing has to be known of how they are put. `wm-name q` is the promise of the call that asks q: wm_module_name asks `ModuleName`, wm_function_name `FunctionName` of its function, wm_type_name `TypeName` of its index, wm_tag_name `TagName` of its tag, wm_local_name `LocalName` of its function and its local, wm_field_name `FieldName` of its index and its field, wm_kept `KeptContents` of its id; `wm-name-in q` is that of the same call with `_in`, which is lent a module. The calls that write are promised of the output before and after, too: `old` and `new`.
 use Rattle.wakemiono.specs.Calls.{wm-walk, wm-section, wm-custom, wm-names-judge, wm-name, wm-metadata-judge, wm-metadata, wm-hints-judge, wm-hint, wm-name-in, wm-metadata-in, wm-hint-in, wm-names-canonical, wm-metadata-canonical, wm-hints-canonical, wm-function-names-write}
 
--- DEMAND 1. "Any bytes may be lent as a module, a payload or lists. Each public call ends, does nothing undefined and asks no prior check. Bad input gets a refusal number and its offset, and every lent buffer is unchanged." Proved as `demand-1` in Proved.antt.
+-- DEMAND 1. "Any bytes may be lent as a module, a section or a set of lists. Each public call ends, does nothing undefined and asks no prior check. Bad input gets a refusal number and the offset document 01 gives with it, and every lent buffer is unchanged." Proved as `demand-1` in Proved.antt.
 
--- That a call ends and does nothing undefined is what the checker proves of its code before it says `proved`, and a call without a `requires` asks nothing: none of the C calls has one. What is lent to be read is lent as `&[u8]` or `&[u32]`, which cannot be written to. What is left to say is what the answers are, and what an output holds after the call.
-
--- A refusal: its number, which is one of the fifteen of the header, and its offset
-pub data Refusal : WmAnswer → Type 0 where
-  refusal : (number offset : ℕ) → 1 ≤ number → number ≤ 15 → Refusal (wmRefused number offset)
+-- That a call ends and does nothing undefined is what the checker proves of its code before it says `proved`, and a call without a `requires` asks nothing: none of the C calls has one. What is lent to be read is lent as `&[u8]` or `&[u32]`, which cannot be written to. What is left to say is what the answers are, which input is refused with which number and offset, and what an output holds after the call.
 
 -- What a judging call, the walk or a call that writes answers: a length or a count, or a refusal
 pub data Verdict : WmAnswer → Type 0 where
   yes : (length : ℕ) → Verdict (wmFound 0 0 length)
-  no : {a : WmAnswer} → Refusal a → Verdict a
+  no : (number offset : ℕ) → Verdict (wmRefused number offset)
 
 -- What a question is answered: none, a place, or a refusal
 pub data Reply : WmAnswer → Type 0 where
   replyNone : Reply wmNone
   replyFound : (offset length : ℕ) → Reply (wmFound 0 offset length)
-  replyRefused : {a : WmAnswer} → Refusal a → Reply a
+  replyRefused : (number offset : ℕ) → Reply (wmRefused number offset)
 
 -- What the question for a section is answered: a place has its id, too
 pub data SectionReply : WmAnswer → Type 0 where
   sectionNone : SectionReply wmNone
   sectionFound : (id offset length : ℕ) → SectionReply (wmFound id offset length)
-  sectionRefused : {a : WmAnswer} → Refusal a → SectionReply a
+  sectionRefused : (number offset : ℕ) → SectionReply (wmRefused number offset)
 
 -- What a question for a hint is answered: none, unlikely, likely, or a refusal
 pub data HintReply : WmAnswer → Type 0 where
   hintNone : HintReply wmNone
   hintUnlikely : HintReply (record { kind = 3; code = 0; offset = 0; length = 0 })
   hintLikely : HintReply (record { kind = 4; code = 0; offset = 0; length = 0 })
-  hintRefused : {a : WmAnswer} → Refusal a → HintReply a
+  hintRefused : (number offset : ℕ) → HintReply (wmRefused number offset)
+
+-- The numbers that the calls refuse with. 16 is the listing program's alone
+abbrev pub numbers : List ℕ
+numbers = 1 ∷ 2 ∷ 3 ∷ 4 ∷ 5 ∷ 6 ∷ 7 ∷ 8 ∷ 9 ∷ 10 ∷ 11 ∷ 12 ∷ 13 ∷ 14 ∷ 15 ∷ []
+
+abbrev pub isAmong : List ℕ → ℕ → Bool
+isAmong [] n = false
+isAmong (x ∷ xs) n = eqb n x || isAmong xs n
+
+-- What a call answers, said of every call alike: `Forms` are the forms that its answer can have, and `Refused` says which input is refused, and how. So a call that refuses too little or too much, with another number or at another offset, does not meet this
+pub record Answers (Forms : WmAnswer → Type 0) (Refused : (number offset : ℕ) → Type 0) (a : WmAnswer) : Type 0 where
+  pub answers : Forms a
+  -- a refusal is answered exactly where there is one to give, with its own number and its own offset
+  pub refuses : (number offset : ℕ) → (a ≡ wmRefused number offset) ↔ Refused number offset
+  -- and its number is one of the list
+  pub numbered : (number offset : ℕ) → a ≡ wmRefused number offset → isAmong numbers number ≡ true
+
+-- Which input is refused, and how: as the rules judge it
+abbrev pub RefusedBy : {A : Type 0} → Judged A → (number offset : ℕ) → Type 0
+RefusedBy judged number offset = judged ≡ refused number offset
+
+-- Through a module the walk comes first. Then the payload of the section, if wm_custom finds one, is judged where it lies, and its offsets count from the module's start
+pub data RefusedThrough {A : Type 0} (section : List ℕ) (judgement : (start : ℕ) → List ℕ → Judged A) (m : List ℕ) : (number offset : ℕ) → Type 0 where
+  byTheWalk : {number offset : ℕ} → judgeModule m ≡ refused number offset → RefusedThrough section judgement m number offset
+  byItsPayload : {number offset : ℕ} (c : WmAnswer) → wm-custom section m c → c .kind ≡ 1 → judgement (c .offset) (take (c .length) (drop (c .offset) m)) ≡ refused number offset → RefusedThrough section judgement m number offset
+
+-- A call that writes: what is lent is judged first, and 13 comes last, exactly where the output is shorter than needed. Its offset is the needed length
+pub data RefusedOrShort {A : Type 0} (judged : Judged A) (needed : A → ℕ) (room : ℕ) : (number offset : ℕ) → Type 0 where
+  asJudged : {number offset : ℕ} → judged ≡ refused number offset → RefusedOrShort judged needed room number offset
+  tooShort : {v : A} → judged ≡ accepted v → room < needed v → RefusedOrShort judged needed room 13 (needed v)
+
+-- Lists that agree: as many lengths as indices, and lengths that add up to the text
+abbrev pub Agree : (indices lengths text : List ℕ) → Type 0
+Agree indices lengths text = (length indices ≡ length lengths) × (sum lengths ≡ length text)
+
+-- indices each above the one before
+abbrev pub Rise : List ℕ → Type 0
+Rise indices = (i j a b : ℕ) → i < j → getElem? indices i ≡ some a → getElem? indices j ≡ some b → a < b
+
+-- and names that are text
+abbrev pub AreText : (indices lengths text : List ℕ) → Type 0
+AreText indices lengths text = (k : ℕ) (x : List ℕ) → Lists k x indices lengths text → (characters : List ℕ) × Text x characters
+
+-- Lists are fine where all three hold
+pub record FineLists (indices lengths text : List ℕ) : Type 0 where
+  pub agree : Agree indices lengths text
+  pub rise : Rise indices
+  pub are-text : AreText indices lengths text
+
+-- How long it is. A number takes one byte for each seven bits, and five at most
+abbrev pub bytesFor : ℕ → ℕ
+bytesFor n = cond (ltb n 128) 1 (cond (ltb n 16_384) 2 (cond (ltb n 2_097_152) 3 (cond (ltb n 268_435_456) 4 5)))
+
+-- each name its index, its length and its text
+abbrev pub entriesLength : (indices lengths : List ℕ) → ℕ
+entriesLength [] ns = 0
+entriesLength (i ∷ is) [] = 0
+entriesLength (i ∷ is) (n ∷ ns) = bytesFor i + bytesFor n + n + entriesLength is ns
+
+-- the contents of the subsection: the count of names, and the names
+abbrev pub contentsLength : (indices lengths : List ℕ) → ℕ
+contentsLength is ns = bytesFor (length is) + entriesLength is ns
+
+-- the payload: nothing for no names, else the subsection's id, the size of its contents, and these
+abbrev pub payloadLength : (indices lengths : List ℕ) → ℕ
+payloadLength [] ns = 0
+payloadLength (i ∷ is) ns = 1 + bytesFor (contentsLength (i ∷ is) ns) + contentsLength (i ∷ is) ns
+
+-- The first fault is at k: without what stands there all is well, and with it no more
+abbrev pub FirstFault : (Fine : ℕ → Type 0) → ℕ → Type 0
+FirstFault Fine k = Fine k × (Fine (suc k) → ⊥)
+
+-- Which lists are refused, and how. The order is 14, all of 11, all of 4, 15, 13: each is given only where none before it is
+pub data ListsRefused (indices lengths text : List ℕ) (room : ℕ) : (number offset : ℕ) → Type 0 where
+  listsDisagree : (Agree indices lengths text → ⊥) → ListsRefused indices lengths text room 14 0
+  -- the offset is the position of the first index that is not above the one before
+  notAbove : (k : ℕ) → Agree indices lengths text → FirstFault (λ n. Rise (take n indices)) k → ListsRefused indices lengths text room 11 k
+  -- the offset is where the first name that is not text starts in the joined text
+  notText : (k : ℕ) → Agree indices lengths text → Rise indices → FirstFault (λ n. AreText (take n indices) (take n lengths) text) k → ListsRefused indices lengths text room 4 (sum (take k lengths))
+  subsectionTooLarge : FineLists indices lengths text → 4_294_967_295 < contentsLength indices lengths → ListsRefused indices lengths text room 15 0
+  outputTooShort : FineLists indices lengths text → contentsLength indices lengths ≤ 4_294_967_295 → room < payloadLength indices lengths → ListsRefused indices lengths text room 13 (payloadLength indices lengths)
 
 -- What an output holds after a call that writes
 pub record Leaves (old new : List ℕ) (a : WmAnswer) : Type 0 where
-  pub answers : Verdict a
   -- after a refusal it is unchanged as a whole
   pub refused-unchanged : a .kind ≡ 2 → new ≡ old
   -- after a write every byte behind what was written is
@@ -89,27 +172,29 @@ pub record Leaves (old new : List ℕ) (a : WmAnswer) : Type 0 where
 abbrev pub NeedsRoom : (writing : (old new : List ℕ) → WmAnswer → Type 0) → Type 0
 NeedsRoom writing = (old new old′ new′ : List ℕ) (a b : WmAnswer) → writing old new a → writing old′ new′ b → a .kind ≡ 1 → (length old′ < a .length → b ≡ wmRefused 13 (a .length)) × (a .length ≤ length old′ → (b ≡ a) × (take (a .length) new′ ≡ take (a .length) new))
 
+-- A call that writes, by which input it refuses into an output of a length
+pub record Writing (Refused : (room number offset : ℕ) → Type 0) (writing : (old new : List ℕ) → WmAnswer → Type 0) : Type 0 where
+  pub answers : (old new : List ℕ) (a : WmAnswer) → writing old new a → Answers Verdict (Refused (length old)) a
+  pub leaves : (old new : List ℕ) (a : WmAnswer) → writing old new a → Leaves old new a
+  pub needs-room : NeedsRoom writing
+
 pub record Demand1 : Type 0 where
-  pub walk : (bytes : List ℕ) (a : WmAnswer) → wm-walk bytes a → Verdict a
-  pub section : (position : ℕ) (bytes : List ℕ) (a : WmAnswer) → wm-section position bytes a → SectionReply a
-  pub custom : (name bytes : List ℕ) (a : WmAnswer) → wm-custom name bytes a → Reply a
-  pub names-judge : (payload : List ℕ) (a : WmAnswer) → wm-names-judge payload a → Verdict a
-  pub name : (q : Question) (payload : List ℕ) (a : WmAnswer) → wm-name q payload a → Reply a
-  pub metadata-judge : (payload : List ℕ) (a : WmAnswer) → wm-metadata-judge payload a → Verdict a
-  pub metadata : (function offset : ℕ) (payload : List ℕ) (a : WmAnswer) → wm-metadata function offset payload a → Reply a
-  pub hints-judge : (payload : List ℕ) (a : WmAnswer) → wm-hints-judge payload a → Verdict a
-  pub hint : (function offset : ℕ) (payload : List ℕ) (a : WmAnswer) → wm-hint function offset payload a → HintReply a
-  pub name-in : (q : Question) (bytes : List ℕ) (a : WmAnswer) → wm-name-in q bytes a → Reply a
-  pub metadata-in : (format : List ℕ) (function offset : ℕ) (bytes : List ℕ) (a : WmAnswer) → wm-metadata-in format function offset bytes a → Reply a
-  pub hint-in : (function offset : ℕ) (bytes : List ℕ) (a : WmAnswer) → wm-hint-in function offset bytes a → HintReply a
-  pub names-canonical : (payload old new : List ℕ) (a : WmAnswer) → wm-names-canonical payload old new a → Leaves old new a
-  pub metadata-canonical : (payload old new : List ℕ) (a : WmAnswer) → wm-metadata-canonical payload old new a → Leaves old new a
-  pub hints-canonical : (payload old new : List ℕ) (a : WmAnswer) → wm-hints-canonical payload old new a → Leaves old new a
-  pub function-names-write : (indices lengths text old new : List ℕ) (a : WmAnswer) → wm-function-names-write indices lengths text old new a → Leaves old new a
-  pub names-canonical-room : (payload : List ℕ) → NeedsRoom (wm-names-canonical payload)
-  pub metadata-canonical-room : (payload : List ℕ) → NeedsRoom (wm-metadata-canonical payload)
-  pub hints-canonical-room : (payload : List ℕ) → NeedsRoom (wm-hints-canonical payload)
-  pub function-names-write-room : (indices lengths text : List ℕ) → NeedsRoom (wm-function-names-write indices lengths text)
+  pub walk : (bytes : List ℕ) (a : WmAnswer) → wm-walk bytes a → Answers Verdict (RefusedBy (judgeModule bytes)) a
+  pub section : (position : ℕ) (bytes : List ℕ) (a : WmAnswer) → wm-section position bytes a → Answers SectionReply (RefusedBy (judgeModule bytes)) a
+  pub custom : (name bytes : List ℕ) (a : WmAnswer) → wm-custom name bytes a → Answers Reply (RefusedBy (judgeModule bytes)) a
+  pub names-judge : (payload : List ℕ) (a : WmAnswer) → wm-names-judge payload a → Answers Verdict (RefusedBy (judgeNames knownKind 0 payload)) a
+  pub name : (q : Question) (payload : List ℕ) (a : WmAnswer) → wm-name q payload a → Answers Reply (RefusedBy (judgeNames knownKind 0 payload)) a
+  pub metadata-judge : (payload : List ℕ) (a : WmAnswer) → wm-metadata-judge payload a → Answers Verdict (RefusedBy (judgeMetadata anyItem 0 payload)) a
+  pub metadata : (function offset : ℕ) (payload : List ℕ) (a : WmAnswer) → wm-metadata function offset payload a → Answers Reply (RefusedBy (judgeMetadata anyItem 0 payload)) a
+  pub hints-judge : (payload : List ℕ) (a : WmAnswer) → wm-hints-judge payload a → Answers Verdict (RefusedBy (judgeMetadata hintItem 0 payload)) a
+  pub hint : (function offset : ℕ) (payload : List ℕ) (a : WmAnswer) → wm-hint function offset payload a → Answers HintReply (RefusedBy (judgeMetadata hintItem 0 payload)) a
+  pub name-in : (q : Question) (bytes : List ℕ) (a : WmAnswer) → wm-name-in q bytes a → Answers Reply (RefusedThrough nameSection (judgeNames knownKind) bytes) a
+  pub metadata-in : (format : List ℕ) (function offset : ℕ) (bytes : List ℕ) (a : WmAnswer) → wm-metadata-in format function offset bytes a → Answers Reply (RefusedThrough (metadataSection format) (judgeMetadata (itemOf format)) bytes) a
+  pub hint-in : (function offset : ℕ) (bytes : List ℕ) (a : WmAnswer) → wm-hint-in function offset bytes a → Answers HintReply (RefusedThrough hintSection (judgeMetadata hintItem) bytes) a
+  pub names-canonical : (payload : List ℕ) → Writing (RefusedOrShort (judgeNames knownKind 0 payload) (λ t. length (rewriteNames t))) (wm-names-canonical payload)
+  pub metadata-canonical : (payload : List ℕ) → Writing (RefusedOrShort (judgeMetadata anyItem 0 payload) (λ t. length (rewriteMetadata t))) (wm-metadata-canonical payload)
+  pub hints-canonical : (payload : List ℕ) → Writing (RefusedOrShort (judgeMetadata hintItem 0 payload) (λ t. length (rewriteMetadata t))) (wm-hints-canonical payload)
+  pub function-names-write : (indices lengths text : List ℕ) → Writing (ListsRefused indices lengths text) (wm-function-names-write indices lengths text)
 
 -- DEMAND 2. "Exactly what the rules accept is accepted. A lookup gives the mapped name as the very bytes of the section, or none exactly when the index has no name. Walk, hints and kept parts are what the rules make them. Names written from lists read back as those lists." Proved as `demand-2` in Proved.antt.
 
@@ -224,38 +309,6 @@ Listed indices lengths text (LocalName k j) x = ⊥
 Listed indices lengths text (FieldName k j) x = ⊥
 Listed indices lengths text (KeptContents id) x = ⊥
 
--- Which lists are written: as many lengths as indices, and lengths that add up to the text; indices each above the one before; and names that are text
-pub record FineLists (indices lengths text : List ℕ) : Type 0 where
-  pub counts : length indices ≡ length lengths
-  pub adds-up : sum lengths ≡ length text
-  pub rises : (i j a b : ℕ) → i < j → getElem? indices i ≡ some a → getElem? indices j ≡ some b → a < b
-  pub texts : (k : ℕ) (x : List ℕ) → Lists k x indices lengths text → (characters : List ℕ) × Text x characters
-
--- How long it is. A number takes one byte for each seven bits, and five at most
-abbrev pub bytesFor : ℕ → ℕ
-bytesFor n = cond (ltb n 128) 1 (cond (ltb n 16_384) 2 (cond (ltb n 2_097_152) 3 (cond (ltb n 268_435_456) 4 5)))
-
--- each name its index, its length and its text
-abbrev pub entriesLength : (indices lengths : List ℕ) → ℕ
-entriesLength [] ns = 0
-entriesLength (i ∷ is) [] = 0
-entriesLength (i ∷ is) (n ∷ ns) = bytesFor i + bytesFor n + n + entriesLength is ns
-
--- the contents of the subsection: the count of names, and the names
-abbrev pub contentsLength : (indices lengths : List ℕ) → ℕ
-contentsLength is ns = bytesFor (length is) + entriesLength is ns
-
--- the payload: nothing for no names, else the subsection's id, the size of its contents, and these
-abbrev pub payloadLength : (indices lengths : List ℕ) → ℕ
-payloadLength [] ns = 0
-payloadLength (i ∷ is) ns = 1 + bytesFor (contentsLength (i ∷ is) ns) + contentsLength (i ∷ is) ns
-
--- What fine lists are answered: 15 exactly where the subsection would exceed 4,294,967,295 bytes, else 13 exactly where the output is shorter than the payload, else they are written
-pub record FineAnswered (indices lengths old : List ℕ) (a : WmAnswer) : Type 0 where
-  pub too-large : 4_294_967_295 < contentsLength indices lengths → a ≡ wmRefused 15 0
-  pub too-short : contentsLength indices lengths ≤ 4_294_967_295 → length old < payloadLength indices lengths → a ≡ wmRefused 13 (payloadLength indices lengths)
-  pub is-written : contentsLength indices lengths ≤ 4_294_967_295 → payloadLength indices lengths ≤ length old → a ≡ wmFound 0 0 (payloadLength indices lengths)
-
 pub record WritesLists (indices lengths text written : List ℕ) (a : WmAnswer) : Type 0 where
   -- what was written is accepted
   pub is-accepted : (j : WmAnswer) → wm-names-judge written j → j .kind ≡ 1
@@ -278,9 +331,9 @@ pub record Demand2 : Type 0 where
   pub hints : AnswersHints
   pub walks : Walks
   pub through-modules : AsksThrough
-  -- exactly the fine lists are written, but for the size of their subsection and for want of room
+  -- exactly the fine lists are written, but for the size of their subsection and for want of room, which demand 1 says
   pub written-fine : (indices lengths text old new : List ℕ) (a : WmAnswer) → wm-function-names-write indices lengths text old new a → a .kind ≡ 1 → FineLists indices lengths text
-  pub fine-answered : (indices lengths text old new : List ℕ) (a : WmAnswer) → wm-function-names-write indices lengths text old new a → FineLists indices lengths text → FineAnswered indices lengths old a
+  pub fine-written : (indices lengths text old new : List ℕ) (a : WmAnswer) → wm-function-names-write indices lengths text old new a → FineLists indices lengths text → contentsLength indices lengths ≤ 4_294_967_295 → payloadLength indices lengths ≤ length old → a ≡ wmFound 0 0 (payloadLength indices lengths)
   pub lists : (indices lengths text old new : List ℕ) (a : WmAnswer) → Indices indices → wm-function-names-write indices lengths text old new a → a .kind ≡ 1 → WritesLists indices lengths text (take (a .length) new) a
 
 -- DEMAND 3. "Canonical rewritings of two accepted payloads are equal byte by byte exactly when every allowed question gets the same answer from both. A rewriting is accepted, answers as its original, is never longer, and rewriting it again changes nothing." Proved as `demand-3` in Proved.antt.

@@ -7,6 +7,8 @@ pub mod Rewriting
 pub mod Refusing
 pub mod Listing
 pub mod Lists
+pub mod ListsRefused
+pub mod Exactly
 pub mod Walking
 pub mod Moving
 pub mod Through

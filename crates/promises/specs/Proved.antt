@@ -4,7 +4,7 @@ use mathlib.Core.List.{List}
 use mathlib.Core.Logic.{_↔_, Iff·trans}
 use mathlib.Core.Option.{Option, none, some}
 use mathlib.Core.Path.{_≡_, refl}
-use lib.ListN.{length, take}
+use lib.ListN.{length, take, drop}
 use Rattle.wakemiono.specs.declared.WmAnswer.{WmAnswer}
 use Rattle.wakemiono.specs.Boundary.{wmRefused}
 use Rattle.grammar.specs.Numbers.{Grammar}
@@ -15,7 +15,7 @@ use Rattle.format.specs.Names.{Content, names}
 use Rattle.format.specs.declared.Question.{Question}
 use Rattle.format.specs.declared.Question.the-variants.{ModuleName, FunctionName, TypeName, TagName, LocalName, FieldName, KeptContents}
 use Rattle.format.specs.Theorems.{ItemQuestion}
-use Rattle.format.specs.Canonical.{canonicalNames, canonicalMetadata, canonicalHints}
+use Rattle.format.specs.Canonical.{rewriteNames, rewriteMetadata, canonicalNames, canonicalOf, canonicalMetadata, canonicalHints}
 use Rattle.format.specs.Metadata.{anyItem, hintItem, judgeMetadata, askMetadata, askHint}
 use Rattle.format.specs.Names.{Kind, knownKind, judgeNames}
 use Rattle.format.specs.Questions.{asPlace, ask}
@@ -26,7 +26,7 @@ use Rattle.format.specs.Through.{askThrough, askMetadataThrough, askHintThrough
 use Rattle.format.specs.Walk.{sectionCount, sectionAt, customPayload}
 use Rattle.wakemiono.specs.Boundary.{wmCount, wmSection, wmPlace, wmJudged, wmHint, WmWrites}
 use Rattle.walk.specs.Surveys.{sectionPlace}
-use Rattle.format.specs.Theorems.{Rewrites as AnyRewrites, questions-answered, any-metadata-answered, known-rewritten, any-metadata-rewritten, hints-rewritten}
+use Rattle.format.specs.Theorems.{Rewrites as AnyRewrites, questions-answered, known-answered, hints-answered as all-hints-answered, any-metadata-answered, known-rewritten, any-metadata-rewritten, hints-rewritten}
 use Rattle.format.specs.Canonical.{bare, bareItems}
 use Rattle.format.specs.Holding.{HasWithin, Holds}
 use Rattle.format.specs.Outputs.{writeAnswer}
@@ -43,49 +43,77 @@ use Rattle.grammar.specs.Laws.Metadata.{any-exact, metadata-complete}
 use Rattle.grammar.specs.Laws.Names.{SameIds, source-ids, names-complete}
 use Rattle.promises.specs.Laws.Judging.{found-grammar, refused-grammar}
 use Rattle.promises.specs.Laws.Listing.{lists-accepted, lists-read-back, lists-rest}
-use Rattle.promises.specs.Laws.Lists.{lists-fine, fine-answered}
+use Rattle.promises.specs.Laws.Lists.{lists-fine, fine-written}
 use Rattle.promises.specs.Laws.Lookups.{tells-as, asked-tells, asked-refused, likely-held, unlikely-held, no-hint-held, hint-refused, name-held, contents-held, entry-held, inner-held, within-held}
 use Rattle.promises.specs.Laws.Outputs.{wrote, wrote-nothing, wrote-others, wrote-room, wrote-as-long, wrote-short, wrote-again}
-use Rattle.promises.specs.Laws.Refusing.{Numbered, FairlyJudged, names-verdict-fair, name-asked-fair, metadata-verdict-fair, metadata-asked-fair, hints-verdict-fair, hint-asked-fair, count-fair, section-at-fair, custom-payload-fair, name-through-fair, metadata-through-fair, hint-through-fair, written-fair, canonical-names-fair, canonical-metadata-fair, canonical-hints-fair, lists-fair}
+use Rattle.promises.specs.Laws.Exactly.{name-in-exactly, metadata-in-exactly, hint-in-exactly, written-exactly, rewritten-exactly}
+use Rattle.promises.specs.Laws.ListsRefused.{lists-refused}
+use Rattle.promises.specs.Laws.Refusing.{Numbered, FairlyJudged, names-fair, any-fair, hint-fair, item-of-fair, items-fair, walk-fair}
 use Rattle.promises.specs.Laws.Rewriting.{hints-same, names-first-judged, metadata-first-judged, hints-first-judged, names-compared, metadata-compared, rewritten-same, rewritten-accepted, rewritten-alike, rewritten-shorter, rewritten-rests, rewritten-fits, rewriting-refused, names-refuse, metadata-refuse, hints-refuse}
-use Rattle.promises.specs.Laws.Saying.{Verdict as Says, judged-said, judged-whole}
+use Rattle.promises.specs.Laws.Saying.{Verdict as Says, judged-said, judged-whole, refused-said, hint-refused-said}
 use Rattle.promises.specs.Laws.Through.{name-through, hint-through, metadata-through, hint-data-through}
 use Rattle.promises.specs.Laws.Walking.{walked, walk-counts, section-found, section-first, section-none, section-refused, custom-tells, custom-refused}
-use Rattle.wakemiono.specs.Calls.{wm-walk, wm-names-judge, wm-name, wm-metadata-judge, wm-metadata, wm-hints-judge, wm-hint}
-use Rattle.promises.specs.Demands.{Refusal, Verdict, Reply, SectionReply, HintReply, Leaves, NeedsRoom, Demand1, HoldsName, HoldsData, JudgesExactly, AnswersNames, AnswersMetadata, AnswersHints, Walks, Demand2, SameAnswer, Rewrites, Demand3, refusal, yes, no, replyNone, replyFound, replyRefused, sectionNone, sectionFound, sectionRefused, hintNone, hintUnlikely, hintLikely, hintRefused}
+use Rattle.wakemiono.specs.Calls.{wm-walk, wm-names-judge, wm-name, wm-metadata-judge, wm-metadata, wm-hints-judge, wm-hint, wm-names-canonical, wm-metadata-canonical, wm-hints-canonical, wm-function-names-write}
+use Rattle.promises.specs.Demands.{Verdict, Reply, SectionReply, HintReply, Answers, RefusedBy, RefusedThrough, RefusedOrShort, ListsRefused, Leaves, NeedsRoom, Writing, Demand1, HoldsName, HoldsData, JudgesExactly, AnswersNames, AnswersMetadata, AnswersHints, Walks, Demand2, SameAnswer, Rewrites, Demand3, yes, no, replyNone, replyFound, replyRefused, sectionNone, sectionFound, sectionRefused, hintNone, hintUnlikely, hintLikely, hintRefused, byTheWalk, byItsPayload, asJudged, tooShort, listsDisagree, notAbove, notText, subsectionTooLarge, outputTooShort}
 
 -- Demand 1
-refuses : (n at : ℕ) → Numbered n → Refusal (wmRefused n at)
-refuses n at l = refusal n at (l .0) (l .1)
+judged-verdict : (n : ℕ) (j : Judged (Unit {0})) → Verdict (wmJudged n j)
+judged-verdict n (accepted v) = yes n
+judged-verdict n (refused m at) = no m at
 
-judged-verdict : (n : ℕ) (j : Judged (Unit {0})) → FairlyJudged j → Verdict (wmJudged n j)
-judged-verdict n (accepted v) fair = yes n
-judged-verdict n (refused m at) fair = no (refuses m at (fair .numbered m at refl))
+count-verdict : (j : Judged ℕ) → Verdict (wmCount j)
+count-verdict (accepted n) = yes n
+count-verdict (refused m at) = no m at
 
-count-verdict : (j : Judged ℕ) → FairlyJudged j → Verdict (wmCount j)
-count-verdict (accepted n) fair = yes n
-count-verdict (refused m at) fair = no (refuses m at (fair .numbered m at refl))
-
-place-reply : (j : Judged (Option Part)) → FairlyJudged j → Reply (wmPlace (asPlace j))
+place-reply : (j : Judged (Option Part)) → Reply (wmPlace (asPlace j))
 unfolding asPlace
-place-reply (accepted none) fair = replyNone
-place-reply (accepted (some p)) fair = replyFound (p .at) (length (p .bytes))
-place-reply (refused m at) fair = replyRefused (refuses m at (fair .numbered m at refl))
+place-reply (accepted none) = replyNone
+place-reply (accepted (some p)) = replyFound (p .at) (length (p .bytes))
+place-reply (refused m at) = replyRefused m at
 
-section-reply : (j : Judged (Option AnySection)) → FairlyJudged j → SectionReply (wmSection (mapJudged (mapSome sectionPlace) j))
-section-reply (accepted none) fair = sectionNone
-section-reply (accepted (some s)) fair = sectionFound (s .id) (s .at) (length (s .contents .bytes))
-section-reply (refused m at) fair = sectionRefused (refuses m at (fair .numbered m at refl))
+section-reply : (j : Judged (Option AnySection)) → SectionReply (wmSection (mapJudged (mapSome sectionPlace) j))
+section-reply (accepted none) = sectionNone
+section-reply (accepted (some s)) = sectionFound (s .id) (s .at) (length (s .contents .bytes))
+section-reply (refused m at) = sectionRefused m at
 
-hint-reply : (j : Judged (Option Hint)) → FairlyJudged j → HintReply (wmHint j)
-hint-reply (accepted none) fair = hintNone
-hint-reply (accepted (some Unlikely)) fair = hintUnlikely
-hint-reply (accepted (some Likely)) fair = hintLikely
-hint-reply (refused m at) fair = hintRefused (refuses m at (fair .numbered m at refl))
+hint-reply : (j : Judged (Option Hint)) → HintReply (wmHint j)
+hint-reply (accepted none) = hintNone
+hint-reply (accepted (some Unlikely)) = hintUnlikely
+hint-reply (accepted (some Likely)) = hintLikely
+hint-reply (refused m at) = hintRefused m at
 
-leaves : (wanted : Judged (List ℕ)) (old new : List ℕ) (a : WmAnswer) → FairlyJudged wanted → WmWrites wanted old new a → Leaves old new a
-leaves wanted old new a fair w = record {
-  answers = rw (w .says) (count-verdict (writeAnswer (length old) wanted) (written-fair (length old) wanted fair));
+-- by a judgement whose numbers are known
+answers-as : {A : Type 0} {Forms : WmAnswer → Type 0} {a : WmAnswer} {j : Judged A} → FairlyJudged j → Forms a → ((n at : ℕ) → (a ≡ wmRefused n at) ↔ (j ≡ refused n at)) → Answers Forms (RefusedBy j) a
+answers-as fair forms exactly = record { answers = forms; refuses = exactly; numbered = λ n at e. fair .numbered n at (exactly n at .0 e) }
+
+-- by the judging call, which refuses alike
+alike : {A : Type 0} {a j : WmAnswer} {judged : Judged A} → Says j judged → ((n at : ℕ) → (a ≡ wmRefused n at) ↔ (j ≡ wmRefused n at)) → (n at : ℕ) → (a ≡ wmRefused n at) ↔ (judged ≡ refused n at)
+alike says same n at = Iff·trans (same n at) (says .refusal n at)
+
+module _ {A : Type 0} {section : List ℕ} {judgement : ℕ → List ℕ → Judged A} (fair : (at : ℕ) (p : List ℕ) → FairlyJudged (judgement at p)) {m : List ℕ} where
+  through-numbered : {n at : ℕ} → RefusedThrough section judgement m n at → Numbered n
+  through-numbered {n} {at} (byTheWalk e) = walk-fair m .numbered n at e
+  through-numbered {n} {at} (byItsPayload c found k e) = fair (c .offset) (take (c .length) (drop (c .offset) m)) .numbered n at e
+
+  answers-through : {Forms : WmAnswer → Type 0} {a : WmAnswer} → Forms a → ((n at : ℕ) → (a ≡ wmRefused n at) ↔ RefusedThrough section judgement m n at) → Answers Forms (RefusedThrough section judgement m) a
+  answers-through forms exactly = record { answers = forms; refuses = exactly; numbered = λ n at e. through-numbered (exactly n at .0 e) }
+
+short-numbered : {A : Type 0} {j : Judged A} {needed : A → ℕ} {room n at : ℕ} → FairlyJudged j → RefusedOrShort j needed room n at → Numbered n
+short-numbered {n = n} {at = at} fair (asJudged e) = fair .numbered n at e
+short-numbered fair (tooShort e short) = refl
+
+lists-numbered : {is ns text : List ℕ} {room n at : ℕ} → ListsRefused is ns text room n at → Numbered n
+lists-numbered (listsDisagree _) = refl
+lists-numbered (notAbove k _ _) = refl
+lists-numbered (notText k _ _ _) = refl
+lists-numbered (subsectionTooLarge _ _) = refl
+lists-numbered (outputTooShort _ _ _) = refl
+
+written-verdict : (wanted : Judged (List ℕ)) (old new : List ℕ) (a : WmAnswer) → WmWrites wanted old new a → Verdict a
+written-verdict wanted old new a w = rw (w .says) (count-verdict (writeAnswer (length old) wanted))
+
+leaves : (wanted : Judged (List ℕ)) (old new : List ℕ) (a : WmAnswer) → WmWrites wanted old new a → Leaves old new a
+leaves wanted old new a w = record {
   refused-unchanged = wrote-nothing wanted w;
   others-unchanged = λ k. wrote-others (wrote wanted w k);
   inside = wrote-room wanted w;
@@ -95,28 +123,61 @@ leaves wanted old new a fair w = record {
 needs-room : (wanted : Judged (List ℕ)) → NeedsRoom (λ old new a. WmWrites wanted old new a)
 needs-room wanted old new old′ new′ a b v w k = (wrote-short v w k, wrote-again v w k)
 
+writes-as : {A : Type 0} (f : A → List ℕ) (j : Judged A) → FairlyJudged j → Writing (RefusedOrShort j (λ v. length (f v))) (λ old new a. WmWrites (mapJudged f j) old new a)
+writes-as f j fair = record {
+  answers = λ old new a w. record {
+    answers = written-verdict (mapJudged f j) old new a w;
+    refuses = rewritten-exactly f j w;
+    numbered = λ n at e. short-numbered fair (rewritten-exactly f j w n at .0 e);
+  };
+  leaves = leaves (mapJudged f j);
+  needs-room = needs-room (mapJudged f j);
+}
+
+writes-names : (p : List ℕ) → Writing (RefusedOrShort (judgeNames knownKind 0 p) (λ t. length (rewriteNames t))) (wm-names-canonical p)
+unfolding canonicalNames
+writes-names p = writes-as rewriteNames (judgeNames knownKind 0 p) (names-fair 0 p)
+
+writes-metadata : (p : List ℕ) → Writing (RefusedOrShort (judgeMetadata anyItem 0 p) (λ t. length (rewriteMetadata t))) (wm-metadata-canonical p)
+unfolding canonicalMetadata canonicalOf
+writes-metadata p = writes-as rewriteMetadata (judgeMetadata anyItem 0 p) (items-fair any-fair 0 p)
+
+writes-hints : (p : List ℕ) → Writing (RefusedOrShort (judgeMetadata hintItem 0 p) (λ t. length (rewriteMetadata t))) (wm-hints-canonical p)
+unfolding canonicalHints canonicalOf
+writes-hints p = writes-as rewriteMetadata (judgeMetadata hintItem 0 p) (items-fair hint-fair 0 p)
+
+writes-lists : (is ns text : List ℕ) → Writing (ListsRefused is ns text) (wm-function-names-write is ns text)
+writes-lists is ns text = record {
+  answers = λ old new a w. record {
+    answers = written-verdict (functionNames is ns text) old new a w;
+    refuses = exactly w;
+    numbered = λ n at e. lists-numbered (exactly w n at .0 e);
+  };
+  leaves = leaves (functionNames is ns text);
+  needs-room = needs-room (functionNames is ns text);
+}
+  where
+    exactly : {old new : List ℕ} {a : WmAnswer} → WmWrites (functionNames is ns text) old new a → (n at : ℕ) → (a ≡ wmRefused n at) ↔ ListsRefused is ns text (length old) n at
+    exactly {old} w n at = Iff·trans (written-exactly (functionNames is ns text) w n at) (lists-refused is ns text (length old) n at)
+
 pub demand-1 : Demand1
 demand-1 = record {
-  walk = λ m a e. rw e (count-verdict (sectionCount m) (count-fair m));
-  section = λ i m a e. rw e (section-reply (sectionAt i m) (section-at-fair i m));
-  custom = λ x m a e. rw e (place-reply (customPayload x m) (custom-payload-fair x m));
-  names-judge = λ p a e. rw e (judged-verdict (length p) _ (names-verdict-fair p));
-  name = λ q p a e. rw e (place-reply (ask knownKind q p) (name-asked-fair q p));
-  metadata-judge = λ p a e. rw e (judged-verdict (length p) _ (metadata-verdict-fair p));
-  metadata = λ f o p a e. rw e (place-reply (askMetadata anyItem (record { 0 = f }) (record { 0 = o }) 0 p) (metadata-asked-fair (record { 0 = f }) (record { 0 = o }) p));
-  hints-judge = λ p a e. rw e (judged-verdict (length p) _ (hints-verdict-fair p));
-  hint = λ f o p a e. rw e (hint-reply (askHint (record { 0 = f }) (record { 0 = o }) 0 p) (hint-asked-fair (record { 0 = f }) (record { 0 = o }) p));
-  name-in = λ q m a e. rw e (place-reply (askThrough knownKind q m) (name-through-fair q m));
-  metadata-in = λ x f o m a e. rw e (place-reply (askMetadataThrough x (record { 0 = f }) (record { 0 = o }) m) (metadata-through-fair x (record { 0 = f }) (record { 0 = o }) m));
-  hint-in = λ f o m a e. rw e (hint-reply (askHintThrough (record { 0 = f }) (record { 0 = o }) m) (hint-through-fair (record { 0 = f }) (record { 0 = o }) m));
-  names-canonical = λ p old new a w. leaves (canonicalNames knownKind p) old new a (canonical-names-fair p) w;
-  metadata-canonical = λ p old new a w. leaves (canonicalMetadata p) old new a (canonical-metadata-fair p) w;
-  hints-canonical = λ p old new a w. leaves (canonicalHints p) old new a (canonical-hints-fair p) w;
-  function-names-write = λ is ns text old new a w. leaves (functionNames is ns text) old new a (lists-fair is ns text) w;
-  names-canonical-room = λ p. needs-room (canonicalNames knownKind p);
-  metadata-canonical-room = λ p. needs-room (canonicalMetadata p);
-  hints-canonical-room = λ p. needs-room (canonicalHints p);
-  function-names-write-room = λ is ns text. needs-room (functionNames is ns text);
+  walk = λ m a e. answers-as (walk-fair m) (rw e (count-verdict (sectionCount m))) (walked m e .refusal);
+  section = λ i m a e. answers-as (walk-fair m) (rw e (section-reply (sectionAt i m))) (alike (walked m refl) (section-refused i m a (wmCount (sectionCount m)) e refl));
+  custom = λ x m a e. answers-as (walk-fair m) (rw e (place-reply (customPayload x m))) (alike (walked m refl) (custom-refused x m a (wmCount (sectionCount m)) e refl));
+  names-judge = λ p a e. answers-as (names-fair 0 p) (rw e (judged-verdict (length p) (verdict (judgeNames knownKind 0 p)))) (judged-said (length p) (judgeNames knownKind 0 p) e .refusal);
+  name = λ q p a e. answers-as (names-fair 0 p) (rw e (place-reply (ask knownKind q p))) (rw e (λ n at. Iff·trans (refused-said (ask knownKind q p) n at) (known-answered .refuses q p n at)));
+  metadata-judge = λ p a e. answers-as (items-fair any-fair 0 p) (rw e (judged-verdict (length p) (verdict (judgeMetadata anyItem 0 p)))) (judged-said (length p) (judgeMetadata anyItem 0 p) e .refusal);
+  metadata = λ f o p a e. answers-as (items-fair any-fair 0 p) (rw e (place-reply (askMetadata anyItem (record { 0 = f }) (record { 0 = o }) 0 p))) (rw e (λ n at. Iff·trans (refused-said (askMetadata anyItem (record { 0 = f }) (record { 0 = o }) 0 p) n at) (any-metadata-answered .refuses (record { 0 = f }, record { 0 = o }) p n at)));
+  hints-judge = λ p a e. answers-as (items-fair hint-fair 0 p) (rw e (judged-verdict (length p) (verdict (judgeMetadata hintItem 0 p)))) (judged-said (length p) (judgeMetadata hintItem 0 p) e .refusal);
+  hint = λ f o p a e. answers-as (items-fair hint-fair 0 p) (rw e (hint-reply (askHint (record { 0 = f }) (record { 0 = o }) 0 p))) (rw e (λ n at. Iff·trans (hint-refused-said (askHint (record { 0 = f }) (record { 0 = o }) 0 p) n at) (all-hints-answered .refuses (record { 0 = f }) (record { 0 = o }) p n at)));
+  name-in = λ q m a e. answers-through names-fair (rw e (place-reply (askThrough knownKind q m))) (name-in-exactly q m a e);
+  metadata-in = λ x f o m a e. answers-through (items-fair (item-of-fair x)) (rw e (place-reply (askMetadataThrough x (record { 0 = f }) (record { 0 = o }) m))) (metadata-in-exactly x (record { 0 = f }) (record { 0 = o }) m a e);
+  hint-in = λ f o m a e. answers-through (items-fair hint-fair) (rw e (hint-reply (askHintThrough (record { 0 = f }) (record { 0 = o }) m))) (hint-in-exactly (record { 0 = f }) (record { 0 = o }) m a e);
+  names-canonical = writes-names;
+  metadata-canonical = writes-metadata;
+  hints-canonical = writes-hints;
+  function-names-write = writes-lists;
 }
 
 -- Demand 2
@@ -192,7 +253,7 @@ demand-2 = record {
   walks = walks;
   through-modules = record { names = name-through; hints = λ f o. hint-through (record { 0 = f }) (record { 0 = o }); metadata = λ x n f o. metadata-through x n (record { 0 = f }) (record { 0 = o }); hint-data = λ f o. hint-data-through (record { 0 = f }) (record { 0 = o }) };
   written-fine = lists-fine;
-  fine-answered = fine-answered;
+  fine-written = fine-written;
   lists = λ is ns text old new a l w k. record { is-accepted = lists-accepted is ns text old new a l w k; reads-back = lists-read-back is ns text old new a l w k; is-canonical = lists-rest is ns text old new a l w k };
 }
 

@@ -1,6 +1,6 @@
 -- Which lists are written: those that agree, with rising indices and names that are text.
 use Prim.Native.Nat.{ℕ, zero, suc, _+_, _≤_, _<_}
-use mathlib.Core.Bool.{true, _&&_}
+use mathlib.Core.Bool.{Bool, true, _&&_}
 use mathlib.Core.List.{List, [], _∷_}
 use mathlib.Core.Option.{none, some}
 use mathlib.Core.Path.{_≡_, refl, sym, ap, _∙_}
@@ -14,7 +14,7 @@ use Rattle.format.specs.Laws.Options.{not-some, some-is}
 use Rattle.format.specs.Laws.Outcomes.{accepted-is, byTest, onBoth}
 use Rattle.format.specs.Lists.{sum, unsortedAt, badTextAt, provided, functionNames}
 use Rattle.format.specs.Numbers.{limit32, shortest}
-use Rattle.format.specs.Reading.{accepted}
+use Rattle.format.specs.Reading.{accepted, refused}
 use Rattle.format.specs.Text.{utf8}
 use Rattle.format.specs.declared.Reason.the-variants.{SubsectionTooLarge}
 use Rattle.grammar.specs.Grammar.{texts-exact}
@@ -23,13 +23,10 @@ use Rattle.lists.proofs.Payloads.{content-long, nothing-listed, payload-filled,
 use Rattle.writing.proofs.NumberLaws.{takes-one, takes-two, takes-three, takes-four, takes-five}
 use Rattle.wakemiono.specs.Boundary.{wmFound, WmWrites}
 use Rattle.wakemiono.specs.declared.WmAnswer.{WmAnswer}
-use Rattle.promises.specs.Demands.{FineLists, bytesFor, entriesLength, contentsLength, payloadLength, FineAnswered}
-use Rattle.promises.specs.Laws.Outputs.{wrote, wrote-there, wrote-refused, short-there}
+use Rattle.promises.specs.Demands.{Agree, Rise, AreText, FineLists, bytesFor, entriesLength, contentsLength, payloadLength}
+use Rattle.promises.specs.Laws.Outputs.{wrote, wrote-there}
 
 -- Rising indices
-abbrev Rising : List ℕ → Type 0
-Rising is = (i j a b : ℕ) → i < j → getElem? is i ≡ some a → getElem? is j ≡ some b → a < b
-
 least-of : (position least : ℕ) (is : List ℕ) (i : ℕ) {a : ℕ} → unsortedAt position least is ≡ none → getElem? is i ≡ some a → least ≤ a
 unfolding unsortedAt
 least-of position least [] i u e = absurd (not-some e)
@@ -40,7 +37,7 @@ least-of position least (x ∷ is) (suc i) u e =
     (λ t. let above = least-of (suc position) (suc x) is i (rw t at u) e in omega (arith, leb-true least x t, above))
     (λ t. absurd (not-some (sym (rw t at u))))
 
-rising-of : (position least : ℕ) (is : List ℕ) → unsortedAt position least is ≡ none → Rising is
+pub rising-of : (position least : ℕ) (is : List ℕ) → unsortedAt position least is ≡ none → Rise is
 unfolding unsortedAt
 rising-of position least [] u i j a b l e e′ = absurd (not-some e)
 rising-of position least (x ∷ is) u zero zero a b l e e′ = absurd (omega arith)
@@ -54,7 +51,7 @@ rising-of position least (x ∷ is) u (suc i) (suc j) a b l e e′ =
     (λ t. rising-of (suc position) (suc x) is (rw t at u) i j a b (omega arith) e e′)
     (λ t. absurd (not-some (sym (rw t at u))))
 
-to-rising : (position least : ℕ) (is : List ℕ) → ((i a : ℕ) → getElem? is i ≡ some a → least ≤ a) → Rising is → unsortedAt position least is ≡ none
+to-rising : (position least : ℕ) (is : List ℕ) → ((i a : ℕ) → getElem? is i ≡ some a → least ≤ a) → Rise is → unsortedAt position least is ≡ none
 unfolding unsortedAt
 to-rising position least [] h k = refl
 to-rising position least (x ∷ is) h k =
@@ -72,6 +69,15 @@ to-texts start is [] text l h = refl
 to-texts start [] (n ∷ ns) text l h = absurd (omega (arith, l))
 to-texts start (i ∷ is) (n ∷ ns) text l h = rw (h i (take n text) (firstListed refl)) (to-texts (start + n) is ns (drop n text) (omega (arith, l)) (λ k x m. h k x (laterListed m)))
 
+pub are-text : {is ns text : List ℕ} → badTextAt 0 ns text ≡ none → AreText is ns text
+are-text b k x m = texts-exact .valid-exactly x .0 (texts-of 0 b m)
+
+pub to-are-text : (is ns text : List ℕ) → length is ≡ length ns → AreText is ns text → badTextAt 0 ns text ≡ none
+to-are-text is ns text l t = to-texts 0 is ns text l (λ k x m. texts-exact .valid-exactly x .1 (t k x m))
+
+pub to-rise : (is : List ℕ) → Rise is → unsortedAt 0 0 is ≡ none
+to-rise is rise = to-rising 0 0 is (λ i a e. omega arith) rise
+
 module _ (is ns text old new : List ℕ) (a : WmAnswer) (w : WmWrites (functionNames is ns text) old new a) where
   pub lists-fine : a .kind ≡ 1 → FineLists is ns text
   unfolding functionNames
@@ -80,10 +86,9 @@ module _ (is ns text old new : List ℕ) (a : WmAnswer) (w : WmWrites (functionN
       on-unless (unsortedAt 0 0 is) _ _ e₁ λ u e₂. on-unless (badTextAt 0 ns text) _ _ e₂ λ b e₃.
       onBoth (eqb (length is) (length ns)) (eqb (sum ns) (length text)) c λ l s.
       record {
-        counts = eqb-true (length is) (length ns) l;
-        adds-up = eqb-true (sum ns) (length text) s;
-        rises = rising-of 0 0 is u;
-        texts = λ k x m. texts-exact .valid-exactly x .0 (texts-of 0 b m);
+        agree = (eqb-true (length is) (length ns) l, eqb-true (sum ns) (length text) s);
+        rise = rising-of 0 0 is u;
+        are-text = are-text b;
       }
 
 -- How long what is written is, as the demands count it
@@ -110,32 +115,41 @@ payload-long (i ∷ is) ns text {size} m =
     let same : size ≡ contentsLength (i ∷ is) ns = m .measured ∙ contents-long (i ∷ is) ns in
     ap length (payload-filled m (λ h. omega (arith, h))) ∙ filled-long m ∙ rw (number-long size, same)
 
-module _ (is ns text old new : List ℕ) (a : WmAnswer) (w : WmWrites (functionNames is ns text) old new a) (fine : FineLists is ns text) where
+-- The test whether lists agree
+module _ (is ns text : List ℕ) where
+  abbrev pub agreeing : Bool
+  agreeing = eqb (length is) (length ns) && eqb (sum ns) (length text)
+
+  pub agreed : Agree is ns text → agreeing ≡ true
+  agreed agree = rw (eq-eqb (length is) (length ns) (agree .0), eq-eqb (sum ns) (length text) (agree .1))
+
+  pub to-agree : agreeing ≡ true → Agree is ns text
+  to-agree t = onBoth (eqb (length is) (length ns)) (eqb (sum ns) (length text)) t λ l s. (eqb-true (length is) (length ns) l, eqb-true (sum ns) (length text) s)
+
+module _ {is ns text : List ℕ} (fine : FineLists is ns text) where
   joined : Joined is ns text
-  joined = record { same-count = fine .counts; add-up = fine .adds-up }
+  joined = record { same-count = fine .agree .0; add-up = fine .agree .1 }
 
   -- nothing but the size is left to decide
   by-size : functionNames is ns text ≡ provided (ltb (contentsLength is ns) limit32) SubsectionTooLarge (accepted (payload is ns text))
   unfolding functionNames payload
   by-size =
-      let l = eq-eqb (length is) (length ns) (fine .counts) in
-      let s = eq-eqb (sum ns) (length text) (fine .adds-up) in
-      let u = to-rising 0 0 is (λ i a e. omega arith) (fine .rises) in
-      let b = to-texts 0 is ns text (fine .counts) (λ k x m. texts-exact .valid-exactly x .1 (fine .texts k x m)) in
-      rw (l, s, u, b, content-long is ns text joined, contents-long is ns)
+      let c = agreed is ns text (fine .agree) in
+      let u = to-rise is (fine .rise) in
+      let b = to-are-text is ns text (fine .agree .0) (fine .are-text) in
+      rw (c, u, b, content-long is ns text joined, contents-long is ns)
 
-  module _ (small : contentsLength is ns < limit32) where
-    wanted : functionNames is ns text ≡ accepted (payload is ns text)
-    wanted = by-size ∙ rw (lt-ltb (contentsLength is ns) limit32 small)
+  pub fine-too-large : 4_294_967_295 < contentsLength is ns → functionNames is ns text ≡ refused 15 0
+  fine-too-large h = by-size ∙ rw (le-ltb (contentsLength is ns) limit32 (omega arith))
 
-    long : length (payload is ns text) ≡ payloadLength is ns
-    long = payload-long is ns text (record { joined = joined; measured = sym (contents-long is ns); small = small })
+  module _ (small : contentsLength is ns ≤ 4_294_967_295) where
+    pub fine-wanted : functionNames is ns text ≡ accepted (payload is ns text)
+    fine-wanted = by-size ∙ rw (lt-ltb (contentsLength is ns) limit32 (omega arith))
 
-  pub fine-answered : FineAnswered is ns old a
-  fine-answered = record {
-    too-large = λ h. wrote-refused w (by-size ∙ rw (le-ltb (contentsLength is ns) limit32 (omega arith)));
-    too-short = λ h short. rw (long (omega arith)) at (short-there (payload is ns text) (rw (long (omega arith)) short) (rw (wanted (omega arith)) at w));
-    is-written = λ h room.
-        let v = wrote-there (payload is ns text) (rw (long (omega arith)) room) (rw (wanted (omega arith)) at w) in
-        v .is ∙ ap (λ bs. wmFound 0 0 (length bs)) (sym (accepted-is (v .wants))) ∙ ap (λ n. wmFound 0 0 n) (long (omega arith));
-  }
+    pub fine-long : length (payload is ns text) ≡ payloadLength is ns
+    fine-long = payload-long is ns text (record { joined = joined; measured = sym (contents-long is ns); small = omega arith })
+
+pub fine-written : (is ns text old new : List ℕ) (a : WmAnswer) → WmWrites (functionNames is ns text) old new a → FineLists is ns text → contentsLength is ns ≤ 4_294_967_295 → payloadLength is ns ≤ length old → a ≡ wmFound 0 0 (payloadLength is ns)
+fine-written is ns text old new a w fine h room =
+    let v = wrote-there (payload is ns text) (rw (fine-long fine h) room) (rw (fine-wanted fine h) at w) in
+    v .is ∙ ap (λ bs. wmFound 0 0 (length bs)) (sym (accepted-is (v .wants))) ∙ ap (λ n. wmFound 0 0 n) (fine-long fine h)

@@ -1,5 +1,5 @@
 -- Questions through a module, by what the walk's C call says of the section and what the payload's C call answers.
-use Prim.Native.Nat.{ℕ, _+_}
+use Prim.Native.Nat.{ℕ}
 use mathlib.Core.List.{List}
 use mathlib.Core.Logic.{_≢_}
 use mathlib.Core.Option.{Option, none, some}
@@ -71,7 +71,7 @@ module _ {A : Type 0} (wm : Judged (Option A) → WmAnswer) (question : ℕ → 
   put-found m (accepted (some p)) very k = ap (λ bs. wm (question (p .at) bs)) (sym (very p refl .bytes))
   put-found m (refused n at) very k = absurd (omega (arith, k))
 
-payload-very : (x m : List ℕ) (p : Part) → customPayload x m ≡ accepted (some p) → VeryBytes m p
+pub payload-very : (x m : List ℕ) (p : Part) → customPayload x m ≡ accepted (some p) → VeryBytes m p
 payload-very x m p e = let l = payload-lies x m e in record { inside = lies-inside l; bytes = lies-there l }
 
 -- The three calls' answers, of a question put to the section x
@@ -84,7 +84,7 @@ module _ {A : Type 0} (wm : Judged (Option A) → WmAnswer) (question : ℕ → 
   unfolding through
   through-refused h n at is = e ∙ put-refused wm question (customPayload x m) n at h (sym d ∙ is)
 
-  through-found : c .kind ≡ 1 → a ≡ wm (question (c .offset) (take (c .length) (drop (c .offset) m)))
+  pub through-found : c .kind ≡ 1 → a ≡ wm (question (c .offset) (take (c .length) (drop (c .offset) m)))
   unfolding through
   through-found k = rw (e, d) (put-found wm question m (customPayload x m) (payload-very x m) (rw d at k))
 
