@@ -81,6 +81,7 @@ pub data HintReply : WmAnswer → Type 0 where
 abbrev pub numbers : List ℕ
 numbers = 1 ∷ 2 ∷ 3 ∷ 4 ∷ 5 ∷ 6 ∷ 7 ∷ 8 ∷ 9 ∷ 10 ∷ 11 ∷ 12 ∷ 13 ∷ 14 ∷ 15 ∷ []
 
+-- whether a number is one of a list
 abbrev pub isAmong : List ℕ → ℕ → Bool
 isAmong [] n = false
 isAmong (x ∷ xs) n = eqb n x || isAmong xs n
@@ -115,7 +116,7 @@ Agree indices lengths text = (length indices ≡ length lengths) × (sum lengths
 abbrev pub Rise : List ℕ → Type 0
 Rise indices = (i j a b : ℕ) → i < j → getElem? indices i ≡ some a → getElem? indices j ≡ some b → a < b
 
--- and names that are text
+-- and names that are text, each its own stretch of the joined text
 abbrev pub AreText : (indices lengths text : List ℕ) → Type 0
 AreText indices lengths text = (k : ℕ) (x : List ℕ) → Lists k x indices lengths text → (characters : List ℕ) × Text x characters
 
@@ -125,7 +126,7 @@ pub record FineLists (indices lengths text : List ℕ) : Type 0 where
   pub rise : Rise indices
   pub are-text : AreText indices lengths text
 
--- How long it is. A number takes one byte for each seven bits, and five at most
+-- How long the payload of the lists is. A number takes one byte for each seven bits, and five at most
 abbrev pub bytesFor : ℕ → ℕ
 bytesFor n = cond (ltb n 128) 1 (cond (ltb n 16_384) 2 (cond (ltb n 2_097_152) 3 (cond (ltb n 268_435_456) 4 5)))
 
