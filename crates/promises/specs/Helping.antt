@@ -31,7 +31,7 @@ use Rattle.walk.specs.Sections.{bit, seenOf, ruling, IdRuled, rowCalled, NameRu
 use Rattle.walk.specs.declared.rules.Called.{Called}
 use Rattle.walk.specs.declared.rules.Called.the-variants.{Row, Other}
 use Rattle.walk.specs.declared.rules.Seen.{Seen}
-use Rattle.walk.specs.declared.rules.Verdict.{Verdict as Ruling}
+use Rattle.walk.specs.declared.rules.Ruling.{Ruling}
 use Rattle.promises.specs.RuledOut.{RuledOut, Refuses, Accepts, Tells, by-input, by-two-inputs}
 
 -- format: one number for every reason

@@ -19,7 +19,7 @@ use Rattle.walk.specs.Surveys.{counted, sectionAnswered, sectionPlace, Surveys}
 use Rattle.walk.specs.declared.Counted.{Counted}
 use Rattle.walk.specs.declared.rules.Called.{Called}
 use Rattle.walk.specs.declared.rules.Seen.{Seen}
-use Rattle.walk.specs.declared.rules.Verdict.{Verdict}
+use Rattle.walk.specs.declared.rules.Ruling.{Ruling}
 use Rattle.walk.specs.declared.step.Began.{Began}
 use Rattle.walk.specs.declared.step.Step.{Step}
 use Rattle.walk.specs.declared.step.Walk.{Walk}
@@ -50,10 +50,10 @@ pub called-determined : (s : List ℕ) (part : Cursor) → Determines (λ (r : C
 called-determined s part = called-same
 
 -- walk::rules
-pub judge-id-determined : (seen : Seen) (id : ℕ) → Determines (λ (r : Verdict). IdRuled seen id r)
+pub judge-id-determined : (seen : Seen) (id : ℕ) → Determines (λ (r : Ruling). IdRuled seen id r)
 judge-id-determined seen id = id-same
 
-pub judge-name-determined : (seen : Seen) (called : Called) → Determines (λ (r : Verdict). NameRuled seen called r)
+pub judge-name-determined : (seen : Seen) (called : Called) → Determines (λ (r : Ruling). NameRuled seen called r)
 judge-name-determined seen called = name-same called
 
 pub see-determined : (seen : Seen) (id : ℕ) (called : Called) → Determines (λ (r : Seen). Sees seen id called r)
