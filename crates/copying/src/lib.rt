@@ -2,15 +2,13 @@
 ghost use Prim.Native.Nat.{_+_, _^_, _<_};
 ghost use mathlib.Core.Path.{_≡_};
 ghost use lib.ListN.{length};
-ghost use Rattle.format.specs.Canonical.{writePart};
 ghost use Rattle.format.specs.Numbers.{shortest, limit32};
 ghost use Rattle.format.specs.Parts.{sized};
 ghost use Rattle.format.specs.Tables.{rows, table};
-ghost use Rattle.copying.specs.Standing.{Measures, MeasuresGroups, FitsPart, Fits, Puts};
+ghost use Rattle.copying.specs.Standing.{FitsPart, Fits, Puts};
 ghost use Rattle.copying.specs.Bytes.{rowsOf, groupOf, groupLength, oneIfSome, groupsOf};
-ghost use Rattle.reading.specs.Cursors.{left};
 ghost use Rattle.reading.specs.Standing.{Known};
-ghost use Rattle.writing.specs.Wrote.{Wrote};
+ghost use Rattle.copying.specs.Promises.{copying-sized-length, copying-rows-length, copying-groups-length, copying-put-part, copying-put-rows, copying-put-groups};
 use reading::Cursor;
 use tables::stepping::GroupStep;
 use tables::stepping::RowStep;
@@ -45,7 +43,7 @@ pub struct Put {
 // How long a part is with its size before it.
 pub fn sized_length(size: usize) -> usize
     requires { ⌜ size < limit32 ⌝ }
-    ensures { λ r. ⌜ r ≡ length (shortest size) + size ⌝ }
+    ensures { λ r. ⌜ copying-sized-length size r ⌝ }
 {
     number_length(size as u32) + size
 }
@@ -53,7 +51,7 @@ pub fn sized_length(size: usize) -> usize
 // So many rows with parts.
 pub fn rows_length(c: Cursor, s: &[u8], n: u32) -> Measured
     requires { ⌜ Known (rows sized n 0) (now s) c ⌝ }
-    ensures { λ r. ⌜ Measures (rows sized n 0) rowsOf (now (s .entry)) c r ⌝ }
+    ensures { λ r. ⌜ copying-rows-length c (now (s .entry)) n r ⌝ }
 {
     let mut left = Rows { next: c, more: n };
     let mut length = 0;
@@ -99,7 +97,7 @@ fn one_if_some(count: u32) -> u32
 // So many groups: lists of rows, each under an index.
 pub fn groups_length(c: Cursor, s: &[u8], n: u32) -> Groups
     requires { ⌜ Known (rows (table sized) n 0) (now s) c ⌝ }
-    ensures { λ r. ⌜ MeasuresGroups n (now (s .entry)) c r ⌝ }
+    ensures { λ r. ⌜ copying-groups-length c (now (s .entry)) n r ⌝ }
 {
     let mut left = Rows { next: c, more: n };
     let mut kept: u32 = 0;
@@ -127,7 +125,7 @@ pub fn groups_length(c: Cursor, s: &[u8], n: u32) -> Groups
 // A part with its size before it.
 pub fn put_part(out: &mut [u8], at: usize, part: Cursor, s: &[u8]) -> usize
     requires { ⌜ FitsPart (now s) part (now out) at ⌝ }
-    ensures { λ r. ⌜ Wrote (now (out .entry)) (now (out .exit)) at r (writePart (left (now (s .entry)) part)) ⌝ }
+    ensures { λ r. ⌜ copying-put-part (now (out .entry)) at part (now (s .entry)) (now (out .exit)) r ⌝ }
 {
     let from = part.at;
     let to = part.end;
@@ -139,7 +137,7 @@ pub fn put_part(out: &mut [u8], at: usize, part: Cursor, s: &[u8]) -> usize
 // So many rows with parts.
 pub fn put_rows(out: &mut [u8], at: usize, c: Cursor, s: &[u8], n: u32) -> Put
     requires { ⌜ Fits (rows sized n 0) rowsOf (now s) c (now out) at ⌝ }
-    ensures { λ r. ⌜ Puts (rows sized n 0) rowsOf (now (s .entry)) c (now (out .entry)) (now (out .exit)) at r ⌝ }
+    ensures { λ r. ⌜ copying-put-rows (now (out .entry)) at c (now (s .entry)) n (now (out .exit)) r ⌝ }
 {
     let mut left = Rows { next: c, more: n };
     let mut to = at;
@@ -174,7 +172,7 @@ fn put_group(out: &mut [u8], at: usize, index: u32, c: Cursor, s: &[u8], entries
 // So many groups.
 pub fn put_groups(out: &mut [u8], at: usize, c: Cursor, s: &[u8], n: u32) -> Put
     requires { ⌜ Fits (rows (table sized) n 0) groupsOf (now s) c (now out) at ⌝ }
-    ensures { λ r. ⌜ Puts (rows (table sized) n 0) groupsOf (now (s .entry)) c (now (out .entry)) (now (out .exit)) at r ⌝ }
+    ensures { λ r. ⌜ copying-put-groups (now (out .entry)) at c (now (s .entry)) n (now (out .exit)) r ⌝ }
 {
     let mut left = Rows { next: c, more: n };
     let mut to = at;

@@ -16,6 +16,41 @@ use Rattle.format.specs.declared.Written.{Written}
 abbrev pub Determines : {Result : Type 0} → (Result → Type 0) → Type 0
 Determines {Result} promise = (a b : Result) → promise a → promise b → a ≡ b
 
+-- Of a promise by its name, whatever is lent: `Determines3` is for one that relates three things to the result
+abbrev pub Determines1 : {A Result : Type 0} → (A → Result → Type 0) → Type 0
+Determines1 {A} promise = (a : A) → Determines (promise a)
+
+abbrev pub Determines2 : {A B Result : Type 0} → (A → B → Result → Type 0) → Type 0
+Determines2 {A} promise = (a : A) → Determines1 (promise a)
+
+abbrev pub Determines3 : {A B C Result : Type 0} → (A → B → C → Result → Type 0) → Type 0
+Determines3 {A} promise = (a : A) → Determines2 (promise a)
+
+abbrev pub Determines4 : {A B C D Result : Type 0} → (A → B → C → D → Result → Type 0) → Type 0
+Determines4 {A} promise = (a : A) → Determines3 (promise a)
+
+abbrev pub Determines5 : {A B C D E Result : Type 0} → (A → B → C → D → E → Result → Type 0) → Type 0
+Determines5 {A} promise = (a : A) → Determines4 (promise a)
+
+-- And where two things come back, the answer last: before it stands the output after the call, or where in memory the answer's bytes begin
+abbrev pub DeterminesBoth : {Other Result : Type 0} → (Other → Result → Type 0) → Type 0
+DeterminesBoth {Other} {Result} promise = Determines (λ (back : Result × Other). promise (back .1) (back .0))
+
+abbrev pub DeterminesBoth1 : {A Other Result : Type 0} → (A → Other → Result → Type 0) → Type 0
+DeterminesBoth1 {A} promise = (a : A) → DeterminesBoth (promise a)
+
+abbrev pub DeterminesBoth2 : {A B Other Result : Type 0} → (A → B → Other → Result → Type 0) → Type 0
+DeterminesBoth2 {A} promise = (a : A) → DeterminesBoth1 (promise a)
+
+abbrev pub DeterminesBoth3 : {A B C Other Result : Type 0} → (A → B → C → Other → Result → Type 0) → Type 0
+DeterminesBoth3 {A} promise = (a : A) → DeterminesBoth2 (promise a)
+
+abbrev pub DeterminesBoth4 : {A B C D Other Result : Type 0} → (A → B → C → D → Other → Result → Type 0) → Type 0
+DeterminesBoth4 {A} promise = (a : A) → DeterminesBoth3 (promise a)
+
+abbrev pub DeterminesBoth5 : {A B C D E Other Result : Type 0} → (A → B → C → D → E → Other → Result → Type 0) → Type 0
+DeterminesBoth5 {A} promise = (a : A) → DeterminesBoth4 (promise a)
+
 -- bytes, and where in memory they begin
 abbrev pub Handed : Type 0
 Handed = List ℕ × (ℕ × ℕ)

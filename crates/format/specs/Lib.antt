@@ -23,3 +23,4 @@ pub mod Laws
 pub mod Theorems
 pub mod Results
 pub mod Determined
+pub mod Promises

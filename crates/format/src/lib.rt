@@ -1,8 +1,5 @@
 // The types that every crate shares. What they mean is written in specs/.
-ghost use mathlib.Core.Path.{_≡_};
-ghost use Rattle.format.specs.Questions.{idOf, queryOf};
-ghost use Rattle.format.specs.Refusals.{numberOf};
-ghost use Rattle.format.specs.Verdicts.{refusalIn};
+ghost use Rattle.format.specs.Promises.{format-refusal-of, format-reason-number, format-question-id, format-question-query};
 
 // A byte offset, counted from the start of what was lent.
 pub struct Offset(pub usize);
@@ -118,7 +115,7 @@ pub enum Written {
 
 // The refusal of a verdict that is one: a let .. else binds nothing in its other branch.
 pub fn refusal_of(verdict: Verdict) -> Refusal
-    ensures { λ r. ⌜ r ≡ refusalIn verdict ⌝ }
+    ensures { λ r. ⌜ format-refusal-of verdict r ⌝ }
 {
     match verdict {
         Verdict::Refused(r) => r,
@@ -133,7 +130,7 @@ pub fn refusal_of(verdict: Verdict) -> Refusal
 impl Reason {
     // The number that a host sees and may store.
     pub fn number(self) -> u32
-        ensures { λ r. ⌜ r ≡ numberOf self ⌝ }
+        ensures { λ r. ⌜ format-reason-number self r ⌝ }
     {
         match self {
             Reason::NoPreamble => 1,
@@ -159,7 +156,7 @@ impl Reason {
 impl Question {
     // The id of the subsection that is asked.
     pub fn id(self) -> u8
-        ensures { λ r. ⌜ r ≡ idOf self ⌝ }
+        ensures { λ r. ⌜ format-question-id self r ⌝ }
     {
         match self {
             Question::ModuleName => MODULE_NAME,
@@ -174,7 +171,7 @@ impl Question {
 
     // What is asked of it.
     pub fn query(self) -> Query
-        ensures { λ r. ⌜ r ≡ queryOf self ⌝ }
+        ensures { λ r. ⌜ format-question-query self r ⌝ }
     {
         match self {
             Question::ModuleName => Query::ItsName,

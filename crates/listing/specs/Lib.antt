@@ -1,2 +1,4 @@
 pub mod Lines
 pub mod Input
+pub mod Promises
+pub mod Determined

@@ -1,12 +1,13 @@
 // The listing of a module: it is judged and counted first, then its lines are written.
-ghost use mathlib.Core.List.{[], _∷_, _++_};
+ghost use mathlib.Core.List.{_++_};
 ghost use mathlib.Core.Path.{_≡_};
 ghost use Prim.Native.Nat.{_≤_, _+_, _*_};
 ghost use lib.ListN.{length};
-ghost use Rattle.format.specs.Listing.{sectionLines, printed, listing};
+ghost use Rattle.format.specs.Listing.{sectionLines, printed};
 ghost use Rattle.format.specs.Reading.{accepted};
 ghost use Rattle.format.specs.Walk.{walk, sectionCount};
 ghost use Rattle.listing.specs.Lines.{AnswerPut, Adds, AddsFrom, countLine, customLine, room};
+ghost use Rattle.listing.specs.Promises.{listing-list};
 ghost use Rattle.writing.specs.Wrote.{Wrote};
 use crate::lines::put_labelled;
 use crate::lines::put_number;
@@ -122,7 +123,7 @@ fn put_accepted(m: &[u8], count: usize, out: &mut [u8]) -> usize
 // The whole listing. The room holds that of the longest module.
 pub fn list(m: &[u8], out: &mut [u8]) -> usize
     requires { ⌜ room ≤ length (now out) ⌝ }
-    ensures { λ r. ⌜ Wrote (now (out .entry)) (now (out .exit)) 0 r (listing (now (m .entry))) ⌝ }
+    ensures { λ r. ⌜ listing-list (now (m .entry)) (now (out .entry)) (now (out .exit)) r ⌝ }
 {
     if GREATEST < m.len() {
         return put_refusal(

@@ -5,12 +5,13 @@ ghost use Prim.Native.Nat.{_≤_, _<_, _+_};
 ghost use lib.Dec.{eqb};
 ghost use lib.ListN.{length};
 ghost use Rattle.format.specs.Canonical.{writePart};
-ghost use Rattle.format.specs.Lists.{sum, functionNames};
+ghost use Rattle.format.specs.Lists.{sum};
 ghost use Rattle.format.specs.Numbers.{shortest, limit32};
 ghost use Rattle.format.specs.Outputs.{Writes};
 ghost use Rattle.format.specs.Reading.{accepted};
 ghost use Rattle.lists.specs.Steps.{agree, checkedAs, indexCheck, textCheck, rowLength, rowsLength, contentsAs, sizeCheck, listsJudged, Joined, Measured, rowsOf, neededFor, filled, payload};
 ghost use Rattle.writing.specs.Wrote.{Wrote};
+ghost use Rattle.lists.specs.Promises.{lists-function-names};
 use format::Offset;
 use format::Reason;
 use format::Refusal;
@@ -239,7 +240,7 @@ fn write(out: &mut [u8], indices: &[u32], lengths: &[u32], text: &[u8], size: u3
 
 // Writes one subsection of function names in canonical form. Nothing is stored before all is known to fit.
 pub fn function_names(indices: &[u32], lengths: &[u32], text: &[u8], out: &mut [u8]) -> Written
-    ensures { λ r. ⌜ Writes (functionNames (now (indices .entry)) (now (lengths .entry)) (now (text .entry))) (now (out .entry)) (now (out .exit)) r ⌝ }
+    ensures { λ r. ⌜ lists-function-names (now (indices .entry)) (now (lengths .entry)) (now (text .entry)) (now (out .entry)) (now (out .exit)) r ⌝ }
 {
     match judge(indices, lengths, text) {
         Contents::Refused(r) => Written::Refused(r),

@@ -1,2 +1,3 @@
 pub mod Asking
 pub mod HandedBack
+pub mod Promises

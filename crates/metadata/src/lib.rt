@@ -1,13 +1,9 @@
 // Code metadata: data that belongs to places in functions, and branch hints among it. Every public call takes any bytes.
-ghost use Prim.Native.Nat.{_+_};
 ghost use mathlib.Core.Path.{_≡_};
-ghost use Rattle.format.specs.Metadata.{anyItem, hintItem, askMetadata, judgeMetadata, askHint, hintAnswered};
-ghost use Rattle.format.specs.Questions.{answered, asPlace, asBytes, startOf};
-ghost use Rattle.format.specs.Reading.{verdict};
-ghost use Rattle.format.specs.Verdicts.{verdictOf};
 ghost use Rattle.metadata.specs.Asking.{refusedBy, filledWith, JudgesFor};
-ghost use Rattle.reading.specs.Cursors.{Inside, left};
+ghost use Rattle.reading.specs.Cursors.{Inside};
 ghost use Rattle.tables.specs.Seeking.{readerOf};
+ghost use Rattle.metadata.specs.Promises.{metadata-find-in, metadata-judge-in, metadata-hint-in, metadata-judge, metadata-judge-hints, metadata-find, metadata-find-bytes, metadata-hint};
 use format::Answer;
 use format::CodeOffset;
 use format::FunctionIndex;
@@ -77,7 +73,7 @@ fn judge_for(s: &[u8], c: Cursor, item: Item, function: Wanted, offset: Wanted) 
 // The data at an offset of a function, in a payload that lies in `s` where the cursor says.
 pub fn find_in(s: &[u8], c: Cursor, item: Item, f: FunctionIndex, at: CodeOffset) -> Answer
     requires { ⌜ Inside (now s) c ⌝ }
-    ensures { λ r. ⌜ answered r ≡ asPlace (askMetadata (readerOf item) f at (c .at) (left (now (s .entry)) c)) ⌝ }
+    ensures { λ r. ⌜ metadata-find-in (now (s .entry)) c item f at r ⌝ }
 {
     let judgement = judge_for(s, c, item, Wanted(f.0 as u64), Wanted(at.0 as u64));
     let verdict = judgement.verdict;
@@ -91,7 +87,7 @@ pub fn find_in(s: &[u8], c: Cursor, item: Item, f: FunctionIndex, at: CodeOffset
 // Judges a payload that lies in `s` where the cursor says.
 pub fn judge_in(s: &[u8], c: Cursor, item: Item) -> Verdict
     requires { ⌜ Inside (now s) c ⌝ }
-    ensures { λ r. ⌜ verdictOf r ≡ verdict (judgeMetadata (readerOf item) (c .at) (left (now (s .entry)) c)) ⌝ }
+    ensures { λ r. ⌜ metadata-judge-in (now (s .entry)) c item r ⌝ }
 {
     let judgement = judge_for(s, c, item, NOTHING, NOTHING);
     judgement.verdict
@@ -100,7 +96,7 @@ pub fn judge_in(s: &[u8], c: Cursor, item: Item) -> Verdict
 // The hint at an offset of a function, in a payload that lies in `s` where the cursor says.
 pub fn hint_in(s: &[u8], c: Cursor, f: FunctionIndex, at: CodeOffset) -> HintAnswer
     requires { ⌜ Inside (now s) c ⌝ }
-    ensures { λ r. ⌜ hintAnswered r ≡ askHint f at (c .at) (left (now (s .entry)) c) ⌝ }
+    ensures { λ r. ⌜ metadata-hint-in (now (s .entry)) c f at r ⌝ }
 {
     let judgement = judge_for(s, c, Item::Hint, Wanted(f.0 as u64), Wanted(at.0 as u64));
     let verdict = judgement.verdict;
@@ -122,7 +118,7 @@ pub fn hint_in(s: &[u8], c: Cursor, f: FunctionIndex, at: CodeOffset) -> HintAns
 
 // Judges a payload of any format.
 pub fn judge(p: &[u8]) -> Verdict
-    ensures { λ r. ⌜ verdictOf r ≡ verdict (judgeMetadata anyItem 0 (now (p .entry))) ⌝ }
+    ensures { λ r. ⌜ metadata-judge (now (p .entry)) r ⌝ }
 {
     let all = Cursor::over(p);
     judge_in(p, all, Item::Data)
@@ -130,7 +126,7 @@ pub fn judge(p: &[u8]) -> Verdict
 
 // Judges a payload of branch hints.
 pub fn judge_hints(p: &[u8]) -> Verdict
-    ensures { λ r. ⌜ verdictOf r ≡ verdict (judgeMetadata hintItem 0 (now (p .entry))) ⌝ }
+    ensures { λ r. ⌜ metadata-judge-hints (now (p .entry)) r ⌝ }
 {
     let all = Cursor::over(p);
     judge_in(p, all, Item::Hint)
@@ -138,7 +134,7 @@ pub fn judge_hints(p: &[u8]) -> Verdict
 
 // The data at an offset of a function, in a payload of any format.
 pub fn find(p: &[u8], f: FunctionIndex, at: CodeOffset) -> Answer
-    ensures { λ r. ⌜ answered r ≡ asPlace (askMetadata anyItem f at 0 (now (p .entry))) ⌝ }
+    ensures { λ r. ⌜ metadata-find (now (p .entry)) f at r ⌝ }
 {
     let all = Cursor::over(p);
     find_in(p, all, Item::Data, f, at)
@@ -146,15 +142,14 @@ pub fn find(p: &[u8], f: FunctionIndex, at: CodeOffset) -> Answer
 
 // The same data as a part of what was lent: empty, and at its start, for none and for a refusal.
 pub fn find_bytes(p: &[u8], f: FunctionIndex, at: CodeOffset) -> &[u8]
-    ensures { λ r. ⌜ now r ≡ asBytes (askMetadata anyItem f at 0 (now (p .entry))) ⌝ }
-    ensures { λ r. ⌜ r .ptr ≡ (p .entry .ptr .0, startOf (askMetadata anyItem f at 0 (now (p .entry))) + p .entry .ptr .1) ⌝ }
+    ensures { λ r. ⌜ metadata-find-bytes (now (p .entry)) (p .entry .ptr) f at (r .ptr) (now r) ⌝ }
 {
     taken(p, find(p, f, at))
 }
 
 // The hint at an offset of a function.
 pub fn hint(p: &[u8], f: FunctionIndex, at: CodeOffset) -> HintAnswer
-    ensures { λ r. ⌜ hintAnswered r ≡ askHint f at 0 (now (p .entry)) ⌝ }
+    ensures { λ r. ⌜ metadata-hint (now (p .entry)) f at r ⌝ }
 {
     let all = Cursor::over(p);
     hint_in(p, all, f, at)

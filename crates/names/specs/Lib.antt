@@ -2,3 +2,4 @@ pub mod Frames
 pub mod Contents
 pub mod Places
 pub mod HandedBack
+pub mod Promises

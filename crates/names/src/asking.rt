@@ -1,8 +1,7 @@
 // What the contents at a place answer.
-ghost use mathlib.Core.Path.{_≡_};
-ghost use Rattle.format.specs.Names.{oneName, nameMap, indirectMap, kept};
-ghost use Rattle.format.specs.declared.Query.the-variants.{ItsName, ItsContents, NameOf, NameWithin};
-ghost use Rattle.names.specs.Places.{subInside, KnownAt, AsksAt};
+ghost use Rattle.format.specs.Names.{nameMap, indirectMap};
+ghost use Rattle.names.specs.Places.{subInside, KnownAt};
+ghost use Rattle.names.specs.Promises.{names-the-name, names-named, names-named-within, names-all-kept};
 use crate::contents::one_name;
 use format::Answer;
 use format::Offset;
@@ -15,7 +14,7 @@ use tables::finding::find_row;
 // The one name there.
 pub fn the_name(s: &[u8], place: Held) -> Answer
     requires { ⌜ subInside (now s) place ⌝ }
-    ensures { λ r. ⌜ AsksAt oneName ItsName (now (s .entry)) place r ⌝ }
+    ensures { λ r. ⌜ names-the-name (now (s .entry)) place r ⌝ }
 {
     match place {
         Held::Nothing => Answer::None,
@@ -26,7 +25,7 @@ pub fn the_name(s: &[u8], place: Held) -> Answer
 // The name at `key` of the name map there. It was accepted, so its text is not looked at again, and nothing behind the key.
 pub fn named(s: &[u8], place: Held, key: u32) -> Answer
     requires { ⌜ KnownAt nameMap (now s) place ⌝ }
-    ensures { λ r. ⌜ AsksAt nameMap (NameOf key) (now (s .entry)) place r ⌝ }
+    ensures { λ r. ⌜ names-named (now (s .entry)) place key r ⌝ }
 {
     match place {
         Held::Nothing => Answer::None,
@@ -37,7 +36,7 @@ pub fn named(s: &[u8], place: Held, key: u32) -> Answer
 // The name at `inner` in the map at `key` of the indirect map there, likewise.
 pub fn named_within(s: &[u8], place: Held, key: u32, inner: u32) -> Answer
     requires { ⌜ KnownAt indirectMap (now s) place ⌝ }
-    ensures { λ r. ⌜ AsksAt indirectMap (NameWithin key inner) (now (s .entry)) place r ⌝ }
+    ensures { λ r. ⌜ names-named-within (now (s .entry)) place key inner r ⌝ }
 {
     match place {
         Held::Nothing => Answer::None,
@@ -48,7 +47,7 @@ pub fn named_within(s: &[u8], place: Held, key: u32, inner: u32) -> Answer
 // All that is kept there.
 pub fn all_kept(s: &[u8], place: Held) -> Answer
     requires { ⌜ subInside (now s) place ⌝ }
-    ensures { λ r. ⌜ AsksAt kept ItsContents (now (s .entry)) place r ⌝ }
+    ensures { λ r. ⌜ names-all-kept (now (s .entry)) place r ⌝ }
 {
     match place {
         Held::Nothing => Answer::None,

@@ -1,9 +1,9 @@
 // A subsection's contents, judged. They fill their part exactly.
 ghost use mathlib.Core.Path.{_≡_};
-ghost use Rattle.format.specs.Names.{oneName, nameMap, indirectMap};
-ghost use Rattle.format.specs.declared.Query.the-variants.{ItsName};
+ghost use Rattle.format.specs.Names.{nameMap, indirectMap};
 ghost use Rattle.reading.specs.Cursors.{Inside};
-ghost use Rattle.names.specs.Contents.{kindMeant, Asks, Rules, filledBy, endOf, Ordered};
+ghost use Rattle.names.specs.Contents.{Rules, filledBy, endOf, Ordered};
+ghost use Rattle.names.specs.Promises.{names-one-name, names-content};
 use crate::kinds::Kind;
 use format::Answer;
 use format::Offset;
@@ -53,7 +53,7 @@ fn ended(found: Seek) -> Answer
 // One name.
 pub fn one_name(s: &[u8], part: Cursor) -> Answer
     requires { ⌜ Inside (now s) part ⌝ }
-    ensures { λ r. ⌜ Asks oneName ItsName (now (s .entry)) part r ⌝ }
+    ensures { λ r. ⌜ names-one-name (now (s .entry)) part r ⌝ }
 {
     match part.name(s) {
         PartRead::Refused(r) => Answer::Refused(r),
@@ -80,7 +80,7 @@ fn indirect_map(s: &[u8], part: Cursor) -> Answer
 // Contents of a kind: only whether the answer is a refusal matters.
 pub fn content(s: &[u8], part: Cursor, kind: Kind) -> Answer
     requires { ⌜ Inside (now s) part ⌝ }
-    ensures { λ r. ⌜ Rules (kindMeant kind) (now (s .entry)) part r ⌝ }
+    ensures { λ r. ⌜ names-content (now (s .entry)) part kind r ⌝ }
 {
     match kind {
         Kind::OneName => one_name(s, part),

@@ -1,7 +1,6 @@
 // From subsection to subsection.
-ghost use Rattle.format.specs.Names.{knownKind};
 ghost use Rattle.reading.specs.Cursors.{Inside};
-ghost use Rattle.names.specs.Frames.{frame, subsection, FrameReads};
+ghost use Rattle.names.specs.Promises.{names-frame, names-subsection};
 use crate::contents::content;
 use crate::kinds::kind_of;
 use format::Answer;
@@ -22,7 +21,7 @@ pub enum FrameRead {
 // The subsection that begins here, its id at least `least`. Its contents are not looked into.
 pub fn frame(s: &[u8], c: Cursor, least: u32) -> FrameRead
     requires { ⌜ Inside (now s) c ⌝ }
-    ensures { λ r. ⌜ FrameReads frame least (now (s .entry)) c r ⌝ }
+    ensures { λ r. ⌜ names-frame (now (s .entry)) c least r ⌝ }
 {
     let at = c.at;
     let end = c.end;
@@ -46,7 +45,7 @@ pub fn frame(s: &[u8], c: Cursor, least: u32) -> FrameRead
 // The same, with its contents judged by its id.
 pub fn subsection(s: &[u8], c: Cursor, least: u32) -> FrameRead
     requires { ⌜ Inside (now s) c ⌝ }
-    ensures { λ r. ⌜ FrameReads (subsection knownKind) least (now (s .entry)) c r ⌝ }
+    ensures { λ r. ⌜ names-subsection (now (s .entry)) c least r ⌝ }
 {
     match frame(s, c, least) {
         FrameRead::Refused(r) => FrameRead::Refused(r),

@@ -1,8 +1,6 @@
 // Judges a name payload, whole and left to right.
-ghost use Rattle.reading.specs.Cursors.{Inside, left};
-ghost use mathlib.Core.Path.{_≡_};
-ghost use Rattle.format.specs.Names.{knownKind};
-ghost use Rattle.names.specs.Places.{verdictIn, Judges, Finds};
+ghost use Rattle.reading.specs.Cursors.{Inside};
+ghost use Rattle.names.specs.Promises.{names-judged-verdict, names-judge-in, names-judge, names-find};
 use crate::frames::FrameRead;
 use crate::frames::frame;
 use crate::frames::subsection;
@@ -22,7 +20,7 @@ pub enum Judged {
 impl Judged {
     // The verdict alone.
     pub fn verdict(self) -> Verdict
-        ensures { λ r. ⌜ r ≡ verdictIn self ⌝ }
+        ensures { λ r. ⌜ names-judged-verdict self r ⌝ }
     {
         match self {
             Judged::Accepted(_) => Verdict::Accepted,
@@ -43,7 +41,7 @@ const NOWHERE: Places = Places {
 // A payload that lies in what was lent.
 pub fn judge_in(s: &[u8], c: Cursor) -> Judged
     requires { ⌜ Inside (now s) c ⌝ }
-    ensures { λ r. ⌜ Judges knownKind (now (s .entry)) (c .at) (left (now (s .entry)) c) r ⌝ }
+    ensures { λ r. ⌜ names-judge-in (now (s .entry)) c r ⌝ }
 {
     let mut next = c;
     let mut least: u32 = 0;
@@ -67,7 +65,7 @@ pub fn judge_in(s: &[u8], c: Cursor) -> Judged
 
 // A payload that is all that was lent.
 pub fn judge(p: &[u8]) -> Judged
-    ensures { λ r. ⌜ Judges knownKind (now (p .entry)) 0 (now (p .entry)) r ⌝ }
+    ensures { λ r. ⌜ names-judge (now (p .entry)) r ⌝ }
 {
     judge_in(p, Cursor::over(p))
 }
@@ -75,7 +73,7 @@ pub fn judge(p: &[u8]) -> Judged
 // Where the subsection with an id lies in an accepted payload.
 pub fn find(s: &[u8], c: Cursor, id: u8) -> Held
     requires { ⌜ Inside (now s) c ⌝ }
-    ensures { λ r. ⌜ Finds (now (s .entry)) (c .at) (left (now (s .entry)) c) id r ⌝ }
+    ensures { λ r. ⌜ names-find (now (s .entry)) c id r ⌝ }
 {
     let mut next = c;
     let mut least: u32 = 0;

@@ -1,7 +1,5 @@
 // What the subsection with an id holds.
-ghost use mathlib.Core.Path.{_≡_};
-ghost use Rattle.format.specs.Names.{knownKind};
-ghost use Rattle.names.specs.Contents.{kindMeant};
+ghost use Rattle.names.specs.Promises.{names-kind-of};
 use format::FIELD_NAMES;
 use format::FUNCTION_NAMES;
 use format::LOCAL_NAMES;
@@ -18,7 +16,7 @@ pub enum Kind {
 
 // The table of ids; any other is kept.
 pub fn kind_of(id: u8) -> Kind
-    ensures { λ r. ⌜ kindMeant r ≡ knownKind id ⌝ }
+    ensures { λ r. ⌜ names-kind-of id r ⌝ }
 {
     match id {
         MODULE_NAME => Kind::OneName,

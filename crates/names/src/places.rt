@@ -1,7 +1,5 @@
 // Where the known subsections lie.
-ghost use mathlib.Core.Path.{_≡_};
-ghost use Rattle.format.specs.Names.{knownKind};
-ghost use Rattle.names.specs.Places.{Puts, placedAt};
+ghost use Rattle.names.specs.Promises.{names-placed, names-place-of};
 use format::FIELD_NAMES;
 use format::FUNCTION_NAMES;
 use format::LOCAL_NAMES;
@@ -22,7 +20,7 @@ pub struct Places {
 
 // The places with that of one more id, if it is a known one.
 pub fn placed(places: Places, id: u8, part: Cursor) -> Places
-    ensures { λ r. ⌜ Puts knownKind places id part r ⌝ }
+    ensures { λ r. ⌜ names-placed places id part r ⌝ }
 {
     let here = Held::Part(part);
     match id {
@@ -56,7 +54,7 @@ pub fn placed(places: Places, id: u8, part: Cursor) -> Places
 
 // The place of an id.
 pub fn place_of(places: Places, id: u8) -> Held
-    ensures { λ r. ⌜ r ≡ placedAt places id ⌝ }
+    ensures { λ r. ⌜ names-place-of places id r ⌝ }
 {
     match id {
         MODULE_NAME => places.module,

@@ -5,6 +5,7 @@ ghost use Rattle.format.specs.Questions.{answered, asPlace, asked, askAt};
 ghost use Rattle.format.specs.declared.Query.the-variants.{ItsContents};
 ghost use Rattle.names.specs.Places.{Accepts};
 ghost use Rattle.reading.specs.Cursors.{Inside, left};
+ghost use Rattle.names.specs.Promises.{names-ask-in};
 use crate::asking::all_kept;
 use crate::asking::named;
 use crate::asking::named_within;
@@ -50,7 +51,7 @@ fn answer(s: &[u8], c: Cursor, places: Places, q: Question) -> Answer
 // A question to a payload.
 pub fn ask_in(s: &[u8], c: Cursor, q: Question) -> Answer
     requires { ⌜ Inside (now s) c ⌝ }
-    ensures { λ r. ⌜ answered r ≡ asPlace (askAt knownKind q (c .at) (left (now (s .entry)) c)) ⌝ }
+    ensures { λ r. ⌜ names-ask-in (now (s .entry)) c q r ⌝ }
 {
     let judged = judge_in(s, c);
     let Judged::Accepted(places) = judged else {

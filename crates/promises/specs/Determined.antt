@@ -1,4 +1,4 @@
--- Of every public function of every crate: its promise, as its `ensures` says it, determines what comes back, by the form in `format/specs/Determined.antt`. Of a function that is lent an output, the bytes in it after the call come back as well. `saying` only prints.
+-- Of every public function of every library: its promise, by the name that its `ensures` cites, determines what comes back, by the form in `format/specs/Determined.antt`: a record for each crate, with a field for each name. Of a function that is lent an output, the bytes in it after the call come back as well.
 pub mod Format
 pub mod Reading
 pub mod Writing
@@ -11,4 +11,3 @@ pub mod Metadata
 pub mod Rewrite
 pub mod Through
 pub mod Wakemiono
-pub mod Listing

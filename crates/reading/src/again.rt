@@ -1,7 +1,8 @@
 // What was accepted, read again without its checks.
 ghost use Rattle.format.specs.Numbers.{number};
 ghost use Rattle.format.specs.Parts.{sized};
-ghost use Rattle.reading.specs.Standing.{Stands, Known, TakesPart};
+ghost use Rattle.reading.specs.Standing.{Known};
+ghost use Rattle.reading.specs.Promises.{reading-number-here, reading-part-here};
 use crate::Cursor;
 use crate::FOLLOWED;
 use crate::wide;
@@ -21,7 +22,7 @@ pub struct Piece {
 // The number that stands here. It was accepted, so it ends where its part does at the latest, and nothing is tested.
 pub fn number_here(c: Cursor, s: &[u8]) -> Number
     requires { ⌜ Known number (now s) c ⌝ }
-    ensures { λ r. ⌜ Stands number (now (s .entry)) c (r .value) (r .next) ⌝ }
+    ensures { λ r. ⌜ reading-number-here c (now (s .entry)) r ⌝ }
 {
     let end = c.end;
     let mut value: u32 = 0;
@@ -42,7 +43,7 @@ pub fn number_here(c: Cursor, s: &[u8]) -> Number
 // The sized part that stands here, likewise.
 pub fn part_here(c: Cursor, s: &[u8]) -> Piece
     requires { ⌜ Known sized (now s) c ⌝ }
-    ensures { λ r. ⌜ TakesPart (now (s .entry)) c r ⌝ }
+    ensures { λ r. ⌜ reading-part-here c (now (s .entry)) r ⌝ }
 {
     let size = number_here(c, s);
     let length = size.value;

@@ -1,7 +1,6 @@
 // Reads numbers, sized parts and names out of lent bytes, left to right, from a cursor by value.
-ghost use mathlib.Core.Path.{_≡_};
-ghost use Rattle.format.specs.Parts.{sized, name};
-ghost use Rattle.reading.specs.Cursors.{Inside, overAll, NumberReads, PartReads};
+ghost use Rattle.reading.specs.Cursors.{Inside, NumberReads};
+ghost use Rattle.reading.specs.Promises.{reading-wide, reading-over, reading-number, reading-sized, reading-name};
 use format::Offset;
 use format::Reason;
 use format::Refusal;
@@ -40,7 +39,7 @@ const GREATEST_FIFTH: u32 = 0x0F;
 
 // A byte as a number: where a byte is read for its value, nothing is left to show of its range.
 pub fn wide(x: u8) -> u32
-    ensures { λ r. ⌜ r ≡ x ⌝ }
+    ensures { λ r. ⌜ reading-wide x r ⌝ }
 {
     x as u32
 }
@@ -48,7 +47,7 @@ pub fn wide(x: u8) -> u32
 impl Cursor {
     // The cursor over all that was lent.
     pub fn over(s: &[u8]) -> Cursor
-        ensures { λ r. ⌜ r ≡ overAll (now (s .entry)) ⌝ }
+        ensures { λ r. ⌜ reading-over (now (s .entry)) r ⌝ }
     {
         Cursor {
             at: 0,
@@ -59,7 +58,7 @@ impl Cursor {
     // A number: at most 5 bytes, the fifth at most 0x0F. Most have one byte.
     pub fn number(self, s: &[u8]) -> NumberRead
         requires { ⌜ Inside (now s) self ⌝ }
-        ensures { λ r. ⌜ NumberReads (now (s .entry)) self r ⌝ }
+        ensures { λ r. ⌜ reading-number self (now (s .entry)) r ⌝ }
     {
         let at = self.at;
         let end = self.end;
@@ -113,7 +112,7 @@ impl Cursor {
     // A sized part: a number and that many bytes.
     pub fn sized(self, s: &[u8]) -> PartRead
         requires { ⌜ Inside (now s) self ⌝ }
-        ensures { λ r. ⌜ PartReads sized (now (s .entry)) self r ⌝ }
+        ensures { λ r. ⌜ reading-sized self (now (s .entry)) r ⌝ }
     {
         let first = self.at;
         match self.number(s) {
@@ -137,7 +136,7 @@ impl Cursor {
     // A name: a sized part that is valid UTF-8.
     pub fn name(self, s: &[u8]) -> PartRead
         requires { ⌜ Inside (now s) self ⌝ }
-        ensures { λ r. ⌜ PartReads name (now (s .entry)) self r ⌝ }
+        ensures { λ r. ⌜ reading-name self (now (s .entry)) r ⌝ }
     {
         match self.sized(s) {
             PartRead::Refused(r) => PartRead::Refused(r),

@@ -1,10 +1,10 @@
 // An answer's place as a part of what was lent.
-ghost use Rattle.reading.specs.Taken.{Takes};
+ghost use Rattle.reading.specs.Promises.{reading-taken};
 use format::Answer;
 
 // The part at an answer's place; empty for none, for a refusal and for a place outside.
 pub fn taken(p: &[u8], answer: Answer) -> &[u8]
-    ensures { λ r. ⌜ Takes (now (p .entry)) (p .entry .ptr) answer (now r) (r .ptr) ⌝ }
+    ensures { λ r. ⌜ reading-taken (now (p .entry)) (p .entry .ptr) answer (r .ptr) (now r) ⌝ }
 {
     match answer {
         Answer::Found(place) => {

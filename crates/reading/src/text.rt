@@ -2,9 +2,9 @@
 ghost use mathlib.Core.Path.{_≡_};
 ghost use Prim.Native.Nat.{_≤_, _<_};
 ghost use lib.ListN.{length};
-ghost use lib.Seq.{slice};
-ghost use Rattle.format.specs.Text.{utf8, inRange};
+ghost use Rattle.format.specs.Text.{inRange};
 ghost use Rattle.reading.specs.Texts.{between, Begins, secondOf, Passes, Stands};
+ghost use Rattle.reading.specs.Promises.{reading-is-text};
 use crate::ascii::after_ascii;
 
 // No character is longer.
@@ -133,7 +133,7 @@ fn after_characters(s: &[u8], from: usize, to: usize) -> usize
 // Whether the bytes from `from` to `to` are valid UTF-8. Most text is all ASCII.
 pub fn is_text(s: &[u8], from: usize, to: usize) -> bool
     requires { ⌜ (from ≤ to) × (to ≤ length (now s)) ⌝ }
-    ensures { λ r. ⌜ r ≡ utf8 (slice from to (now (s .entry))) ⌝ }
+    ensures { λ r. ⌜ reading-is-text (now (s .entry)) from to r ⌝ }
 {
     let near = after_ascii(s, from, to);
     if to <= near {

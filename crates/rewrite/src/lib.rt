@@ -4,9 +4,7 @@ mod items;
 mod subsections;
 mod whole;
 
-ghost use Rattle.format.specs.Canonical.{canonicalNames, canonicalMetadata, canonicalHints};
-ghost use Rattle.format.specs.Names.{knownKind};
-ghost use Rattle.format.specs.Outputs.{Writes};
+ghost use Rattle.rewrite.specs.Promises.{rewrite-names, rewrite-metadata, rewrite-hints};
 use format::Verdict;
 use format::Written;
 use format::refusal_of;
@@ -15,7 +13,7 @@ use reading::Cursor;
 
 // The canonical form of a name payload.
 pub fn names(p: &[u8], out: &mut [u8]) -> Written
-    ensures { λ r. ⌜ Writes (canonicalNames knownKind (now (p .entry))) (now (out .entry)) (now (out .exit)) r ⌝ }
+    ensures { λ r. ⌜ rewrite-names (now (p .entry)) (now (out .entry)) (now (out .exit)) r ⌝ }
 {
     let judged = judging::judge(p);
     let verdict = judged.verdict();
@@ -27,7 +25,7 @@ pub fn names(p: &[u8], out: &mut [u8]) -> Written
 
 // The canonical form of a metadata payload of any format.
 pub fn metadata(p: &[u8], out: &mut [u8]) -> Written
-    ensures { λ r. ⌜ Writes (canonicalMetadata (now (p .entry))) (now (out .entry)) (now (out .exit)) r ⌝ }
+    ensures { λ r. ⌜ rewrite-metadata (now (p .entry)) (now (out .entry)) (now (out .exit)) r ⌝ }
 {
     let verdict = metadata::judge(p);
     let Verdict::Accepted = verdict else {
@@ -38,7 +36,7 @@ pub fn metadata(p: &[u8], out: &mut [u8]) -> Written
 
 // The canonical form of a payload of branch hints.
 pub fn hints(p: &[u8], out: &mut [u8]) -> Written
-    ensures { λ r. ⌜ Writes (canonicalHints (now (p .entry))) (now (out .entry)) (now (out .exit)) r ⌝ }
+    ensures { λ r. ⌜ rewrite-hints (now (p .entry)) (now (out .entry)) (now (out .exit)) r ⌝ }
 {
     let verdict = metadata::judge_hints(p);
     let Verdict::Accepted = verdict else {

@@ -2,3 +2,4 @@ pub mod Seeking
 pub mod Steps
 pub mod Stepping
 pub mod Finding
+pub mod Promises

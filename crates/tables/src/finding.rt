@@ -1,9 +1,9 @@
 // A table that was accepted, looked up a row at a time. Its numbers rise, so a search ends at the first that is not below the key: what comes behind it was judged before.
-ghost use mathlib.Core.Path.{_≡_};
 ghost use Rattle.format.specs.Parts.{sized};
-ghost use Rattle.format.specs.Tables.{lookup, table};
+ghost use Rattle.format.specs.Tables.{table};
 ghost use Rattle.reading.specs.Standing.{Known};
-ghost use Rattle.tables.specs.Finding.{heldOrdered, answerOf, Finds, Skips, within};
+ghost use Rattle.tables.specs.Finding.{heldOrdered};
+ghost use Rattle.tables.specs.Promises.{tables-answer-of, tables-find-row, tables-behind-table, tables-find-group};
 use crate::Held;
 use crate::stepping::GroupStep;
 use crate::stepping::RowStep;
@@ -19,7 +19,7 @@ use reading::Cursor;
 // What is held, as an answer.
 pub fn answer_of(held: Held) -> Answer
     requires { ⌜ heldOrdered held ⌝ }
-    ensures { λ r. ⌜ r ≡ answerOf held ⌝ }
+    ensures { λ r. ⌜ tables-answer-of held r ⌝ }
 {
     match held {
         Held::Nothing => Answer::None,
@@ -36,7 +36,7 @@ pub fn answer_of(held: Held) -> Answer
 // The part at `key` of the table that stands here.
 pub fn find_row(c: Cursor, s: &[u8], key: u32) -> Held
     requires { ⌜ Known (table sized) (now s) c ⌝ }
-    ensures { λ r. ⌜ Finds (table sized) (lookup key) (now (s .entry)) c r ⌝ }
+    ensures { λ r. ⌜ tables-find-row c (now (s .entry)) key r ⌝ }
 {
     let mut left = rows_here(c, s);
     loop {
@@ -60,7 +60,7 @@ pub fn find_row(c: Cursor, s: &[u8], key: u32) -> Held
 // The cursor behind the table that stands here.
 pub fn behind_table(c: Cursor, s: &[u8]) -> Cursor
     requires { ⌜ Known (table sized) (now s) c ⌝ }
-    ensures { λ r. ⌜ Skips (now (s .entry)) c r ⌝ }
+    ensures { λ r. ⌜ tables-behind-table c (now (s .entry)) r ⌝ }
 {
     let mut left = rows_here(c, s);
     loop {
@@ -79,7 +79,7 @@ pub fn behind_table(c: Cursor, s: &[u8]) -> Cursor
 // The part at `inner` in the table at `key` of the table of tables that stands here.
 pub fn find_group(c: Cursor, s: &[u8], key: u32, inner: u32) -> Held
     requires { ⌜ Known (table (table sized)) (now s) c ⌝ }
-    ensures { λ r. ⌜ Finds (table (table sized)) (within key inner) (now (s .entry)) c r ⌝ }
+    ensures { λ r. ⌜ tables-find-group c (now (s .entry)) key inner r ⌝ }
 {
     let mut left = rows_here(c, s);
     loop {

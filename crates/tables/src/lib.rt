@@ -5,9 +5,10 @@ ghost use Rattle.format.specs.Options.{isSome};
 ghost use Rattle.format.specs.Metadata.{hintOf};
 ghost use Rattle.format.specs.Text.{utf8};
 ghost use Rattle.format.specs.Tables.{table};
-ghost use Rattle.reading.specs.Cursors.{Inside, left, PartReads};
-ghost use Rattle.tables.specs.Seeking.{readerOf, isItem, notItem, wantedIn, sought, soughtWithin, Seeks};
+ghost use Rattle.reading.specs.Cursors.{Inside, left};
+ghost use Rattle.tables.specs.Seeking.{readerOf, isItem, notItem, wantedIn, Seeks};
 ghost use Rattle.tables.specs.Steps.{isShortHint, isShort, IndexReads, RowReads, keptOf, seekOf, soughtRows};
+ghost use Rattle.tables.specs.Promises.{tables-value, tables-table, tables-tables};
 use format::Offset;
 use format::Reason;
 use format::Refusal;
@@ -144,7 +145,7 @@ fn is_short(s: &[u8], c: Cursor, item: Item) -> bool
 // A row's value: every item is a sized part.
 pub fn value(c: Cursor, s: &[u8], item: Item) -> PartRead
     requires { ⌜ Inside (now s) c ⌝ }
-    ensures { λ r. ⌜ PartReads (readerOf item) (now (s .entry)) c r ⌝ }
+    ensures { λ r. ⌜ tables-value c (now (s .entry)) item r ⌝ }
 {
     let size = c.at;
     if is_short(s, c, item) {
@@ -273,7 +274,7 @@ fn table_rows(c: Cursor, s: &[u8], item: Item, key: u64, n: u32) -> Seek
 // A list of (rising number, item): what is wanted of it.
 pub fn table(c: Cursor, s: &[u8], item: Item, wanted: Wanted) -> Seek
     requires { ⌜ Inside (now s) c ⌝ }
-    ensures { λ r. ⌜ Seeks (sought (readerOf item) wanted) (now (s .entry)) c r ⌝ }
+    ensures { λ r. ⌜ tables-table c (now (s .entry)) item wanted r ⌝ }
 {
     match c.number(s) {
         NumberRead::Refused(r) => Seek::Refused(r),
@@ -309,7 +310,7 @@ fn tables_rows(c: Cursor, s: &[u8], item: Item, key: u64, inner: Wanted, n: u32)
 // A list of (rising number, table): what is wanted of the one that is wanted.
 pub fn tables(c: Cursor, s: &[u8], item: Item, wanted: Wanted, inner: Wanted) -> Seek
     requires { ⌜ Inside (now s) c ⌝ }
-    ensures { λ r. ⌜ Seeks (soughtWithin (readerOf item) wanted inner) (now (s .entry)) c r ⌝ }
+    ensures { λ r. ⌜ tables-tables c (now (s .entry)) item wanted inner r ⌝ }
 {
     match c.number(s) {
         NumberRead::Refused(r) => Seek::Refused(r),

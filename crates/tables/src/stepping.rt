@@ -1,11 +1,10 @@
 // The way through a table that was accepted, a row at a time and without its checks.
 ghost use Prim.Native.Nat.{_<_};
-ghost use mathlib.Core.Path.{_≡_};
 ghost use Rattle.format.specs.Numbers.{number};
 ghost use Rattle.format.specs.Parts.{sized};
 ghost use Rattle.format.specs.Tables.{rows, table};
-ghost use Rattle.reading.specs.Standing.{Stands, Known};
-ghost use Rattle.tables.specs.Stepping.{behindAt, RowSteps, GroupSteps};
+ghost use Rattle.reading.specs.Standing.{Known};
+ghost use Rattle.tables.specs.Promises.{tables-rows-here, tables-behind, tables-row-step, tables-group-step};
 use reading::Cursor;
 use reading::again::number_here;
 use reading::again::part_here;
@@ -31,7 +30,7 @@ pub enum GroupStep {
 // The rows of the table that stands here: all of them are to come.
 pub fn rows_here(c: Cursor, s: &[u8]) -> Rows
     requires { ⌜ Known number (now s) c ⌝ }
-    ensures { λ r. ⌜ Stands number (now (s .entry)) c (r .more) (r .next) ⌝ }
+    ensures { λ r. ⌜ tables-rows-here c (now (s .entry)) r ⌝ }
 {
     let count = number_here(c, s);
     let next = count.next;
@@ -44,7 +43,7 @@ pub fn rows_here(c: Cursor, s: &[u8]) -> Rows
 // The rows that are to come behind the next one, which ends at a cursor.
 pub fn behind(left: Rows, next: Cursor) -> Rows
     requires { ⌜ 0 < left .more ⌝ }
-    ensures { λ r. ⌜ r ≡ behindAt left next ⌝ }
+    ensures { λ r. ⌜ tables-behind left next r ⌝ }
 {
     Rows {
         next,
@@ -55,7 +54,7 @@ pub fn behind(left: Rows, next: Cursor) -> Rows
 // The next of the rows with parts.
 pub fn row_step(left: Rows, s: &[u8]) -> RowStep
     requires { ⌜ Known (rows sized (left .more) 0) (now s) (left .next) ⌝ }
-    ensures { λ r. ⌜ RowSteps (now (s .entry)) left r ⌝ }
+    ensures { λ r. ⌜ tables-row-step left (now (s .entry)) r ⌝ }
 {
     if left.more == 0 {
         return RowStep::End;
@@ -70,7 +69,7 @@ pub fn row_step(left: Rows, s: &[u8]) -> RowStep
 // The next of the rows with tables.
 pub fn group_step(left: Rows, s: &[u8]) -> GroupStep
     requires { ⌜ Known (rows (table sized) (left .more) 0) (now s) (left .next) ⌝ }
-    ensures { λ r. ⌜ GroupSteps (now (s .entry)) left r ⌝ }
+    ensures { λ r. ⌜ tables-group-step left (now (s .entry)) r ⌝ }
 {
     if left.more == 0 {
         return GroupStep::End;

@@ -1,2 +1,3 @@
 pub mod Sections
 pub mod HandedBack
+pub mod Promises

@@ -1,14 +1,12 @@
 // Names of custom sections, compared byte by byte.
-ghost use mathlib.Core.List.{_++_};
-ghost use mathlib.Core.Path.{_≡_};
-ghost use Rattle.format.specs.Bytes.{same};
-ghost use Rattle.reading.specs.Cursors.{Inside, left};
+ghost use Rattle.reading.specs.Cursors.{Inside};
+ghost use Rattle.walk.specs.Promises.{walk-is-called, walk-is-joined};
 use reading::Cursor;
 
 // Whether a part of `s` is these bytes.
 pub fn is_called(s: &[u8], part: Cursor, name: &[u8]) -> bool
     requires { ⌜ Inside (now s) part ⌝ }
-    ensures { λ r. ⌜ r ≡ same (now (name .entry)) (left (now (s .entry)) part) ⌝ }
+    ensures { λ r. ⌜ walk-is-called (now (s .entry)) part (now (name .entry)) r ⌝ }
 {
     let at = part.at;
     if part.end - at != name.len() {
@@ -27,7 +25,7 @@ pub fn is_called(s: &[u8], part: Cursor, name: &[u8]) -> bool
 // Whether a part of `s` is two slices joined. The second is compared first: names with a common front differ there.
 pub fn is_joined(s: &[u8], part: Cursor, front: &[u8], rest: &[u8]) -> bool
     requires { ⌜ Inside (now s) part ⌝ }
-    ensures { λ r. ⌜ r ≡ same (now (front .entry) ++ now (rest .entry)) (left (now (s .entry)) part) ⌝ }
+    ensures { λ r. ⌜ walk-is-joined (now (s .entry)) part (now (front .entry)) (now (rest .entry)) r ⌝ }
 {
     let at = part.at;
     let end = part.end;

@@ -1,11 +1,5 @@
 // The framing of a module: its sections, one after the other. Every call takes any bytes.
-ghost use mathlib.Core.List.{_++_};
-ghost use mathlib.Core.Path.{_≡_};
-ghost use Rattle.format.specs.Options.{mapSome};
-ghost use Rattle.format.specs.Questions.{answered, asPlace};
-ghost use Rattle.format.specs.Reading.{mapJudged};
-ghost use Rattle.format.specs.Walk.{sectionCount, sectionAt, customPayload};
-ghost use Rattle.walk.specs.Surveys.{counted, sectionAnswered, sectionPlace};
+ghost use Rattle.walk.specs.Promises.{walk-count, walk-section-at, walk-custom, walk-custom-joined};
 use crate::survey::SectionAnswer;
 use crate::survey::Surveyed;
 use format::Answer;
@@ -24,7 +18,7 @@ pub enum Counted {
 
 // Judges a whole module, and counts its sections.
 pub fn count(m: &[u8]) -> Counted
-    ensures { λ r. ⌜ counted r ≡ sectionCount (now (m .entry)) ⌝ }
+    ensures { λ r. ⌜ walk-count (now (m .entry)) r ⌝ }
 {
     match survey::survey(m, 0, b"", b"") {
         Surveyed::Refused(r) => Counted::Refused(r),
@@ -34,7 +28,7 @@ pub fn count(m: &[u8]) -> Counted
 
 // The section at a position, counted from 0: none past the last.
 pub fn section_at(m: &[u8], position: u64) -> SectionAnswer
-    ensures { λ r. ⌜ sectionAnswered r ≡ mapJudged (mapSome sectionPlace) (sectionAt position (now (m .entry))) ⌝ }
+    ensures { λ r. ⌜ walk-section-at (now (m .entry)) position r ⌝ }
 {
     match survey::survey(m, position, b"", b"") {
         Surveyed::Refused(r) => SectionAnswer::Refused(r),
@@ -44,14 +38,14 @@ pub fn section_at(m: &[u8], position: u64) -> SectionAnswer
 
 // Where the payload of the first custom section of a name lies.
 pub fn custom(m: &[u8], name: &[u8]) -> Answer
-    ensures { λ r. ⌜ answered r ≡ asPlace (customPayload (now (name .entry)) (now (m .entry))) ⌝ }
+    ensures { λ r. ⌜ walk-custom (now (m .entry)) (now (name .entry)) r ⌝ }
 {
     custom_joined(m, b"", name)
 }
 
 // The same for a name that stands in two slices.
 pub fn custom_joined(m: &[u8], front: &[u8], rest: &[u8]) -> Answer
-    ensures { λ r. ⌜ answered r ≡ asPlace (customPayload (now (front .entry) ++ now (rest .entry)) (now (m .entry))) ⌝ }
+    ensures { λ r. ⌜ walk-custom-joined (now (m .entry)) (now (front .entry)) (now (rest .entry)) r ⌝ }
 {
     match survey::survey(m, 0, front, rest) {
         Surveyed::Refused(r) => Answer::Refused(r),

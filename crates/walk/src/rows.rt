@@ -1,6 +1,6 @@
 // The custom sections that the walk tracks, a row each: what they are called, and whether they must stand before code.
-ghost use Rattle.reading.specs.Cursors.{Inside, left};
-ghost use Rattle.walk.specs.Sections.{Calls};
+ghost use Rattle.reading.specs.Cursors.{Inside};
+ghost use Rattle.walk.specs.Promises.{walk-called};
 use crate::called::is_called;
 use crate::called::is_joined;
 use crate::rules::Called;
@@ -25,7 +25,7 @@ pub const BEFORE_CODE: [bool; ROWS] = [false, true];
 // The row that a part of `s` is the name of.
 pub fn called(s: &[u8], part: Cursor) -> Called
     requires { ⌜ Inside (now s) part ⌝ }
-    ensures { λ r. ⌜ Calls (left (now (s .entry)) part) r ⌝ }
+    ensures { λ r. ⌜ walk-called (now (s .entry)) part r ⌝ }
 {
     if is_called(s, part, &NAME_SECTION) {
         return Called::Row(NAME);

@@ -5,7 +5,8 @@ ghost use lib.Dec.{ltb};
 ghost use lib.ListN.{length};
 ghost use Prim.Native.Nat.{_<_};
 ghost use Rattle.format.specs.Walk;
-ghost use Rattle.walk.specs.Sections.{IdRuled, InTable, NameRuled, Sees, ThereAfter, bit};
+ghost use Rattle.walk.specs.Sections.{InTable, ThereAfter, bit};
+ghost use Rattle.walk.specs.Promises.{walk-judge-id, walk-judge-name, walk-see};
 use crate::rows::BEFORE_CODE;
 use crate::rows::NAME;
 use format::Reason;
@@ -65,7 +66,7 @@ fn has(there: u8, row: u8) -> bool
 
 // What the id decides, before the size is read.
 pub fn judge_id(seen: Seen, id: u8) -> Ruling
-    ensures { λ r. ⌜ IdRuled seen id r ⌝ }
+    ensures { λ r. ⌜ walk-judge-id seen id r ⌝ }
 {
     if is_unknown(id) {
         return Ruling::Against(Reason::SectionUnknown);
@@ -87,7 +88,7 @@ pub fn judge_id(seen: Seen, id: u8) -> Ruling
 // What a custom section's row decides, once its name is read.
 pub fn judge_name(seen: Seen, called: Called) -> Ruling
     requires { ⌜ InTable called ⌝ }
-    ensures { λ r. ⌜ NameRuled seen called r ⌝ }
+    ensures { λ r. ⌜ walk-judge-name seen called r ⌝ }
 {
     match called {
         Called::Other => Ruling::Fine,
@@ -144,7 +145,7 @@ fn is_code(id: u8) -> bool
 // What the rules know behind a section.
 pub fn see(seen: Seen, id: u8, called: Called) -> Seen
     requires { ⌜ InTable called ⌝ }
-    ensures { λ r. ⌜ Sees seen id called r ⌝ }
+    ensures { λ r. ⌜ walk-see seen id called r ⌝ }
 {
     Seen {
         rank: rank_after(seen.rank, id),

@@ -3,7 +3,8 @@ ghost use Prim.Native.Nat.{_≤_, _<_};
 ghost use lib.ListN.{length};
 ghost use Rattle.reading.specs.Cursors.{Inside};
 ghost use Rattle.walk.specs.Sections.{CustomReads, CallsCustom, CustomInside};
-ghost use Rattle.walk.specs.Steps.{AfterSize, Begins, Steps};
+ghost use Rattle.walk.specs.Steps.{AfterSize};
+ghost use Rattle.walk.specs.Promises.{walk-begin, walk-step};
 use crate::called::is_called;
 use crate::rows::called;
 use crate::rules::CUSTOM;
@@ -123,7 +124,7 @@ const NOTHING: Seen = Seen {
 impl Walk {
     // The walk behind the preamble.
     pub fn begin(m: &[u8]) -> Began
-        ensures { λ r. ⌜ Begins (now (m .entry)) r ⌝ }
+        ensures { λ r. ⌜ walk-begin (now (m .entry)) r ⌝ }
     {
         if m.len() < PREAMBLE_LENGTH {
             return Began::Refused(Refusal {
@@ -149,7 +150,7 @@ impl Walk {
 
     // The section that begins here, and the walk behind it. Any walk may be stepped: one past the end is done.
     pub fn step(self, m: &[u8]) -> Step
-        ensures { λ r. ⌜ Steps (now (m .entry)) self r ⌝ }
+        ensures { λ r. ⌜ walk-step self (now (m .entry)) r ⌝ }
     {
         let at = self.at;
         if m.len() <= at {

@@ -3,7 +3,8 @@ ghost use Prim.Native.Nat.{_≤_, _<_};
 ghost use lib.ListN.{length};
 ghost use mathlib.Core.List.{_++_};
 ghost use Rattle.walk.specs.Sections.{CustomInside, SectionInside};
-ghost use Rattle.walk.specs.Surveys.{SectionKept, PayloadKept, Tallies, SurveysFrom, Surveys};
+ghost use Rattle.walk.specs.Surveys.{SectionKept, PayloadKept, Tallies, SurveysFrom};
+ghost use Rattle.walk.specs.Promises.{walk-survey};
 use crate::called::is_joined;
 use crate::step::Began;
 use crate::step::Custom;
@@ -133,7 +134,7 @@ fn survey_from(m: &[u8], first: Walk, position: u64, front: &[u8], rest: &[u8]) 
 
 // The count of sections, the section at a position, and the payload of the first custom section of a name.
 pub fn survey(m: &[u8], position: u64, front: &[u8], rest: &[u8]) -> Surveyed
-    ensures { λ r. ⌜ Surveys (now (m .entry)) position (now (front .entry) ++ now (rest .entry)) r ⌝ }
+    ensures { λ r. ⌜ walk-survey (now (m .entry)) position (now (front .entry)) (now (rest .entry)) r ⌝ }
 {
     match Walk::begin(m) {
         Began::Refused(r) => Surveyed::Refused(r),

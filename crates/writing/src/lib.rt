@@ -1,11 +1,8 @@
 // Puts bytes into a lent output, one thing after the other: each function returns where the next one starts.
-ghost use mathlib.Core.List.{[], _∷_};
-ghost use mathlib.Core.Path.{_≡_};
 ghost use Prim.Native.Nat.{_≤_, _<_, _+_};
 ghost use lib.ListN.{length};
-ghost use Rattle.format.specs.Listing.{decimal};
 ghost use Rattle.format.specs.Numbers.{shortest};
-ghost use Rattle.writing.specs.Wrote.{Wrote};
+ghost use Rattle.writing.specs.Promises.{writing-put-byte, writing-put-bytes, writing-put-decimal, writing-number-length, writing-put-number};
 
 // As many digits as the greatest 64-bit number has.
 const MOST_DIGITS: usize = 20;
@@ -22,7 +19,7 @@ const FOLLOWED: u8 = 128;
 
 pub fn put_byte(out: &mut [u8], at: usize, b: u8) -> usize
     requires { ⌜ at < length (now out) ⌝ }
-    ensures { λ r. ⌜ Wrote (now (out .entry)) (now (out .exit)) at r (b ∷ []) ⌝ }
+    ensures { λ r. ⌜ writing-put-byte (now (out .entry)) at b (now (out .exit)) r ⌝ }
 {
     out[at] = b;
     at + 1
@@ -30,7 +27,7 @@ pub fn put_byte(out: &mut [u8], at: usize, b: u8) -> usize
 
 pub fn put_bytes(out: &mut [u8], at: usize, bytes: &[u8]) -> usize
     requires { ⌜ at + length (now bytes) ≤ length (now out) ⌝ }
-    ensures { λ r. ⌜ Wrote (now (out .entry)) (now (out .exit)) at r (now (bytes .entry)) ⌝ }
+    ensures { λ r. ⌜ writing-put-bytes (now (out .entry)) at (now (bytes .entry)) (now (out .exit)) r ⌝ }
 {
     let mut k = 0;
     while k < bytes.len() {
@@ -42,8 +39,7 @@ pub fn put_bytes(out: &mut [u8], at: usize, bytes: &[u8]) -> usize
 
 pub fn put_decimal(out: &mut [u8], at: usize, n: u64) -> usize
     requires { ⌜ at + 20 ≤ length (now out) ⌝ }
-    ensures { λ r. ⌜ Wrote (now (out .entry)) (now (out .exit)) at r (decimal n) ⌝ }
-    ensures { λ r. ⌜ r ≤ at + 20 ⌝ }
+    ensures { λ r. ⌜ writing-put-decimal (now (out .entry)) at n (now (out .exit)) r ⌝ }
 {
     // The last digit is found first, so the digits fill `text` from its end.
     let mut text = [0u8; MOST_DIGITS];
@@ -60,8 +56,7 @@ pub fn put_decimal(out: &mut [u8], at: usize, n: u64) -> usize
 
 // How many bytes a number takes at least: one for each seven bits.
 pub fn number_length(n: u32) -> usize
-    ensures { λ r. ⌜ r ≡ length (shortest n) ⌝ }
-    ensures { λ r. ⌜ r ≤ 5 ⌝ }
+    ensures { λ r. ⌜ writing-number-length n r ⌝ }
 {
     if n < 1 << 7 {
         return 1;
@@ -81,7 +76,7 @@ pub fn number_length(n: u32) -> usize
 // A number in its fewest bytes.
 pub fn put_number(out: &mut [u8], at: usize, n: u32) -> usize
     requires { ⌜ at + length (shortest n) ≤ length (now out) ⌝ }
-    ensures { λ r. ⌜ Wrote (now (out .entry)) (now (out .exit)) at r (shortest n) ⌝ }
+    ensures { λ r. ⌜ writing-put-number (now (out .entry)) at n (now (out .exit)) r ⌝ }
 {
     let mut next = at;
     let mut rest = n;

@@ -1,24 +1,18 @@
 -- Each promise of the crate `format` determines what comes back.
-use Prim.Native.Nat.{ℕ}
-use mathlib.Core.Path.{_≡_}
-use Rattle.format.specs.Determined.{Determines, equal-determined}
-use Rattle.format.specs.Refusals.{numberOf}
-use Rattle.format.specs.Questions.{idOf, queryOf}
-use Rattle.format.specs.declared.Query.{Query}
-use Rattle.format.specs.declared.Question.{Question}
-use Rattle.format.specs.Verdicts.{refusalIn}
-use Rattle.format.specs.declared.Reason.{Reason}
-use Rattle.format.specs.declared.Refusal.{Refusal}
-use Rattle.format.specs.declared.Verdict.{Verdict}
+use Rattle.format.specs.Determined.{Determines1, equal-determined}
+use Rattle.format.specs.Promises.{format-refusal-of, format-reason-number, format-question-id, format-question-query}
 
-pub question-id-determined : (self : Question) → Determines (λ (r : ℕ). r ≡ idOf self)
-question-id-determined self = equal-determined _
+pub record Format : Type 0 where
+  format-refusal-of : Determines1 format-refusal-of
+  format-reason-number : Determines1 format-reason-number
+  format-question-id : Determines1 format-question-id
+  format-question-query : Determines1 format-question-query
 
-pub question-query-determined : (self : Question) → Determines (λ (r : Query). r ≡ queryOf self)
-question-query-determined self = equal-determined _
-
-pub reason-number-determined : (self : Reason) → Determines (λ (r : ℕ). r ≡ numberOf self)
-reason-number-determined self = equal-determined _
-
-pub refusal-of-determined : (verdict : Verdict) → Determines (λ (r : Refusal). r ≡ refusalIn verdict)
-refusal-of-determined verdict = equal-determined _
+pub determined : Format
+determined =
+    record {
+      format-refusal-of = λ verdict. equal-determined _;
+      format-reason-number = λ self. equal-determined _;
+      format-question-id = λ self. equal-determined _;
+      format-question-query = λ self. equal-determined _;
+    }

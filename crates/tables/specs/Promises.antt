@@ -1,0 +1,58 @@
+-- THE PROMISES of the crate `tables`, each by the name of its function. They stand in the `ensures` of the public functions and nowhere else: what is shown of these names is shown of the functions. A promise relates what is lent to what comes back.
+use Prim.Native.Nat.{ℕ}
+use mathlib.Core.List.{List}
+use mathlib.Core.Path.{_≡_}
+use Rattle.format.specs.Numbers.{number}
+use Rattle.format.specs.Parts.{sized}
+use Rattle.format.specs.Tables.{lookup, table}
+use Rattle.format.specs.declared.Answer.{Answer}
+use Rattle.reading.specs.Cursors.{PartReads}
+use Rattle.reading.specs.Standing.{Stands}
+use Rattle.reading.specs.declared.Cursor.{Cursor}
+use Rattle.reading.specs.declared.PartRead.{PartRead}
+use Rattle.tables.specs.Finding.{within, answerOf, Finds, Skips}
+use Rattle.tables.specs.Seeking.{readerOf, sought, soughtWithin, Seeks}
+use Rattle.tables.specs.Stepping.{behindAt, RowSteps, GroupSteps}
+use Rattle.tables.specs.declared.Held.{Held}
+use Rattle.tables.specs.declared.Item.{Item}
+use Rattle.tables.specs.declared.Seek.{Seek}
+use Rattle.tables.specs.declared.Wanted.{Wanted}
+use Rattle.tables.specs.declared.stepping.GroupStep.{GroupStep}
+use Rattle.tables.specs.declared.stepping.RowStep.{RowStep}
+use Rattle.tables.specs.declared.stepping.Rows.{Rows}
+
+-- tables
+abbrev pub tables-value : (c : Cursor) (s : List ℕ) (item : Item) → PartRead → Type 0
+tables-value c s item r = PartReads (readerOf item) s c r
+
+abbrev pub tables-table : (c : Cursor) (s : List ℕ) (item : Item) (wanted : Wanted) → Seek → Type 0
+tables-table c s item wanted r = Seeks (sought (readerOf item) wanted) s c r
+
+abbrev pub tables-tables : (c : Cursor) (s : List ℕ) (item : Item) (wanted inner : Wanted) → Seek → Type 0
+tables-tables c s item wanted inner r = Seeks (soughtWithin (readerOf item) wanted inner) s c r
+
+-- tables::finding
+abbrev pub tables-answer-of : (held : Held) → Answer → Type 0
+tables-answer-of held r = r ≡ answerOf held
+
+abbrev pub tables-find-row : (c : Cursor) (s : List ℕ) (key : ℕ) → Held → Type 0
+tables-find-row c s key r = Finds (table sized) (lookup key) s c r
+
+abbrev pub tables-behind-table : (c : Cursor) (s : List ℕ) → Cursor → Type 0
+tables-behind-table c s r = Skips s c r
+
+abbrev pub tables-find-group : (c : Cursor) (s : List ℕ) (key inner : ℕ) → Held → Type 0
+tables-find-group c s key inner r = Finds (table (table sized)) (within key inner) s c r
+
+-- tables::stepping
+abbrev pub tables-rows-here : (c : Cursor) (s : List ℕ) → Rows → Type 0
+tables-rows-here c s r = Stands number s c (r .more) (r .next)
+
+abbrev pub tables-behind : (left : Rows) (next : Cursor) → Rows → Type 0
+tables-behind left next r = r ≡ behindAt left next
+
+abbrev pub tables-row-step : (left : Rows) (s : List ℕ) → RowStep → Type 0
+tables-row-step left s r = RowSteps s left r
+
+abbrev pub tables-group-step : (left : Rows) (s : List ℕ) → GroupStep → Type 0
+tables-group-step left s r = GroupSteps s left r

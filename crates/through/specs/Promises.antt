@@ -1,0 +1,29 @@
+-- THE PROMISES of the crate `through`, each by the name of its function. They stand in the `ensures` of the public functions and nowhere else: what is shown of these names is shown of the functions. A promise relates what is lent to what comes back.
+use Prim.Native.Nat.{ℕ, _+_}
+use mathlib.Core.List.{List}
+use mathlib.Core.Path.{_≡_}
+use Rattle.format.specs.Metadata.{hintAnswered}
+use Rattle.format.specs.Names.{knownKind}
+use Rattle.format.specs.Questions.{asPlace, asBytes, startOf, answered}
+use Rattle.format.specs.declared.Question.{Question}
+use Rattle.format.specs.Through.{askThrough, askMetadataThrough, askHintThrough}
+use Rattle.format.specs.declared.Answer.{Answer}
+use Rattle.format.specs.declared.CodeOffset.{CodeOffset}
+use Rattle.format.specs.declared.FunctionIndex.{FunctionIndex}
+use Rattle.format.specs.declared.HintAnswer.{HintAnswer}
+
+-- through
+abbrev pub through-ask : (m : List ℕ) (q : Question) → Answer → Type 0
+through-ask m q r = answered r ≡ asPlace (askThrough knownKind q m)
+
+abbrev pub through-ask-bytes : (m : List ℕ) (lent-at : ℕ × ℕ) (q : Question) → (ℕ × ℕ) → List ℕ → Type 0
+through-ask-bytes m lent-at q begins bytes = (bytes ≡ asBytes (askThrough knownKind q m)) × (begins ≡ (lent-at .0, startOf (askThrough knownKind q m) + lent-at .1))
+
+abbrev pub through-metadata : (m format : List ℕ) (f : FunctionIndex) (at : CodeOffset) → Answer → Type 0
+through-metadata m format f at r = answered r ≡ asPlace (askMetadataThrough format f at m)
+
+abbrev pub through-metadata-bytes : (m : List ℕ) (lent-at : ℕ × ℕ) (format : List ℕ) (f : FunctionIndex) (at : CodeOffset) → (ℕ × ℕ) → List ℕ → Type 0
+through-metadata-bytes m lent-at format f at begins bytes = (bytes ≡ asBytes (askMetadataThrough format f at m)) × (begins ≡ (lent-at .0, startOf (askMetadataThrough format f at m) + lent-at .1))
+
+abbrev pub through-hint : (m : List ℕ) (f : FunctionIndex) (at : CodeOffset) → HintAnswer → Type 0
+through-hint m f at r = hintAnswered r ≡ askHintThrough f at m
