@@ -1,0 +1,75 @@
+// The line of a case, put into a lent output from its first byte on: the case, what is said of it, the end of the line. Each function returns where the next one starts.
+ghost use mathlib.Core.List.{_++_};
+ghost use mathlib.Core.Path.{_≡_};
+ghost use Prim.Native.Nat.{_≤_, _<_, _+_, _*_};
+ghost use lib.ListN.{length};
+ghost use Rattle.format.specs.Bytes.{ascii};
+ghost use Rattle.format.specs.Listing.{decimal};
+ghost use Rattle.saying.specs.Promises.{saying-put-line, saying-put-text, saying-put-hexadecimal};
+ghost use Rattle.saying.specs.Words.{words, digitOf, hex, spaced, hexadecimal};
+ghost use Rattle.writing.specs.Wrote.{Wrote};
+use crate::Said;
+use format::Refusal;
+use walk::survey::SectionPlace;
+use writing::put_byte;
+use writing::put_bytes;
+use writing::put_decimal;
+
+// Of hexadecimal digits; from ten on they are letters.
+const BASE: u8 = 16;
+
+const TEN: u8 = 10;
+
+// Words and a number behind them.
+fn put_number(out: &mut [u8], at: usize, before: &[u8], n: u64) -> usize
+    requires { ⌜ at + length (now before) + 20 ≤ length (now out) ⌝ }
+    ensures { λ r. ⌜ Wrote (now (out .entry)) (now (out .exit)) at r (now (before .entry) ++ decimal n) ⌝ }
+    ensures { λ r. ⌜ r ≤ at + length (now (before .entry)) + 20 ⌝ }
+{
+    let next = put_bytes(out, at, before);
+    put_decimal(out, next, n)
+}
+
+// The same twice.
+fn put_pair(out: &mut [u8], at: usize, before: &[u8], a: u64, between: &[u8], b: u64) -> usize
+    requires { ⌜ at + length (now before) + length (now between) + 40 ≤ length (now out) ⌝ }
+    ensures { λ r. ⌜ Wrote (now (out .entry)) (now (out .exit)) at r ((now (before .entry) ++ decimal a) ++ (now (between .entry) ++ decimal b)) ⌝ }
+    ensures { λ r. ⌜ r ≤ at + length (now (before .entry)) + length (now (between .entry)) + 40 ⌝ }
+{
+    let next = put_number(out, at, before, a);
+    put_number(out, next, between, b)
+}
+
+fn put_refusal(out: &mut [u8], at: usize, refusal: Refusal) -> usize
+    requires { ⌜ at + 83 ≤ length (now out) ⌝ }
+    ensures { λ r. ⌜ Wrote (now (out .entry)) (now (out .exit)) at r (words (Said.Refused refusal)) ⌝ }
+    ensures { λ r. ⌜ r ≤ at + 83 ⌝ }
+{
+    let reason = refusal.reason;
+    let offset = refusal.offset;
+    put_pair(
+        out,
+        at,
+        b"refused ",
+        reason.number() as u64,
+        b" at ",
+        offset.0 as u64,
+    )
+}
+
+fn put_section(out: &mut [u8], at: usize, s: SectionPlace) -> usize
+    requires { ⌜ at + 83 ≤ length (now out) ⌝ }
+    ensures { λ r. ⌜ Wrote (now (out .entry)) (now (out .exit)) at r (words (Said.Section s)) ⌝ }
+    ensures { λ r. ⌜ r ≤ at + 83 ⌝ }
+{
+    let offset = s.at;
+    let next = put_number(out, at, b"id ", s.id as u64);
+    put_pair(
+        out,
+        next,
+        b", found at ",
+        offset.0 as u64,
+        b", length ",
+        s.length as u64,
+    )
+}
