@@ -73,3 +73,64 @@ fn put_section(out: &mut [u8], at: usize, s: SectionPlace) -> usize
         s.length as u64,
     )
 }
+
+// What is said of a result, in 83 bytes at most.
+fn put_said(out: &mut [u8], at: usize, said: Said) -> usize
+    requires { ⌜ at + 83 ≤ length (now out) ⌝ }
+    ensures { λ r. ⌜ Wrote (now (out .entry)) (now (out .exit)) at r (words said) ⌝ }
+    ensures { λ r. ⌜ r ≤ at + 83 ⌝ }
+{
+    match said {
+        Said::None => put_bytes(out, at, b"none"),
+        Said::Accepted => put_bytes(out, at, b"accepted"),
+        Said::Likely => put_bytes(out, at, b"likely"),
+        Said::Unlikely => put_bytes(out, at, b"unlikely"),
+        Said::Refused(refusal) => put_refusal(out, at, refusal),
+        Said::Value(v, behind) => put_pair(out, at, b"", v as u64, b", up to byte ", behind as u64),
+        Said::UpTo(behind) => put_number(out, at, b"accepted, up to byte ", behind as u64),
+        Said::Found(p) => {
+            let offset = p.offset;
+            put_pair(
+                out,
+                at,
+                b"found at ",
+                offset.0 as u64,
+                b", length ",
+                p.length as u64,
+            )
+        }
+        Said::Sections(n) => put_number(out, at, b"sections ", n as u64),
+        Said::Section(s) => put_section(out, at, s),
+        Said::Length(n) => put_number(out, at, b"length ", n as u64),
+    }
+}
+
+// The case, and that something is said of it.
+fn put_case(out: &mut [u8], case: &[u8]) -> usize
+    requires { ⌜ length (now case) + 2 ≤ length (now out) ⌝ }
+    ensures { λ r. ⌜ Wrote (now (out .entry)) (now (out .exit)) 0 r (now (case .entry) ++ ascii ": ") ⌝ }
+    ensures { λ r. ⌜ r ≡ length (now (case .entry)) + 2 ⌝ }
+{
+    let next = put_bytes(out, 0, case);
+    put_bytes(out, next, b": ")
+}
+
+pub fn put_line(out: &mut [u8], case: &[u8], said: Said) -> usize
+    requires { ⌜ length (now case) + 86 ≤ length (now out) ⌝ }
+    ensures { λ r. ⌜ saying-put-line (now (out .entry)) (now (case .entry)) said (now (out .exit)) r ⌝ }
+{
+    let start = put_case(out, case);
+    let end = put_said(out, start, said);
+    put_byte(out, end, b'\n')
+}
+
+// The line of a text, which stands in quotes.
+pub fn put_text(out: &mut [u8], case: &[u8], text: &[u8]) -> usize
+    requires { ⌜ length (now case) + length (now text) + 5 ≤ length (now out) ⌝ }
+    ensures { λ r. ⌜ saying-put-text (now (out .entry)) (now (case .entry)) (now (text .entry)) (now (out .exit)) r ⌝ }
+{
+    let start = put_case(out, case);
+    let open = put_byte(out, start, b'"');
+    let end = put_bytes(out, open, text);
+    put_bytes(out, end, b"\"\n")
+}
