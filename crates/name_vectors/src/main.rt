@@ -5,41 +5,81 @@ use format::LocalIndex;
 use format::Question;
 use format::TagIndex;
 use format::TypeIndex;
+use libc::STDOUT_FILENO;
 use names::judging;
-use saying::say_answer;
-use saying::say_names;
-use saying::say_text;
+use saying::Said;
+use saying::lines::BESIDE;
+use saying::lines::put_line;
+use saying::lines::put_text;
+use saying::of_answer;
+use saying::of_verdict;
+
+// The longest case, and room for its line.
+const LONGEST: usize = 64;
+
+const LINE: usize = LONGEST + BESIDE;
+
+// Prints the line of a case. One that is too long would show by its line missing.
+fn say(case: &[u8], said: Said) {
+    let mut line = [0; LINE];
+    if case.len() <= LONGEST {
+        let end = put_line(&mut line, case, said);
+        io::write_all(STDOUT_FILENO, &line[..end]);
+    }
+}
+
+fn say_names(case: &[u8], payload: &[u8]) {
+    let judged = judging::judge(payload);
+    say(case, of_verdict(judged.verdict()));
+}
+
+// The same for a text.
+fn say_text(case: &[u8], text: &[u8]) {
+    let mut line = [0; LINE];
+    if case.len() <= LONGEST {
+        if text.len() <= LONGEST {
+            let end = put_text(&mut line, case, text);
+            io::write_all(STDOUT_FILENO, &line[..end]);
+        }
+    }
+}
 
 // The payload P of the examples.
 fn payload() {
     let p = b"\x00\x02\x01\x6D\x01\x07\x02\x00\x01\x61\x03\x01\x62\x02\x06\x01\x03\x01\x00\x01\x78";
-    say_names(b"P", judging::judge(p));
-    say_answer(b"P, the module", names::ask(p, Question::ModuleName));
-    say_answer(
+    say_names(b"P", p);
+    say(
+        b"P, the module",
+        of_answer(names::ask(p, Question::ModuleName)),
+    );
+    say(
         b"E5 P, function 0",
-        names::ask(p, Question::FunctionName(FunctionIndex(0))),
+        of_answer(names::ask(p, Question::FunctionName(FunctionIndex(0)))),
     );
-    say_answer(
+    say(
         b"E5 P, function 1",
-        names::ask(p, Question::FunctionName(FunctionIndex(1))),
+        of_answer(names::ask(p, Question::FunctionName(FunctionIndex(1)))),
     );
-    say_answer(
+    say(
         b"E5 P, function 3",
-        names::ask(p, Question::FunctionName(FunctionIndex(3))),
+        of_answer(names::ask(p, Question::FunctionName(FunctionIndex(3)))),
     );
-    say_answer(
+    say(
         b"E6 P, local (3,0)",
-        names::ask(p, Question::LocalName(FunctionIndex(3), LocalIndex(0))),
+        of_answer(names::ask(p, Question::LocalName(FunctionIndex(3), LocalIndex(0)))),
     );
-    say_answer(
+    say(
         b"E6 P, local (0,0)",
-        names::ask(p, Question::LocalName(FunctionIndex(0), LocalIndex(0))),
+        of_answer(names::ask(p, Question::LocalName(FunctionIndex(0), LocalIndex(0)))),
     );
-    say_answer(
+    say(
         b"P, type 0",
-        names::ask(p, Question::TypeName(TypeIndex(0))),
+        of_answer(names::ask(p, Question::TypeName(TypeIndex(0)))),
     );
-    say_answer(b"P, kept 1", names::ask(p, Question::KeptContents(1)));
+    say(
+        b"P, kept 1",
+        of_answer(names::ask(p, Question::KeptContents(1))),
+    );
     say_text(
         b"P, function 3 as bytes",
         names::ask_bytes(p, Question::FunctionName(FunctionIndex(3))),
@@ -51,64 +91,61 @@ fn payload() {
 }
 
 fn name_payloads() {
-    say_names(b"E9 no bytes", judging::judge(b""));
-    say_answer(
+    say_names(b"E9 no bytes", b"");
+    say(
         b"E10 module name",
-        names::ask(b"\x00\x01\x00", Question::ModuleName),
+        of_answer(names::ask(b"\x00\x01\x00", Question::ModuleName)),
     );
-    say_answer(
+    say(
         b"E11 kept 3",
-        names::ask(b"\x03\x01\xFF", Question::KeptContents(3)),
+        of_answer(names::ask(b"\x03\x01\xFF", Question::KeptContents(3))),
     );
-    say_answer(
+    say(
         b"E11 kept 5",
-        names::ask(b"\x03\x01\xFF", Question::KeptContents(5)),
+        of_answer(names::ask(b"\x03\x01\xFF", Question::KeptContents(5))),
     );
     say_names(
         b"E12 an index again",
-        judging::judge(b"\x01\x07\x02\x03\x01\x62\x03\x01\x61"),
+        b"\x01\x07\x02\x03\x01\x62\x03\x01\x61",
     );
-    say_names(
-        b"E13 ids falling",
-        judging::judge(b"\x02\x01\x00\x01\x01\x00"),
-    );
-    say_names(b"E14 a byte left over", judging::judge(b"\x01\x02\x00\x00"));
+    say_names(b"E13 ids falling", b"\x02\x01\x00\x01\x01\x00");
+    say_names(b"E14 a byte left over", b"\x01\x02\x00\x00");
 }
 
 // Errors seen in other readers.
 fn errors_of_others() {
     say_names(
         b"a map past its subsection, inside the payload",
-        judging::judge(b"\x01\x03\x01\x00\x01\x61\x03\x00"),
+        b"\x01\x03\x01\x00\x01\x61\x03\x00",
     );
-    say_answer(
+    say(
         b"tag names stand under 11",
-        names::ask(b"\x0B\x04\x01\x07\x01\x74", Question::TagName(TagIndex(7))),
+        of_answer(names::ask(b"\x0B\x04\x01\x07\x01\x74", Question::TagName(TagIndex(7)))),
     );
-    say_answer(
+    say(
         b"and not under 1",
-        names::ask(b"\x01\x04\x01\x07\x01\x74", Question::TagName(TagIndex(7))),
+        of_answer(names::ask(b"\x01\x04\x01\x07\x01\x74", Question::TagName(TagIndex(7)))),
     );
-    say_answer(
+    say(
         b"damage behind the index asked for",
-        names::ask(
+        of_answer(names::ask(
             b"\x01\x08\x03\x00\x01\x61\x02\x00\x01\x00",
             Question::FunctionName(FunctionIndex(0)),
-        ),
+        )),
     );
-    say_answer(
+    say(
         b"a padded index and length",
-        names::ask(
+        of_answer(names::ask(
             b"\x01\x86\x00\x01\x80\x00\x81\x00\x61",
             Question::FunctionName(FunctionIndex(0)),
-        ),
+        )),
     );
-    say_answer(
+    say(
         b"a field",
-        names::ask(
+        of_answer(names::ask(
             b"\x0A\x06\x01\x02\x01\x05\x01\x66",
             Question::FieldName(TypeIndex(2), FieldIndex(5)),
-        ),
+        )),
     );
 }
 

@@ -1,6 +1,12 @@
 // Runs the worked cases of rewriting through the code: payloads rewritten into an output, what that leaves there, and what was written rewritten again. What it prints is held to the file stdout.
+use format::Written;
+use libc::STDOUT_FILENO;
+use saying::Said;
 use saying::UNTOUCHED;
-use saying::say_written;
+use saying::lines::BESIDE;
+use saying::lines::put_hexadecimal;
+use saying::lines::put_line;
+use saying::of_written;
 
 // More than any case here takes.
 const ROOM: usize = 24;
@@ -11,6 +17,46 @@ const E7_CANONICAL: usize = 6;
 const LOCALS_CANONICAL: usize = 8;
 
 const HINTS_CANONICAL: usize = 6;
+
+// The longest case, and room for its line.
+const LONGEST: usize = 64;
+
+const LINE: usize = LONGEST + BESIDE;
+
+// Prints the line of a case. One that is too long would show by its line missing.
+fn say(case: &[u8], said: Said) {
+    let mut line = [0; LINE];
+    if case.len() <= LONGEST {
+        let end = put_line(&mut line, case, said);
+        io::write_all(STDOUT_FILENO, &line[..end]);
+    }
+}
+
+// The same for bytes that stand in an output.
+fn say_bytes(case: &[u8], bytes: &[u8]) {
+    let mut line = [0; LINE];
+    if case.len() <= LONGEST {
+        if bytes.len() <= ROOM {
+            let end = put_hexadecimal(&mut line, case, bytes);
+            io::write_all(STDOUT_FILENO, &line[..end]);
+        }
+    }
+}
+
+// What a write left in the output: the bytes it wrote and those behind them, or all after a refusal.
+fn say_written(case: &[u8], w: Written, out: &[u8]) {
+    say(case, of_written(w));
+    match w {
+        Written::Refused(_) => say_bytes(b"  output", out),
+        Written::Length(n) => {
+            // a length past the output would show by the two lines missing
+            if n <= out.len() {
+                say_bytes(b"  written", &out[..n]);
+                say_bytes(b"  behind", &out[n..]);
+            }
+        }
+    }
+}
 
 // Rewrites a name payload into an output, and says what that left.
 fn names_into(case: &[u8], payload: &[u8], out: &mut [u8]) {

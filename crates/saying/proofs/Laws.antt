@@ -22,7 +22,7 @@ use Rattle.writing.specs.Wrote.{Wrote}
 use Rattle.writing.proofs.Laws.{wrote-join}
 
 -- as the code has them: the bytes of a text, which compute everywhere
-abbrev lit : String → List ℕ
+abbrev pub lit : String → List ℕ
 lit String.[] = []
 lit (String._∷_ c s) = code c ∷ lit s
 
@@ -118,7 +118,7 @@ case-put case p q = wrote-join p q
 
 module _ {old a b new : List ℕ} {i j next : ℕ} (case : List ℕ) where
   -- what is said of a case, and the end of its line
-  line-put : (said : List ℕ) → Wrote old a 0 i (case ++ ascii ": ") → Wrote a b i j said → Wrote b new j next (lit "\n") → Wrote old new 0 next (line case said)
+  pub line-put : (said : List ℕ) → Wrote old a 0 i (case ++ ascii ": ") → Wrote a b i j said → Wrote b new j next (lit "\n") → Wrote old new 0 next (line case said)
   unfolding line ascii
   line-put said p q r = simp append-assoc at (wrote-join p (wrote-join q r))
 

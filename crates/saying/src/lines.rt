@@ -15,6 +15,9 @@ use writing::put_byte;
 use writing::put_bytes;
 use writing::put_decimal;
 
+// What a line of a result has at most beside its case: three numbers of 20 digits, and words.
+pub const BESIDE: usize = 86;
+
 // Of hexadecimal digits; from ten on they are letters.
 const BASE: u8 = 16;
 
@@ -133,4 +136,70 @@ pub fn put_text(out: &mut [u8], case: &[u8], text: &[u8]) -> usize
     let open = put_byte(out, start, b'"');
     let end = put_bytes(out, open, text);
     put_bytes(out, end, b"\"\n")
+}
+
+// A hexadecimal digit, as a numeral or a capital letter.
+fn digit(n: u8) -> u8
+    requires { ⌜ n < 16 ⌝ }
+    ensures { λ r. ⌜ r ≡ digitOf n ⌝ }
+{
+    if n < TEN { b'0' + n } else { b'A' + (n - TEN) }
+}
+
+fn put_hex(out: &mut [u8], at: usize, b: u8) -> usize
+    requires { ⌜ at + 2 ≤ length (now out) ⌝ }
+    ensures { λ r. ⌜ Wrote (now (out .entry)) (now (out .exit)) at r (hex b) ⌝ }
+    ensures { λ r. ⌜ r ≡ at + 2 ⌝ }
+{
+    let next = put_byte(out, at, digit(b / BASE));
+    put_byte(out, next, digit(b % BASE))
+}
+
+// Bytes, each behind a space.
+fn put_spaced(out: &mut [u8], at: usize, bytes: &[u8]) -> usize
+    requires { ⌜ at + 3 * length (now bytes) ≤ length (now out) ⌝ }
+    ensures { λ r. ⌜ Wrote (now (out .entry)) (now (out .exit)) at r (spaced (now (bytes .entry))) ⌝ }
+    ensures { λ r. ⌜ r ≡ at + 3 * length (now (bytes .entry)) ⌝ }
+{
+    let mut next = at;
+    let mut k = 0;
+    while k < bytes.len() {
+        next = put_byte(out, next, b' ');
+        next = put_hex(out, next, bytes[k]);
+        k += 1;
+    }
+    next
+}
+
+// Some bytes, one space between them.
+fn put_some(out: &mut [u8], at: usize, bytes: &[u8]) -> usize
+    requires { ⌜ 1 ≤ length (now bytes) ⌝ }
+    requires { ⌜ at + 3 * length (now bytes) ≤ length (now out) ⌝ }
+    ensures { λ r. ⌜ Wrote (now (out .entry)) (now (out .exit)) at r (hexadecimal (now (bytes .entry))) ⌝ }
+    ensures { λ r. ⌜ r ≤ at + 3 * length (now (bytes .entry)) ⌝ }
+{
+    let next = put_hex(out, at, bytes[0]);
+    put_spaced(out, next, &bytes[1..])
+}
+
+// Bytes, or that there are none.
+fn put_digits(out: &mut [u8], at: usize, bytes: &[u8]) -> usize
+    requires { ⌜ at + 3 * length (now bytes) + 8 ≤ length (now out) ⌝ }
+    ensures { λ r. ⌜ Wrote (now (out .entry)) (now (out .exit)) at r (hexadecimal (now (bytes .entry))) ⌝ }
+    ensures { λ r. ⌜ r ≤ at + 3 * length (now (bytes .entry)) + 8 ⌝ }
+{
+    if bytes.len() == 0 {
+        return put_bytes(out, at, b"no bytes");
+    }
+    put_some(out, at, bytes)
+}
+
+// The line of bytes, which stand in hexadecimal.
+pub fn put_hexadecimal(out: &mut [u8], case: &[u8], bytes: &[u8]) -> usize
+    requires { ⌜ length (now case) + 3 * length (now bytes) + 11 ≤ length (now out) ⌝ }
+    ensures { λ r. ⌜ saying-put-hexadecimal (now (out .entry)) (now (case .entry)) (now (bytes .entry)) (now (out .exit)) r ⌝ }
+{
+    let start = put_case(out, case);
+    let end = put_digits(out, start, bytes);
+    put_byte(out, end, b'\n')
 }

@@ -1,15 +1,33 @@
 // Runs the worked cases of numbers, text, modules and metadata through the code and prints each result in words. What it prints is held to the file stdout.
 use format::CodeOffset;
 use format::FunctionIndex;
+use libc::STDOUT_FILENO;
 use reading::Cursor;
 use reading::NumberRead;
 use reading::PartRead;
-use saying::say_answer;
-use saying::say_count;
-use saying::say_hint;
-use saying::say_number;
-use saying::say_part;
-use saying::say_section;
+use saying::Said;
+use saying::lines::BESIDE;
+use saying::lines::put_line;
+use saying::of_answer;
+use saying::of_count;
+use saying::of_hint;
+use saying::of_number;
+use saying::of_part;
+use saying::of_section;
+
+// The longest case, and room for its line.
+const LONGEST: usize = 64;
+
+const LINE: usize = LONGEST + BESIDE;
+
+// Prints the line of a case. One that is too long would show by its line missing.
+fn say(case: &[u8], said: Said) {
+    let mut line = [0; LINE];
+    if case.len() <= LONGEST {
+        let end = put_line(&mut line, case, said);
+        io::write_all(STDOUT_FILENO, &line[..end]);
+    }
+}
 
 fn number(s: &[u8]) -> NumberRead {
     let all = Cursor {
@@ -28,91 +46,100 @@ fn name(s: &[u8]) -> PartRead {
 }
 
 fn numbers() {
-    say_number(b"E1 number 80 80 80 80 00", number(b"\x80\x80\x80\x80\x00"));
-    say_number(b"E2 number FF FF FF FF 0F", number(b"\xFF\xFF\xFF\xFF\x0F"));
-    say_number(b"E3 number FF FF FF FF 1F", number(b"\xFF\xFF\xFF\xFF\x1F"));
-    say_number(b"E4 number 80", number(b"\x80"));
-    say_number(
+    say(
+        b"E1 number 80 80 80 80 00",
+        of_number(number(b"\x80\x80\x80\x80\x00")),
+    );
+    say(
+        b"E2 number FF FF FF FF 0F",
+        of_number(number(b"\xFF\xFF\xFF\xFF\x0F")),
+    );
+    say(
+        b"E3 number FF FF FF FF 1F",
+        of_number(number(b"\xFF\xFF\xFF\xFF\x1F")),
+    );
+    say(b"E4 number 80", of_number(number(b"\x80")));
+    say(
         b"number 80 80 80 80 80 00",
-        number(b"\x80\x80\x80\x80\x80\x00"),
+        of_number(number(b"\x80\x80\x80\x80\x80\x00")),
     );
 }
 
 fn names() {
-    say_part(b"text C0 80", name(b"\x02\xC0\x80"));
-    say_part(b"text ED A0 80", name(b"\x03\xED\xA0\x80"));
-    say_part(b"text ED 9F BF", name(b"\x03\xED\x9F\xBF"));
-    say_part(b"text F4 8F BF BF", name(b"\x04\xF4\x8F\xBF\xBF"));
-    say_part(b"text F4 90 80 80", name(b"\x04\xF4\x90\x80\x80"));
-    say_part(b"text C3, cut short", name(b"\x01\xC3\xA9"));
-    say_part(b"text past its part", name(b"\x05\xFF\x61"));
+    say(b"text C0 80", of_part(name(b"\x02\xC0\x80")));
+    say(b"text ED A0 80", of_part(name(b"\x03\xED\xA0\x80")));
+    say(b"text ED 9F BF", of_part(name(b"\x03\xED\x9F\xBF")));
+    say(b"text F4 8F BF BF", of_part(name(b"\x04\xF4\x8F\xBF\xBF")));
+    say(b"text F4 90 80 80", of_part(name(b"\x04\xF4\x90\x80\x80")));
+    say(b"text C3, cut short", of_part(name(b"\x01\xC3\xA9")));
+    say(b"text past its part", of_part(name(b"\x05\xFF\x61")));
 }
 
 fn modules() {
     let m =
         b"\x00asm\x01\x00\x00\x00\x00\x1A\x04name\x00\x02\x01\x6D\x01\x07\x02\x00\x01\x61\x03\x01\x62\x02\x06\x01\x03\x01\x00\x01\x78";
-    say_count(b"the 36-byte module", walk::count(m));
-    say_section(b"its section 0", walk::section_at(m, 0));
-    say_section(b"its section 1", walk::section_at(m, 1));
-    say_answer(b"its payload of name", walk::custom(m, b"name"));
-    say_answer(b"its payload of nam", walk::custom(m, b"nam"));
-    say_count(b"no bytes", walk::count(b""));
-    say_count(
+    say(b"the 36-byte module", of_count(walk::count(m)));
+    say(b"its section 0", of_section(walk::section_at(m, 0)));
+    say(b"its section 1", of_section(walk::section_at(m, 1)));
+    say(b"its payload of name", of_answer(walk::custom(m, b"name")));
+    say(b"its payload of nam", of_answer(walk::custom(m, b"nam")));
+    say(b"no bytes", of_count(walk::count(b"")));
+    say(
         b"section 13",
-        walk::count(b"\x00asm\x01\x00\x00\x00\x0D\x00"),
+        of_count(walk::count(b"\x00asm\x01\x00\x00\x00\x0D\x00")),
     );
-    say_count(
+    say(
         b"sections 3 and 3",
-        walk::count(b"\x00asm\x01\x00\x00\x00\x03\x00\x03\x00"),
+        of_count(walk::count(b"\x00asm\x01\x00\x00\x00\x03\x00\x03\x00")),
     );
-    say_count(
+    say(
         b"a second name",
-        walk::count(b"\x00asm\x01\x00\x00\x00\x00\x05\x04name\x00\x05\x04name"),
+        of_count(walk::count(b"\x00asm\x01\x00\x00\x00\x00\x05\x04name\x00\x05\x04name")),
     );
-    say_count(
+    say(
         b"data after name",
-        walk::count(b"\x00asm\x01\x00\x00\x00\x00\x05\x04name\x0B\x00"),
+        of_count(walk::count(b"\x00asm\x01\x00\x00\x00\x00\x05\x04name\x0B\x00")),
     );
-    say_answer(
+    say(
         b"a module damaged behind the section asked for",
-        walk::custom(b"\x00asm\x01\x00\x00\x00\x00\x03\x01x\x01\x0D\x00", b"x"),
+        of_answer(walk::custom(b"\x00asm\x01\x00\x00\x00\x00\x03\x01x\x01\x0D\x00", b"x")),
     );
 }
 
 fn hints() {
     let good = b"\x01\x02\x01\x05\x01\x01";
     let bad = b"\x01\x02\x01\x05\x01\x02";
-    say_hint(
+    say(
         b"E15 hint (2,5)",
-        metadata::hint(good, FunctionIndex(2), CodeOffset(5)),
+        of_hint(metadata::hint(good, FunctionIndex(2), CodeOffset(5))),
     );
-    say_hint(
+    say(
         b"E15 hint (2,4)",
-        metadata::hint(good, FunctionIndex(2), CodeOffset(4)),
+        of_hint(metadata::hint(good, FunctionIndex(2), CodeOffset(4))),
     );
-    say_hint(
+    say(
         b"E16 hint (2,5)",
-        metadata::hint(bad, FunctionIndex(2), CodeOffset(5)),
+        of_hint(metadata::hint(bad, FunctionIndex(2), CodeOffset(5))),
     );
-    say_answer(
+    say(
         b"a count of 4,294,967,295 in six bytes",
-        metadata::find(b"\xFF\xFF\xFF\xFF\x0F\x00", FunctionIndex(0), CodeOffset(0)),
+        of_answer(metadata::find(b"\xFF\xFF\xFF\xFF\x0F\x00", FunctionIndex(0), CodeOffset(0))),
     );
-    say_answer(
+    say(
         b"an item of size 0",
-        metadata::find(b"\x01\x02\x01\x05\x00", FunctionIndex(2), CodeOffset(5)),
+        of_answer(metadata::find(b"\x01\x02\x01\x05\x00", FunctionIndex(2), CodeOffset(5))),
     );
-    say_answer(
+    say(
         b"the same offset in two functions",
-        metadata::find(
+        of_answer(metadata::find(
             b"\x02\x00\x01\x05\x01\x41\x02\x01\x05\x01\x42",
             FunctionIndex(2),
             CodeOffset(5),
-        ),
+        )),
     );
-    say_answer(
+    say(
         b"bytes behind the list",
-        metadata::find(b"\x00\x07", FunctionIndex(2), CodeOffset(5)),
+        of_answer(metadata::find(b"\x00\x07", FunctionIndex(2), CodeOffset(5))),
     );
 }
 

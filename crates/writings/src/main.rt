@@ -1,16 +1,67 @@
 // Runs the worked cases of writing from lists through the code: payloads written into an output, what is left there, and the payload read back. What it prints is held to the file stdout.
 use format::FunctionIndex;
 use format::Question;
+use format::Written;
+use libc::STDOUT_FILENO;
 use names::judging;
+use saying::Said;
 use saying::UNTOUCHED;
-use saying::say_answer;
-use saying::say_names;
-use saying::say_written;
+use saying::lines::BESIDE;
+use saying::lines::put_hexadecimal;
+use saying::lines::put_line;
+use saying::of_answer;
+use saying::of_verdict;
+use saying::of_written;
 
 const ROOM: usize = 16;
 
 // How long the payload is that names functions 0 and 3 with a letter each.
 const TWO_NAMES: usize = 9;
+
+// The longest case, and room for its line.
+const LONGEST: usize = 64;
+
+const LINE: usize = LONGEST + BESIDE;
+
+// Prints the line of a case. One that is too long would show by its line missing.
+fn say(case: &[u8], said: Said) {
+    let mut line = [0; LINE];
+    if case.len() <= LONGEST {
+        let end = put_line(&mut line, case, said);
+        io::write_all(STDOUT_FILENO, &line[..end]);
+    }
+}
+
+fn say_names(case: &[u8], payload: &[u8]) {
+    let judged = judging::judge(payload);
+    say(case, of_verdict(judged.verdict()));
+}
+
+// The same for bytes that stand in an output.
+fn say_bytes(case: &[u8], bytes: &[u8]) {
+    let mut line = [0; LINE];
+    if case.len() <= LONGEST {
+        if bytes.len() <= ROOM {
+            let end = put_hexadecimal(&mut line, case, bytes);
+            io::write_all(STDOUT_FILENO, &line[..end]);
+        }
+    }
+}
+
+// What a write left in the output: the bytes it wrote and those behind them, or all after a refusal.
+fn say_written(case: &[u8], w: Written, out: &[u8]) {
+    say(case, of_written(w));
+    match w {
+        Written::Refused(_) => say_bytes(b"  output", out),
+        Written::Length(n) => {
+            // a length past the output would show by the two lines missing
+            if n <= out.len() {
+                say_bytes(b"  written", &out[..n]);
+                say_bytes(b"  behind", &out[n..]);
+            }
+        }
+    }
+}
 
 // Writes function names, and says what that left.
 fn write_names(case: &[u8], indices: &[u32], lengths: &[u32], text: &[u8], out: &mut [u8]) {
@@ -28,18 +79,18 @@ fn read_back() {
     let mut out = [UNTOUCHED; ROOM];
     write_names(b"functions 0 and 3", &[0, 3], &[1, 1], b"ab", &mut out);
     let payload = &out[0..TWO_NAMES];
-    say_names(b"what was written", judging::judge(payload));
-    say_answer(
+    say_names(b"what was written", payload);
+    say(
         b"its function 0",
-        names::ask(payload, Question::FunctionName(FunctionIndex(0))),
+        of_answer(names::ask(payload, Question::FunctionName(FunctionIndex(0)))),
     );
-    say_answer(
+    say(
         b"its function 1",
-        names::ask(payload, Question::FunctionName(FunctionIndex(1))),
+        of_answer(names::ask(payload, Question::FunctionName(FunctionIndex(1)))),
     );
-    say_answer(
+    say(
         b"its function 3",
-        names::ask(payload, Question::FunctionName(FunctionIndex(3))),
+        of_answer(names::ask(payload, Question::FunctionName(FunctionIndex(3)))),
     );
 }
 
