@@ -23,8 +23,8 @@ const LINE: usize = LONGEST + BESIDE;
 fn say(case: &[u8], said: Said) {
     let mut line = [0; LINE];
     if case.len() <= LONGEST {
-        let end = put_line(&mut line, case, said);
-        io::write_all(STDOUT_FILENO, &line[..end]);
+        let length = put_line(&mut line, case, said);
+        io::write_all(STDOUT_FILENO, &line[0..length]);
     }
 }
 
@@ -38,8 +38,8 @@ fn say_text(case: &[u8], text: &[u8]) {
     let mut line = [0; LINE];
     if case.len() <= LONGEST {
         if text.len() <= LONGEST {
-            let end = put_text(&mut line, case, text);
-            io::write_all(STDOUT_FILENO, &line[..end]);
+            let length = put_text(&mut line, case, text);
+            io::write_all(STDOUT_FILENO, &line[0..length]);
         }
     }
 }

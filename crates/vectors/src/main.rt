@@ -24,8 +24,8 @@ const LINE: usize = LONGEST + BESIDE;
 fn say(case: &[u8], said: Said) {
     let mut line = [0; LINE];
     if case.len() <= LONGEST {
-        let end = put_line(&mut line, case, said);
-        io::write_all(STDOUT_FILENO, &line[..end]);
+        let length = put_line(&mut line, case, said);
+        io::write_all(STDOUT_FILENO, &line[0..length]);
     }
 }
 
