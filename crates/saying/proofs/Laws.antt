@@ -1,13 +1,11 @@
 -- What is put piece by piece is what is said. Assumes nothing.
-use Prim.Native.Nat.{ℕ, zero, suc, _+_, _*_, _/_, _%_, _≤_, _<_}
+use Prim.Native.Nat.{ℕ, zero, suc}
 use Prim.Native.Char.{code}
 use Prim.Native.String.{String}
 use mathlib.Core.List.{List, [], _∷_, _++_, append-assoc}
-use mathlib.Core.Path.{_≡_, refl, ap, _∙_, sym}
-use native.Mathlib.Omega.{arith}
+use mathlib.Core.Path.{_≡_, refl}
 use borrow.Author.Needs.{needs}
 use denote.Enum.Declared.{tagOf}
-use lib.ListN.{length}
 use Rattle.format.specs.Bytes.{ascii}
 use Rattle.format.specs.Listing.{decimal}
 use Rattle.format.specs.Refusals.{numberOf}
@@ -41,6 +39,12 @@ module _ {old new : List ℕ} {at next : ℕ} where
   pub refusal-put : (r : Refusal) (n : ℕ) → n ≡ numberOf (r .reason) → Wrote old new at next ((lit "refused " ++ decimal n) ++ (lit " at " ++ decimal (r .offset .0))) → Wrote old new at next (words (Refused r))
   unfolding words ascii
   refusal-put r n e w = rw e at w
+
+  pub place-put : (p : Place) → Wrote old new at next ((lit "found at " ++ decimal (p .offset .0)) ++ (lit ", length " ++ decimal (p .length))) → Wrote old new at next (words (Found p))
+  unfolding words ascii
+  place-put p w = w
+
+pub ruleset pieces = (number-put, pair-put, section-put, refusal-put, place-put, needs)
 
 -- An arm that binds nothing gives the tag alone: what that says
 abbrev Bare : (tag : ℕ) → Said → Type 0
@@ -92,8 +96,7 @@ module _ {old new : List ℕ} {at next : ℕ} (s : Said) where
   unfolding words ascii
   up-to-said behind e w = rw e w
 
-  pub found-said : (p : Place) → s ≡ Found p → Wrote old new at next ((lit "found at " ++ decimal (p .offset .0)) ++ (lit ", length " ++ decimal (p .length))) → Wrote old new at next (words s)
-  unfolding words ascii
+  pub found-said : (p : Place) → s ≡ Found p → Wrote old new at next (words (Found p)) → Wrote old new at next (words s)
   found-said p e w = rw e w
 
   pub sections-said : (n : ℕ) → s ≡ Sections n → Wrote old new at next (lit "sections " ++ decimal n) → Wrote old new at next (words s)
@@ -106,8 +109,6 @@ module _ {old new : List ℕ} {at next : ℕ} (s : Said) where
   pub length-said : (n : ℕ) → s ≡ Length n → Wrote old new at next (lit "length " ++ decimal n) → Wrote old new at next (words s)
   unfolding words ascii
   length-said n e w = rw e w
-
-pub ruleset pieces = (number-put, pair-put, section-put, refusal-put, needs)
 
 pub ruleset sayings = (none-said, accepted-said, likely-said, unlikely-said, refused-said, value-said, up-to-said, found-said, sections-said, section-said, length-said, needs)
 

@@ -11,21 +11,21 @@ use Rattle.saying.specs.declared.Said.{Said}
 use Rattle.saying.specs.declared.Said.the-variants.{Refused, None, Accepted, Likely, Unlikely, Value, UpTo, Found, Sections, Section, Length}
 
 -- words, and a number behind them
-abbrev pub counted : String → ℕ → List ℕ
-counted before n = ascii before ++ decimal n
+abbrev pub numbered : String → ℕ → List ℕ
+numbered before n = ascii before ++ decimal n
 
 unfoldable pub words : Said → List ℕ
-words (Refused r) = counted "refused " (numberOf (r .reason)) ++ counted " at " (r .offset .0)
+words (Refused r) = numbered "refused " (numberOf (r .reason)) ++ numbered " at " (r .offset .0)
 words None = ascii "none"
 words Accepted = ascii "accepted"
 words Likely = ascii "likely"
 words Unlikely = ascii "unlikely"
-words (Value v behind) = counted "" v ++ counted ", up to byte " behind
-words (UpTo behind) = counted "accepted, up to byte " behind
-words (Found p) = counted "found at " (p .offset .0) ++ counted ", length " (p .length)
-words (Sections n) = counted "sections " n
-words (Section s) = counted "id " (s .id) ++ (counted ", found at " (s .at .0) ++ counted ", length " (s .length))
-words (Length n) = counted "length " n
+words (Value v behind) = numbered "" v ++ numbered ", up to byte " behind
+words (UpTo behind) = numbered "accepted, up to byte " behind
+words (Found p) = numbered "found at " (p .offset .0) ++ numbered ", length " (p .length)
+words (Sections n) = numbered "sections " n
+words (Section s) = numbered "id " (s .id) ++ (numbered ", found at " (s .at .0) ++ numbered ", length " (s .length))
+words (Length n) = numbered "length " n
 
 -- a text in quotes
 unfoldable pub quoted : List ℕ → List ℕ

@@ -9,6 +9,7 @@ ghost use Rattle.saying.specs.Promises.{saying-put-line, saying-put-text
 ghost use Rattle.saying.specs.Words.{words, digitOf, hex, spaced, hexadecimal};
 ghost use Rattle.writing.specs.Wrote.{Wrote};
 use crate::Said;
+use format::Place;
 use format::Refusal;
 use walk::survey::SectionPlace;
 use writing::put_byte;
@@ -60,6 +61,22 @@ fn put_refusal(out: &mut [u8], at: usize, refusal: Refusal) -> usize
     )
 }
 
+fn put_place(out: &mut [u8], at: usize, place: Place) -> usize
+    requires { ⌜ at + 83 ≤ length (now out) ⌝ }
+    ensures { λ r. ⌜ Wrote (now (out .entry)) (now (out .exit)) at r (words (Said.Found place)) ⌝ }
+    ensures { λ r. ⌜ r ≤ at + 83 ⌝ }
+{
+    let offset = place.offset;
+    put_pair(
+        out,
+        at,
+        b"found at ",
+        offset.0 as u64,
+        b", length ",
+        place.length as u64,
+    )
+}
+
 fn put_section(out: &mut [u8], at: usize, s: SectionPlace) -> usize
     requires { ⌜ at + 83 ≤ length (now out) ⌝ }
     ensures { λ r. ⌜ Wrote (now (out .entry)) (now (out .exit)) at r (words (Said.Section s)) ⌝ }
@@ -91,17 +108,7 @@ fn put_said(out: &mut [u8], at: usize, said: Said) -> usize
         Said::Refused(refusal) => put_refusal(out, at, refusal),
         Said::Value(v, behind) => put_pair(out, at, b"", v as u64, b", up to byte ", behind as u64),
         Said::UpTo(behind) => put_number(out, at, b"accepted, up to byte ", behind as u64),
-        Said::Found(p) => {
-            let offset = p.offset;
-            put_pair(
-                out,
-                at,
-                b"found at ",
-                offset.0 as u64,
-                b", length ",
-                p.length as u64,
-            )
-        }
+        Said::Found(place) => put_place(out, at, place),
         Said::Sections(n) => put_number(out, at, b"sections ", n as u64),
         Said::Section(s) => put_section(out, at, s),
         Said::Length(n) => put_number(out, at, b"length ", n as u64),
@@ -118,6 +125,7 @@ fn put_case(out: &mut [u8], case: &[u8]) -> usize
     put_bytes(out, next, b": ")
 }
 
+// The line of a result.
 pub fn put_line(out: &mut [u8], case: &[u8], said: Said) -> usize
     requires { ⌜ length (now case) + 86 ≤ length (now out) ⌝ }
     ensures { λ r. ⌜ saying-put-line (now (out .entry)) (now (case .entry)) said (now (out .exit)) r ⌝ }

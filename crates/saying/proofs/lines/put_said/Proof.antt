@@ -71,14 +71,8 @@ put-number-requires c κs = search sayings
 enum-known-said-4 : tie.Need-enum-known-said-4
 enum-known-said-4 c = search sayings
 
-slice-aggregate-put-pair-3 : tie.Need-slice-aggregate-put-pair-3
-slice-aggregate-put-pair-3 c = search sayings
-
-slice-aggregate-put-pair-4 : tie.Need-slice-aggregate-put-pair-4
-slice-aggregate-put-pair-4 c = search sayings
-
-put-pair-requires-2 : tie.Need-put-pair-requires-2
-put-pair-requires-2 c κs = search sayings
+put-place-requires : tie.Need-put-place-requires
+put-place-requires c κs = search sayings
 
 enum-known-said-5 : tie.Need-enum-known-said-5
 enum-known-said-5 c = search sayings
@@ -171,4 +165,4 @@ returns-11 : tie.Need-returns-11
 returns-11 c = search sayings
 
 pub put-said-spec : {M : Type 1} → statement M
-put-said-spec = tie.close (tie.spec enum-told slice-aggregate-put-bytes put-bytes-requires enum-told-2 slice-aggregate-put-bytes-2 put-bytes-requires-2 enum-told-3 slice-aggregate-put-bytes-3 put-bytes-requires-3 enum-told-4 slice-aggregate-put-bytes-4 put-bytes-requires-4 enum-known-said put-refusal-requires enum-known-said-2 slice-aggregate-put-pair cast-put-pair slice-aggregate-put-pair-2 put-pair-requires enum-known-said-3 slice-aggregate-put-number put-number-requires enum-known-said-4 slice-aggregate-put-pair-3 slice-aggregate-put-pair-4 put-pair-requires-2 enum-known-said-5 slice-aggregate-put-number-2 put-number-requires-2 enum-known-said-6 put-section-requires enum-known-said-7 slice-aggregate-put-number-3 put-number-requires-3 same-length returns same-length-2 returns-2 same-length-3 returns-3 same-length-4 returns-4 same-length-5 returns-5 same-length-6 returns-6 same-length-7 returns-7 same-length-8 returns-8 same-length-9 returns-9 same-length-10 returns-10 same-length-11 returns-11)
+put-said-spec = tie.close (tie.spec enum-told slice-aggregate-put-bytes put-bytes-requires enum-told-2 slice-aggregate-put-bytes-2 put-bytes-requires-2 enum-told-3 slice-aggregate-put-bytes-3 put-bytes-requires-3 enum-told-4 slice-aggregate-put-bytes-4 put-bytes-requires-4 enum-known-said put-refusal-requires enum-known-said-2 slice-aggregate-put-pair cast-put-pair slice-aggregate-put-pair-2 put-pair-requires enum-known-said-3 slice-aggregate-put-number put-number-requires enum-known-said-4 put-place-requires enum-known-said-5 slice-aggregate-put-number-2 put-number-requires-2 enum-known-said-6 put-section-requires enum-known-said-7 slice-aggregate-put-number-3 put-number-requires-3 same-length returns same-length-2 returns-2 same-length-3 returns-3 same-length-4 returns-4 same-length-5 returns-5 same-length-6 returns-6 same-length-7 returns-7 same-length-8 returns-8 same-length-9 returns-9 same-length-10 returns-10 same-length-11 returns-11)
