@@ -28,12 +28,13 @@ fn say(case: &[u8], said: Said) {
     }
 }
 
+// Judges a name payload, and says what that comes to.
 fn say_names(case: &[u8], payload: &[u8]) {
     let judged = judging::judge(payload);
     say(case, of_verdict(judged.verdict()));
 }
 
-// The same for a text.
+// Prints the line of a text.
 fn say_text(case: &[u8], text: &[u8]) {
     let mut line = [0; LINE];
     if case.len() <= LONGEST {

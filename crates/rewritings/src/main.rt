@@ -32,7 +32,7 @@ fn say(case: &[u8], said: Said) {
     }
 }
 
-// The same for bytes that stand in an output.
+// Prints the line of bytes of an output.
 fn say_bytes(case: &[u8], bytes: &[u8]) {
     let mut line = [0; LINE];
     if case.len() <= LONGEST {

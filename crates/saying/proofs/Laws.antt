@@ -88,7 +88,7 @@ module _ {old new : List ℕ} {at next : ℕ} (s : Said) where
   pub refused-said : (r : Refusal) → s ≡ Refused r → Wrote old new at next (words (Refused r)) → Wrote old new at next (words s)
   refused-said r e w = rw e w
 
-  pub value-said : (v behind : ℕ) → s ≡ Value v behind → Wrote old new at next ((lit "" ++ decimal v) ++ (lit ", up to byte " ++ decimal behind)) → Wrote old new at next (words s)
+  pub value-said : (v behind : ℕ) → s ≡ Value v behind → Wrote old new at next (decimal v ++ (lit ", up to byte " ++ decimal behind)) → Wrote old new at next (words s)
   unfolding words ascii
   value-said v behind e w = rw e w
 

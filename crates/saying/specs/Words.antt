@@ -14,13 +14,14 @@ use Rattle.saying.specs.declared.Said.the-variants.{Refused, None, Accep
 abbrev pub numbered : String → ℕ → List ℕ
 numbered before n = ascii before ++ decimal n
 
+-- what is said, in words
 unfoldable pub words : Said → List ℕ
 words (Refused r) = numbered "refused " (numberOf (r .reason)) ++ numbered " at " (r .offset .0)
 words None = ascii "none"
 words Accepted = ascii "accepted"
 words Likely = ascii "likely"
 words Unlikely = ascii "unlikely"
-words (Value v behind) = numbered "" v ++ numbered ", up to byte " behind
+words (Value v behind) = decimal v ++ numbered ", up to byte " behind
 words (UpTo behind) = numbered "accepted, up to byte " behind
 words (Found p) = numbered "found at " (p .offset .0) ++ numbered ", length " (p .length)
 words (Sections n) = numbered "sections " n
@@ -31,7 +32,7 @@ words (Length n) = numbered "length " n
 unfoldable pub quoted : List ℕ → List ℕ
 quoted text = ascii "\"" ++ (text ++ ascii "\"")
 
--- a digit below 16, from ten on a letter
+-- a digit below 16: from 0 to 9, then from A to F
 unfoldable pub digitOf : ℕ → ℕ
 digitOf n = cond (ltb n 10) (48 + n) (55 + n)
 

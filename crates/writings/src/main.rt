@@ -32,12 +32,13 @@ fn say(case: &[u8], said: Said) {
     }
 }
 
+// Judges a name payload, and says what that comes to.
 fn say_names(case: &[u8], payload: &[u8]) {
     let judged = judging::judge(payload);
     say(case, of_verdict(judged.verdict()));
 }
 
-// The same for bytes that stand in an output.
+// Prints the line of bytes of an output.
 fn say_bytes(case: &[u8], bytes: &[u8]) {
     let mut line = [0; LINE];
     if case.len() <= LONGEST {
