@@ -11,3 +11,4 @@ pub mod Metadata
 pub mod Rewrite
 pub mod Through
 pub mod Wakemiono
+pub mod Saying

@@ -1,4 +1,4 @@
--- THE PROMISES OF THE FUNCTIONS, each by the name of its function: they stand in the `ensures` in src/ and nowhere else. A promise relates what is handed over to the result, and of a function with an output also the output before and after. Assumes nothing.
+-- THE PROMISES of the crate `saying`, each by the name of its function. They stand in the `ensures` of the public functions and nowhere else: what is shown of these names is shown of the functions. A promise relates what is lent to what comes back.
 use Prim.Native.Nat.{ℕ}
 use mathlib.Core.List.{List}
 use mathlib.Core.Path.{_≡_}
