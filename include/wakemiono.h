@@ -18,7 +18,7 @@
  *    2  a number, name or sized part runs past its enclosing part           first byte of the number, or of the length
  *    3  fifth byte of a number above 0x0F                                   first byte of the number
  *    4  text is not UTF-8                                                   first byte of the text (from lists: where the name starts)
- *    5  section id above 12                                                 id byte
+ *    5  section id above 13                                                 id byte
  *    6  section repeated or out of order                                    id byte
  *    7  second section `name` or `metadata.code.branch_hint`                its id byte
  *    8  data after `name`; hints after code                                 id byte of the later section

@@ -166,7 +166,7 @@ listingOf ss = bytes (listing (preamble ++ ss))
 
 pub modules : List Example
 modules =
-    -- ids from 1 to 12 once and in order, custom sections anywhere; 6 before the size
+    -- ids once and in order, custom sections anywhere; 6 before the size
     walkIs (ordinary 1 "" ++ customSection "x" "" ++ ordinary 12 "") gives value 3 0 ∷
     walkIs (ordinary 3 "" ++ (3 ∷ 0xFF ∷ [])) gives refusal 6 10 ∷
     walkIs (ordinary 3 "" ++ ordinary 2 "") gives refusal 6 10 ∷
@@ -174,6 +174,25 @@ modules =
     walkIs (ordinary 11 "" ++ customSection "name" "" ++ ordinary 11 "") gives refusal 6 17 ∷
     walkIs (customSection "name" "" ++ (11 ∷ 0xFF ∷ [])) gives refusal 8 15 ∷
     walkIs (customSection "name" "" ++ theHints "") gives value 2 0 ∷
+    -- data count stands before code, once; code before data
+    walkIs (ordinary 12 "" ++ ordinary 10 "" ++ ordinary 11 "") gives value 3 0 ∷
+    walkIs (ordinary 9 "" ++ ordinary 12 "") gives value 2 0 ∷
+    walkIs (ordinary 10 "" ++ ordinary 12 "") gives refusal 6 10 ∷
+    walkIs (ordinary 11 "" ++ ordinary 12 "") gives refusal 6 10 ∷
+    walkIs (ordinary 12 "" ++ ordinary 12 "") gives refusal 6 10 ∷
+    walkIs (ordinary 12 "" ++ ordinary 9 "") gives refusal 6 10 ∷
+    -- tag stands between memory and global, once; ids run to 13
+    walkIs (ordinary 13 "") gives value 1 0 ∷
+    walkIs (ordinary 5 "" ++ ordinary 13 "" ++ ordinary 6 "") gives value 3 0 ∷
+    walkIs (ordinary 6 "" ++ ordinary 13 "") gives refusal 6 10 ∷
+    walkIs (ordinary 13 "" ++ ordinary 5 "") gives refusal 6 10 ∷
+    walkIs (ordinary 13 "" ++ ordinary 13 "") gives refusal 6 10 ∷
+    walkIs (14 ∷ 0xFF ∷ []) gives refusal 5 8 ∷
+    -- `name` and hints among them: data count after `name` is fine, and hints between data count and code
+    walkIs (ordinary 12 "" ++ theHints "" ++ ordinary 10 "" ++ ordinary 11 "" ++ customSection "name" "") gives value 5 0 ∷
+    walkIs (ordinary 12 "" ++ ordinary 10 "" ++ theHints "") gives refusal 8 12 ∷
+    walkIs (customSection "name" "" ++ ordinary 12 "" ++ ordinary 10 "" ++ ordinary 11 "") gives refusal 8 19 ∷
+    walkIs (ordinary 10 "" ++ customSection "name" "" ++ ordinary 12 "") gives refusal 6 17 ∷
     -- data count is not data; code is remembered behind other sections
     walkIs (customSection "name" "" ++ ordinary 12 "") gives value 2 0 ∷
     walkIs (ordinary 10 "" ++ customSection "x" "" ++ theHints "") gives refusal 8 14 ∷
@@ -195,11 +214,11 @@ modules =
     sectionIs 1 (ordinary 1 "AA" ++ ordinary 2 "AA AA") gives found 11 2 ∷
     sectionIs 2 (ordinary 1 "AA" ++ ordinary 2 "AA AA") gives isNone ∷
     -- a module damaged anywhere is refused, whichever section was asked for
-    payloadIs "x" (customSection "x" "01" ++ ordinary 13 "") gives refusal 5 13 ∷
+    payloadIs "x" (customSection "x" "01" ++ ordinary 14 "") gives refusal 5 13 ∷
     -- through a module: none without the section; the walk's refusals first; offsets from the module's start
     answerThrough (function 3) (customSection "name" P) gives found 27 1 ∷
     answerThrough (function 3) (ordinary 1 "") gives isNone ∷
-    answerThrough (function 3) (customSection "name" "01 00" ++ ordinary 13 "") gives refusal 5 17 ∷
+    answerThrough (function 3) (customSection "name" "01 00" ++ ordinary 14 "") gives refusal 5 17 ∷
     answerThrough (function 3) (customSection "name" "01 00") gives refusal 2 17 ∷
     -- only the payload asked is judged; generic metadata called branch_hint is judged by the rules of hints; an empty T
     answerThrough ModuleName (theHints "02" ++ customSection "name" "00 01 00") gives found 47 0 ∷
@@ -224,7 +243,9 @@ listings =
     bytes (listing (hex "00 61 73 6D 01 00 00 00 00 1A 04 6E 61 6D 65" ++ hex P)) gives bytes (ascii "sections 1\n0 8 26\nname 15 21\nhints none\n") ∷
     listingOf (customSection "name" "") gives bytes (ascii "sections 1\n0 8 5\nname 15 0\nhints none\n") ∷
     listingOf (ordinary 1 "00" ++ theHints "01 02") gives bytes (ascii "sections 2\n1 8 1\n0 11 28\nname none\nhints 39 2\n") ∷
-    listingOf (ordinary 13 "") gives bytes (ascii "refused 5 8\n") ∷
+    -- id 13 is printed as any other; 14 is no id
+    listingOf (ordinary 13 "00 00") gives bytes (ascii "sections 1\n13 8 2\nname none\nhints none\n") ∷
+    listingOf (ordinary 14 "") gives bytes (ascii "refused 5 8\n") ∷
     bytes (listing []) gives bytes (ascii "refused 1 0\n") ∷
     bytes (listing (replicate 65_537 0)) gives bytes (ascii "refused 16 65536\n") ∷
     bytes (listing (replicate 65_536 0)) gives bytes (ascii "refused 1 0\n") ∷

@@ -12,7 +12,7 @@ numberOf PastItsPart = 2
 numberOf NumberTooLarge = 3
 -- text not UTF-8
 numberOf NotText = 4
--- section id above 12
+-- section id above 13
 numberOf SectionUnknown = 5
 -- section repeated or out of order
 numberOf SectionOrder = 6

@@ -20,9 +20,9 @@ begins [] o bs = got tt o bs
 begins (x ∷ xs) o [] = refuse NoPreamble 0 o []
 begins (x ∷ xs) o (b ∷ bs) = cond (eqb x b) (begins xs (suc o) bs) (refuse NoPreamble 0 o bs)
 
--- The order of sections. Ids are 0 to 12: id 0 is custom, the others occur at most once, in this order
+-- The order of sections: type, import, function, table, memory, tag (13), global, export, start, element, data count (12), code, data. Ids run to 13: id 0 is custom, the others occur at most once, in this order
 abbrev pub order : List ℕ
-order = 1 ∷ 2 ∷ 3 ∷ 4 ∷ 5 ∷ 6 ∷ 7 ∷ 8 ∷ 9 ∷ 10 ∷ 11 ∷ 12 ∷ []
+order = 1 ∷ 2 ∷ 3 ∷ 4 ∷ 5 ∷ 13 ∷ 6 ∷ 7 ∷ 8 ∷ 9 ∷ 12 ∷ 10 ∷ 11 ∷ []
 
 abbrev pub greatest : List ℕ → ℕ
 greatest [] = 0

@@ -50,15 +50,15 @@ pub record Called (x : List ℕ) (s : Section) : Type 0 where
   pub payload : List ℕ
   pub is : s .custom ≡ some (record { name = x; payload = payload })
 
--- the order of the sections that are not custom
+-- K1. "The core specification orders them type, import, function, table, memory, tag (13), global, export, start, element, data count (12), code, data."
 abbrev pub sectionOrder : List ℕ
-sectionOrder = 1 ∷ 2 ∷ 3 ∷ 4 ∷ 5 ∷ 6 ∷ 7 ∷ 8 ∷ 9 ∷ 10 ∷ 11 ∷ 12 ∷ []
+sectionOrder = 1 ∷ 2 ∷ 3 ∷ 4 ∷ 5 ∷ 13 ∷ 6 ∷ 7 ∷ 8 ∷ 9 ∷ 12 ∷ 10 ∷ 11 ∷ []
 
 -- What the rules say of every section, and of every two
 pub record Ordered (ss : List Section) : Type 0 where
-  -- "Ids are 0 to 12."
+  -- "Ids run to 13."
   pub known : (s : Section) → Among s ss → Among (s .id) (0 ∷ sectionOrder)
-  -- "Those from 1 to 12 occur at most once, in increasing order of id."
+  -- those that are not custom occur at most once, in that order
   pub increasing : (s t : Section) → Before s t ss → s .id ≢ 0 → t .id ≢ 0 → Before (s .id) (t .id) sectionOrder
   -- "At most one `name` section and at most one `metadata.code.branch_hint`"
   pub one-of-each : (x : Tracked) → Among x tracked → (s t : Section) → Before s t ss → Called (x .name) s → Called (x .name) t → ⊥

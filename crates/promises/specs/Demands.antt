@@ -322,6 +322,7 @@ pub record Demand2 : Type 0 where
   pub names-judged : JudgesExactly wm-names-judge (NamePayload SourceIds)
   pub metadata-judged : JudgesExactly wm-metadata-judge (CodeMetadata Unknown)
   pub hints-judged : JudgesExactly wm-hints-judge (CodeMetadata BranchHint)
+  -- K1. "Demand 2 reads over the mended rule": a module's sections stand in `sectionOrder`, which `Module` asks of every two of them
   pub modules-judged : JudgesExactly wm-walk Module
   -- of a payload that is accepted the judging call finds the whole
   pub names-whole : (p : List ℕ) (a : WmAnswer) → wm-names-judge p a → a .kind ≡ 1 → a ≡ wmFound 0 0 (length p)

@@ -89,6 +89,18 @@ fn modules() {
         of_count(walk::count(b"\x00asm\x01\x00\x00\x00\x0D\x00")),
     );
     say(
+        b"section 14",
+        of_count(walk::count(b"\x00asm\x01\x00\x00\x00\x0E\x00")),
+    );
+    say(
+        b"data count, code, data",
+        of_count(walk::count(b"\x00asm\x01\x00\x00\x00\x0C\x00\x0A\x00\x0B\x00")),
+    );
+    say(
+        b"code, data count",
+        of_count(walk::count(b"\x00asm\x01\x00\x00\x00\x0A\x00\x0C\x00")),
+    );
+    say(
         b"sections 3 and 3",
         of_count(walk::count(b"\x00asm\x01\x00\x00\x00\x03\x00\x03\x00")),
     );
@@ -102,7 +114,7 @@ fn modules() {
     );
     say(
         b"a module damaged behind the section asked for",
-        of_answer(walk::custom(b"\x00asm\x01\x00\x00\x00\x00\x03\x01x\x01\x0D\x00", b"x")),
+        of_answer(walk::custom(b"\x00asm\x01\x00\x00\x00\x00\x03\x01x\x01\x0E\x00", b"x")),
     );
 }
 

@@ -35,10 +35,10 @@ const CODE: u8 = 10;
 
 const DATA: u8 = 11;
 
-// Where each id stands in the order of sections.
-const IDS: usize = 13;
+// Where each id stands in the order of sections: tag, the last id, is the sixth, and data count stands before code.
+const IDS: usize = 14;
 
-const RANKS: [u8; IDS] = [0, 1, 2, 3, 4, 5, 6, 7, 8, 9, 10, 11, 12];
+const RANKS: [u8; IDS] = [0, 1, 2, 3, 4, 5, 7, 8, 9, 10, 12, 13, 11, 6];
 
 fn is_unknown(id: u8) -> bool
     ensures { λ r. ⌜ r ≡ ltb Walk.greatestId id ⌝ }

@@ -104,7 +104,7 @@ fn custom(r: &mut Random, name: &[u8], payload: &[u8]) -> Vec<u8> {
 pub fn module(r: &mut Random) -> Vec<u8> {
     let mut m = b"\0asm\x01\0\0\0".to_vec();
     let with_hints = r.once_in(2);
-    for id in 1..=12u8 {
+    for id in [1, 2, 3, 4, 5, 13, 6, 7, 8, 9, 12, 10, 11] {
         if id == 10 && with_hints {
             let payload = metadata(r, true);
             m.extend(custom(r, b"metadata.code.branch_hint", &payload));

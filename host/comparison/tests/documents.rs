@@ -72,13 +72,42 @@ fn modules() {
         b"\0asm\x01\0\0\0",
         b"\0asm\x02\0\0\0",
         b"\0asm\x01\0\0\0\x0D\0",
+        b"\0asm\x01\0\0\0\x0E\0",
+        b"\0asm\x01\0\0\0\x0A\0\x0C\0",
+        b"\0asm\x01\0\0\0\x0C\0\x0A\0\x0B\0",
+        b"\0asm\x01\0\0\0\x06\0\x0D\0",
         b"\0asm\x01\0\0\0\x03\0\x03\0",
         b"\0asm\x01\0\0\0\0\x05\x04name\0\x05\x04name",
         b"\0asm\x01\0\0\0\0\x05\x04name\x0B\0",
         b"\0asm\x01\0\0\0\0\x05\x04name\0\x7F\x04name",
-        b"\0asm\x01\0\0\0\0\x03\x01x\x01\x0D\0",
+        b"\0asm\x01\0\0\0\0\x03\x01x\x01\x0E\0",
     ] {
         tally.module(bytes);
+    }
+    println!("compared {} calls", tally.calls);
+}
+
+/// Every two ids, the first two that no section has among them, with nothing, names or hints between.
+#[test]
+fn orders() {
+    const LAST: u8 = 15;
+    let mut tally = Tally::default();
+    let between = [
+        &b""[..],
+        b"\0\x05\x04name",
+        b"\0\x1B\x19metadata.code.branch_hint\0",
+    ];
+    for id in 0..=LAST {
+        for next in 0..=LAST {
+            for between in between {
+                let mut module = b"\0asm\x01\0\0\0".to_vec();
+                // contents that are the name of a custom section, too
+                module.extend([id, 2, 1, b'x']);
+                module.extend(between);
+                module.extend([next, 2, 1, b'x']);
+                tally.module(&module);
+            }
+        }
     }
     println!("compared {} calls", tally.calls);
 }

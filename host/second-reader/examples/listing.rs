@@ -109,7 +109,7 @@ mod tests {
     #[test]
     fn a_refused_walk_is_one_line() {
         assert_eq!(listing(b""), "refused 1 0\n");
-        assert_eq!(listing(&after_preamble(b"\x0D\x00")), "refused 5 8\n");
+        assert_eq!(listing(&after_preamble(b"\x0E\x00")), "refused 5 8\n");
     }
 
     #[test]

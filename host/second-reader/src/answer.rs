@@ -46,7 +46,7 @@ pub enum Reason {
     NumberTooLarge = 3,
     /// Text is not UTF-8.
     NotUtf8 = 4,
-    /// A section id is above 12.
+    /// A section id is above 13.
     UnknownSection = 5,
     /// A section is repeated or out of order.
     SectionOrder = 6,

@@ -8,7 +8,10 @@ const PREAMBLE: [u8; 8] = [0x00, 0x61, 0x73, 0x6D, 0x01, 0x00, 0x00, 0x00];
 const CUSTOM: u8 = 0;
 const CODE: u8 = 10;
 const DATA: u8 = 11;
-const LAST: u8 = 12;
+
+/// The ids that are not custom, in the order in which their sections stand: tag (13) behind memory,
+/// data count (12) before code.
+const ORDER: [u8; 13] = [1, 2, 3, 4, 5, 13, 6, 7, 8, 9, 12, 10, 11];
 
 /// The name of the section that holds names.
 pub(crate) const NAMES: &[u8] = b"name";
@@ -86,8 +89,8 @@ struct Custom<'a> {
 /// refusal.
 struct Sections<'a> {
     rest: Part<'a>,
-    /// The last id from 1 to 12, or 0 before the first.
-    last_id: u8,
+    /// How many places of the order are behind us: what stands there may not come any more.
+    passed: usize,
     seen_code: bool,
     seen_names: bool,
     seen_hints: bool,
@@ -100,7 +103,7 @@ impl<'a> Sections<'a> {
         }
         Ok(Sections {
             rest: Part::after(module, PREAMBLE.len()),
-            last_id: 0,
+            passed: 0,
             seen_code: false,
             seen_names: false,
             seen_hints: false,
@@ -123,14 +126,19 @@ impl<'a> Sections<'a> {
     }
 
     fn check_id(&mut self, id: u8, id_at: usize) -> Result<(), Refusal> {
-        match id {
-            CUSTOM => return Ok(()),
-            _ if id > LAST => return Err(Reason::UnknownSection.at(id_at)),
-            _ if id <= self.last_id => return Err(Reason::SectionOrder.at(id_at)),
-            DATA if self.seen_names => return Err(Reason::TooLate.at(id_at)),
-            _ => {}
+        if id == CUSTOM {
+            return Ok(());
         }
-        self.last_id = id;
+        let Some(place) = ORDER.iter().position(|&known| known == id) else {
+            return Err(Reason::UnknownSection.at(id_at));
+        };
+        if place < self.passed {
+            return Err(Reason::SectionOrder.at(id_at));
+        }
+        if id == DATA && self.seen_names {
+            return Err(Reason::TooLate.at(id_at));
+        }
+        self.passed = place + 1;
         self.seen_code |= id == CODE;
         Ok(())
     }

@@ -79,8 +79,8 @@ fn r06_every_character_is_text() {
 fn r07_one_id_byte_5_then_6_then_8_then_the_size() {
     let name = custom_section(b"name", &[]);
     let data = plain_section(11, &[]);
-    assert_eq!(walk(&module(&[vec![13]])), refused(5, 8));
-    assert_eq!(walk(&module(&[data.clone(), vec![13]])), refused(5, 10));
+    assert_eq!(walk(&module(&[vec![14]])), refused(5, 8));
+    assert_eq!(walk(&module(&[data.clone(), vec![14]])), refused(5, 10));
     assert_eq!(walk(&module(&[data.clone(), vec![11]])), refused(6, 10));
     assert_eq!(walk(&module(&[name.clone(), vec![11]])), refused(8, 15));
     // Data that comes both twice and after names.
@@ -108,7 +108,7 @@ fn r07_hints_code_hints_is_7_before_8() {
 #[test]
 fn r08_only_data_is_barred_after_names_and_only_hints_after_code() {
     let name = custom_section(b"name", &[]);
-    for id in (1..=12).filter(|&id| id != 11) {
+    for id in (1..=13).filter(|&id| id != 11) {
         let module = module(&[name.clone(), plain_section(id, &[])]);
         assert_eq!(walk(&module), found(0, 2), "section {id}");
     }
@@ -174,7 +174,7 @@ fn r09_padding_of_a_names_length_does_not_matter() {
 
 #[test]
 fn r10_the_walk_is_one_judgement() {
-    let module = module(&[custom_section(b"name", &P), vec![13]]);
+    let module = module(&[custom_section(b"name", &P), vec![14]]);
     let refusal = refused(5, 36);
     assert_eq!(walk(&module), refusal);
     assert_eq!(section(&module, 0), refusal);

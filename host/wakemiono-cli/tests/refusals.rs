@@ -5,8 +5,8 @@ mod common;
 use common::{fed, file, hinted, named, MODULE, NO_SUCH_SECTION};
 
 const NO_SUCH_SECTION_WORDS: &str = "\
-wakemiono: standard input: refused, number 5: a section id is above 12: it stands at byte 0x8 (8)
-  00000000  00 61 73 6D 01 00 00 00 0D 00                    |.asm......|
+wakemiono: standard input: refused, number 5: a section id is above 13: it stands at byte 0x8 (8)
+  00000000  00 61 73 6D 01 00 00 00 0E 00                    |.asm......|
                                     ^^
   what to do: a section of a later version of WebAssembly: ask the producer for one without it
 ";
@@ -36,11 +36,11 @@ fn in_the_listing_format_and_in_words() {
 #[test]
 fn in_json() {
     let json = "{\"file\":\"-\",\"refusal\":{\"number\":5,\
-        \"reason\":\"a section id is above 12\",\"offset\":8,\"offset_hex\":\"0x8\",\
-        \"sentence\":\"a section id is above 12: it stands at byte 0x8 (8)\",\
+        \"reason\":\"a section id is above 13\",\"offset\":8,\"offset_hex\":\"0x8\",\
+        \"sentence\":\"a section id is above 13: it stands at byte 0x8 (8)\",\
         \"advice\":\"a section of a later version of WebAssembly: ask the producer for one without \
         it\",\
-        \"bytes_from\":0,\"bytes\":[0,97,115,109,1,0,0,0,13,0]}}";
+        \"bytes_from\":0,\"bytes\":[0,97,115,109,1,0,0,0,14,0]}}";
     for arguments in [
         &["list", "-", "--json"][..],
         &["names", "-", "--json"],
@@ -109,8 +109,8 @@ fn either_of_two_compared_modules() {
 fn judge_says_which_part() {
     fed(&["judge", "-"], NO_SUCH_SECTION).ends(
         1,
-        "module refused, number 5: a section id is above 12: it stands at byte 0x8 (8)\n\
-         \x20 00000000  00 61 73 6D 01 00 00 00 0D 00                    |.asm......|\n\
+        "module refused, number 5: a section id is above 13: it stands at byte 0x8 (8)\n\
+         \x20 00000000  00 61 73 6D 01 00 00 00 0E 00                    |.asm......|\n\
          \x20                                   ^^\n\
          \x20 what to do: a section of a later version of WebAssembly: ask the producer for one \
          without it\n\

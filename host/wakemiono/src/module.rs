@@ -19,7 +19,7 @@ use crate::{
 /// ```
 #[derive(Clone, Copy, Debug, PartialEq, Eq, Hash)]
 pub struct Section {
-    /// The id, from 0 to 12; 0 is a custom section.
+    /// The id, from 0 to 13; 0 is a custom section.
     pub id: u8,
     /// The offset of the id byte in the module.
     pub offset: u64,

@@ -27,7 +27,7 @@ pub enum Reason {
     /// 4: text is not UTF-8. The offset is that of the text; from lists, where the name starts in
     /// the joined text.
     NotText = 4,
-    /// 5: a section id is above 12. The offset is that of the id.
+    /// 5: a section id is above 13. The offset is that of the id.
     SectionId = 5,
     /// 6: a section is repeated or out of order. The offset is that of its id.
     SectionOrder = 6,
@@ -168,7 +168,7 @@ impl fmt::Display for Reason {
             Reason::RunsPast => "a number, name or sized part runs past the part that encloses it",
             Reason::NumberTooLarge => "the fifth byte of a number is above 0x0F",
             Reason::NotText => "text is not UTF-8",
-            Reason::SectionId => "a section id is above 12",
+            Reason::SectionId => "a section id is above 13",
             Reason::SectionOrder => "a section is repeated or out of order",
             Reason::SecondSection => {
                 "a section `name` or `metadata.code.branch_hint` is the second"

@@ -8,6 +8,9 @@ use wakemiono::{
     TypeIndex,
 };
 
+/// The ids that are not custom, in the order of their sections.
+const ORDER: [u8; 13] = [1, 2, 3, 4, 5, 13, 6, 7, 8, 9, 12, 10, 11];
+
 fn walk_refused(sections: &[Vec<u8>]) -> (u32, u64) {
     refused(Module::new(&module(sections)).section_count())
 }
@@ -74,11 +77,13 @@ fn the_preamble() {
 
 #[test]
 fn ids_and_their_order() {
-    assert_eq!(walk_refused(&[vec![13]]), (5, 8));
+    assert_eq!(walk_refused(&[vec![14]]), (5, 8));
     assert_eq!(walk_refused(&[section(3, &[0]), section(1, &[0])]), (6, 11));
     assert_eq!(walk_refused(&[section(1, &[0]), vec![1]]), (6, 11));
-    let all: Vec<Vec<u8>> = (1..=12).map(|id| section(id, &[0])).collect();
-    assert_eq!(Module::new(&module(&all)).section_count(), Ok(12));
+    assert_eq!(walk_refused(&[section(10, &[0]), vec![12]]), (6, 11));
+    assert_eq!(walk_refused(&[section(6, &[0]), vec![13]]), (6, 11));
+    let all: Vec<Vec<u8>> = ORDER.iter().map(|&id| section(id, &[0])).collect();
+    assert_eq!(Module::new(&module(&all)).section_count(), Ok(13));
 }
 
 #[test]
@@ -121,7 +126,7 @@ fn a_name_that_is_a_part_of_the_module_itself() {
 
 #[test]
 fn a_module_damaged_anywhere_is_refused_whatever_is_asked() {
-    let bytes = module(&[custom("name", &P), vec![13]]);
+    let bytes = module(&[custom("name", &P), vec![14]]);
     let module = Module::new(&bytes);
     let (function, type_, at) = (FunctionIndex(0), TypeIndex(0), CodeOffset(0));
     assert_eq!(refused(module.section_count()), (5, 36));
@@ -250,7 +255,7 @@ fn metadata_of_a_format() {
 fn sections_are_those_at_each_position() {
     for size_bytes in 1..=5 {
         let mut sections = Vec::new();
-        for id in 1..=12 {
+        for id in ORDER {
             sections.push(section_sized(
                 id,
                 size_bytes,
@@ -261,8 +266,8 @@ fn sections_are_those_at_each_position() {
         let bytes = module(&sections);
         let module = Module::new(&bytes);
         let all = module.sections().unwrap();
-        assert_eq!(all.len(), 24);
-        assert_eq!(Ok(24), module.section_count());
+        assert_eq!(all.len(), 26);
+        assert_eq!(Ok(26), module.section_count());
         for (position, section) in (0..).zip(all.clone()) {
             assert_eq!(module.section(position), Ok(Some(section)));
         }

@@ -29,9 +29,9 @@ fn of_modules() {
         "the preamble 00 61 73 6D 01 00 00 00 is missing or different: it belongs at byte 0x0 (0)",
     );
     says(
-        count(&module(&[vec![13, 0]])),
+        count(&module(&[vec![14, 0]])),
         Reason::SectionId,
-        "a section id is above 12: it stands at byte 0x8 (8)",
+        "a section id is above 13: it stands at byte 0x8 (8)",
     );
     says(
         count(&module(&[section(3, &[0]), section(1, &[0])])),

@@ -17,7 +17,7 @@ pub const MODULE: &[u8] = b"\0asm\x01\0\0\0\x00\x1A\x04name\
 pub const BARE: &[u8] = b"\0asm\x01\0\0\0";
 
 /// A module that is refused, for a section of a later version.
-pub const NO_SUCH_SECTION: &[u8] = b"\0asm\x01\0\0\0\x0D\x00";
+pub const NO_SUCH_SECTION: &[u8] = b"\0asm\x01\0\0\0\x0E\x00";
 
 /// The words of all commands.
 pub const COMMANDS: [&str; 7] = ["list", "names", "name", "hints", "canon", "same", "judge"];
