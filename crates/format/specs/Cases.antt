@@ -7,7 +7,7 @@ use mathlib.Core.Path.{_≡_, refl}
 use lib.ListN.{length, replicate}
 use Rattle.format.specs.Bytes.{ascii, same}
 use Rattle.format.specs.Numbers.{number, groups, shortest, fewest}
-use Rattle.format.specs.Text.{utf8, continues, following, wellFormed}
+use Rattle.format.specs.Text.{utf8, characters, character, completes}
 use Rattle.format.specs.Parts.{sized, name, remaining}
 use Rattle.format.specs.Tables.{lookup, size, mapTable, rows, table}
 use Rattle.format.specs.Walk.{Section, preamble, begins, greatestId, isCustom, isCode, isData, rank, custom, isCalled, nameSection, hintSection, nothing, seeing, idRules, nameRules, section, sections, framing, walk, sectionCount, sectionAt, payloadOf, payloadIn, customPayload}
@@ -123,7 +123,7 @@ payloads =
     []
 
 pub payloads-hold : map computed payloads ≡ map stated payloads
-unfolding payloads computed stated nameIs numberIs namesAre answerIs canonicalIs hintIs metadataIs metadataCanonicalIs hintsCanonicalIs canonicalInto canonicalAnswers writtenIs function localIn tag P hex digit ofOutcome of place likelihood number groups shortest fewest utf8 continues following wellFormed sized name remaining lookup size mapTable rows table known knownKind contents subsections payload judgeNames answer asked askAt ask hintOf anyItem hintItem metadata judgeMetadata itemAt askMetadata hintIn askHint writePart writeRows writeTable unlessEmpty keepRows bare writeContent writeSubsections rewriteNames canonicalNames rewriteMetadata canonicalOf canonicalMetadata canonicalHints fitting writeAnswer outputAfter sum listed unsortedAt badTextAt subsection functionNames
+unfolding payloads computed stated nameIs numberIs namesAre answerIs canonicalIs hintIs metadataIs metadataCanonicalIs hintsCanonicalIs canonicalInto canonicalAnswers writtenIs function localIn tag P hex digit ofOutcome of place likelihood number groups shortest fewest utf8 characters character completes sized name remaining lookup size mapTable rows table known knownKind contents subsections payload judgeNames answer asked askAt ask hintOf anyItem hintItem metadata judgeMetadata itemAt askMetadata hintIn askHint writePart writeRows writeTable unlessEmpty keepRows bare writeContent writeSubsections rewriteNames canonicalNames rewriteMetadata canonicalOf canonicalMetadata canonicalHints fitting writeAnswer outputAfter sum listed unsortedAt badTextAt subsection functionNames
 payloads-hold = refl
 
 -- Modules
@@ -233,7 +233,7 @@ modules =
     []
 
 pub modules-hold : map computed modules ≡ map stated modules
-unfolding modules computed stated ordinary customSection theHints walkIs sectionIs payloadUnder payloadIs answerThrough metadataThrough hintThrough function localIn tag P hex digit of place likelihood ascii same number groups shortest fewest utf8 continues following wellFormed sized name remaining lookup rows table preamble begins greatestId isCustom isCode isData rank custom isCalled nameSection hintSection nothing seeing idRules nameRules section sections framing walk sectionCount sectionAt payloadOf payloadIn customPayload known knownKind contents subsections payload judgeNames answer asked askAt ask hintOf anyItem hintItem metadata judgeMetadata itemAt askMetadata hintIn askHint writePart through askThrough metadataSection itemOf askMetadataThrough askHintThrough
+unfolding modules computed stated ordinary customSection theHints walkIs sectionIs payloadUnder payloadIs answerThrough metadataThrough hintThrough function localIn tag P hex digit of place likelihood ascii same number groups shortest fewest utf8 characters character completes sized name remaining lookup rows table preamble begins greatestId isCustom isCode isData rank custom isCalled nameSection hintSection nothing seeing idRules nameRules section sections framing walk sectionCount sectionAt payloadOf payloadIn customPayload known knownKind contents subsections payload judgeNames answer asked askAt ask hintOf anyItem hintItem metadata judgeMetadata itemAt askMetadata hintIn askHint writePart through askThrough metadataSection itemOf askMetadataThrough askHintThrough
 modules-hold = refl
 
 -- The listing
@@ -252,5 +252,5 @@ listings =
     []
 
 pub listings-hold : map computed listings ≡ map stated listings
-unfolding listings computed stated ordinary customSection theHints listingOf P hex digit ascii same number groups shortest fewest utf8 continues following wellFormed sized name remaining preamble begins greatestId isCustom isCode isData rank custom isCalled nameSection hintSection nothing seeing idRules nameRules section sections framing walk payloadOf payloadIn writePart digits decimal piece line sectionLines payloadLine printed greatestInput listing
+unfolding listings computed stated ordinary customSection theHints listingOf P hex digit ascii same number groups shortest fewest utf8 characters character completes sized name remaining preamble begins greatestId isCustom isCode isData rank custom isCalled nameSection hintSection nothing seeing idRules nameRules section sections framing walk payloadOf payloadIn writePart digits decimal piece line sectionLines payloadLine printed greatestInput listing
 listings-hold = refl

@@ -10,7 +10,7 @@ use lib.Dec.{leb}
 use lib.ListN.{length}
 use Rattle.format.specs.Reading.{Outcome, got, stop, Judged, accepted, refused}
 use Rattle.format.specs.Numbers.{number, groups, shortest, fewest}
-use Rattle.format.specs.Text.{utf8, continues, following, wellFormed}
+use Rattle.format.specs.Text.{utf8, characters, character, completes}
 use Rattle.format.specs.Parts.{Part, sized, name, remaining}
 use Rattle.format.specs.Tables.{lookup, size, mapTable, rows, table}
 use Rattle.format.specs.Names.{known, knownKind, contents, subsections, payload, judgeNames}
@@ -130,5 +130,5 @@ sixteen =
     []
 
 pub sixteen-hold : map computed sixteen ≡ map stated sixteen
-unfolding sixteen computed stated numberIs namesAre answerIs canonicalIs hintIs function localIn P hex digit ofOutcome of place likelihood number groups shortest fewest utf8 continues following wellFormed sized name remaining lookup size mapTable rows table known knownKind contents subsections payload judgeNames answer asked askAt ask hintOf hintItem metadata judgeMetadata itemAt askMetadata hintIn askHint writePart writeRows writeTable unlessEmpty keepRows bare writeContent writeSubsections rewriteNames canonicalNames
+unfolding sixteen computed stated numberIs namesAre answerIs canonicalIs hintIs function localIn P hex digit ofOutcome of place likelihood number groups shortest fewest utf8 characters character completes sized name remaining lookup size mapTable rows table known knownKind contents subsections payload judgeNames answer asked askAt ask hintOf hintItem metadata judgeMetadata itemAt askMetadata hintIn askHint writePart writeRows writeTable unlessEmpty keepRows bare writeContent writeSubsections rewriteNames canonicalNames
 sixteen-hold = refl

@@ -6,6 +6,7 @@ pub mod Numbers
 pub mod Turns
 pub mod Codecs
 pub mod Tables
+pub mod Text
 pub mod Groups
 pub mod Names
 pub mod Passing

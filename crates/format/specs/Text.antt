@@ -1,44 +1,42 @@
--- Valid UTF-8, by byte ranges, as the Unicode Standard's table of well-formed UTF-8 gives them. Overlong forms, surrogates and anything above U+10FFFF are in no row. Assumes nothing.
-use Prim.Native.Nat.{ℕ}
-use mathlib.Core.Bool.{Bool, true, false, cond, _&&_}
+-- Valid UTF-8: characters one after another, each worked out from its bytes and compared with the limits. "Overlong forms, surrogates (U+D800 to U+DFFF) and anything above U+10FFFF are invalid." Assumes nothing.
+use Prim.Native.Nat.{ℕ, zero, suc, _+_, _-_, _*_, _%_}
+use mathlib.Core.Bool.{Bool, true, false, cond, _&&_, _||_}
 use mathlib.Core.List.{List, [], _∷_}
-use lib.Dec.{leb}
+use lib.Dec.{ltb, leb, eqb}
 
-pub data Range : Type 0 where
-  _to_ : ℕ → ℕ → Range
+-- THE LIMITS of a code point, in a form whose shortest use is from `least` on
+abbrev pub isAllowed : (least code : ℕ) → Bool
+isAllowed least code = leb least code && ((ltb code 0xD800 || ltb 0xDFFF code) && leb code 0x10FFFF)
 
-infixl 90 _to_
-abbrev pub inRange : ℕ → Range → Bool
-inRange b (low to high) = leb low b && leb b high
+-- a byte behind a character's first begins with the bits 10; the six others are bits of the code point
+abbrev pub isLater : ℕ → Bool
+isLater b = leb 0x80 b && ltb b 0xC0
 
--- a row of the table: the first byte's range, and the ranges of the bytes that follow it
-pub data Row : Type 0 where
-  form : Range → List Range → Row
+abbrev pub withLater : (code b : ℕ) → ℕ
+withLater code b = code * 64 + b % 64
 
-unfoldable pub wellFormed : List Row
-wellFormed =
-    form (0x00 to 0x7F) [] ∷
-    form (0xC2 to 0xDF) (0x80 to 0xBF ∷ []) ∷
-    form (0xE0 to 0xE0) (0xA0 to 0xBF ∷ 0x80 to 0xBF ∷ []) ∷
-    form (0xE1 to 0xEC) (0x80 to 0xBF ∷ 0x80 to 0xBF ∷ []) ∷
-    form (0xED to 0xED) (0x80 to 0x9F ∷ 0x80 to 0xBF ∷ []) ∷
-    form (0xEE to 0xEF) (0x80 to 0xBF ∷ 0x80 to 0xBF ∷ []) ∷
-    form (0xF0 to 0xF0) (0x90 to 0xBF ∷ 0x80 to 0xBF ∷ 0x80 to 0xBF ∷ []) ∷
-    form (0xF1 to 0xF3) (0x80 to 0xBF ∷ 0x80 to 0xBF ∷ 0x80 to 0xBF ∷ []) ∷
-    form (0xF4 to 0xF4) (0x80 to 0x8F ∷ 0x80 to 0xBF ∷ 0x80 to 0xBF ∷ []) ∷
-    []
+-- whether `n` such bytes come next, and the code point that they complete is allowed
+unfoldable pub completes : (n least code : ℕ) → List ℕ → Bool
+completes zero least code bs = isAllowed least code
+completes (suc n) least code [] = false
+completes (suc n) least code (b ∷ bs) = isLater b && completes n least (withLater code b) bs
 
--- the ranges that must follow a first byte; one that no row has is followed by a range that no byte is in
-unfoldable pub following : ℕ → List Row → List Range
-following b [] = 1 to 0 ∷ []
-following b (form first rest ∷ rows) = cond (inRange b first) rest (following b rows)
+-- how many bytes the character has that comes next, by the high bits of its first: 0 where none does
+unfoldable pub character : List ℕ → ℕ
+character [] = 0
+character (b ∷ bs) =
+    cond (ltb b 0x80) 1
+    (cond (ltb b 0xC0) 0
+    (cond (ltb b 0xE0) (cond (completes 1 0x80 (b % 32) bs) 2 0)
+    (cond (ltb b 0xF0) (cond (completes 2 0x800 (b % 16) bs) 3 0)
+    (cond (ltb b 0xF8) (cond (completes 3 0x10000 (b % 8) bs) 4 0)
+    0))))
 
--- the bytes are in the ranges still wanted, and well formed from there to the end
-unfoldable pub continues : List Range → List ℕ → Bool
-continues [] [] = true
-continues (r ∷ rs) [] = false
-continues [] (b ∷ bs) = continues (following b wellFormed) bs
-continues (r ∷ rs) (b ∷ bs) = inRange b r && continues rs bs
+-- characters to the end, once the `rest` of the one before is passed
+unfoldable pub characters : (rest : ℕ) → List ℕ → Bool
+characters rest [] = true
+characters (suc rest) (b ∷ bs) = characters rest bs
+characters zero (b ∷ bs) = let n = character (b ∷ bs) in cond (eqb n 0) false (characters (n - 1) bs)
 
 unfoldable pub utf8 : List ℕ → Bool
-utf8 bs = continues [] bs
+utf8 bs = characters 0 bs

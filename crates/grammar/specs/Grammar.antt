@@ -19,8 +19,10 @@ use Rattle.grammar.specs.Modules.{Module}
 use Rattle.grammar.specs.Forgetting.{namesRead, metadataRead, sectionsRead}
 use Rattle.grammar.specs.Laws.Judgements.{means-exactly, meaningless-exactly, means-one}
 use Rattle.grammar.specs.Laws.Numbers.{number-exactly, number-one-value}
-use Rattle.grammar.specs.Laws.Ranges.{text-utf8}
-use Rattle.grammar.specs.Laws.Texts.{utf8-text}
+use Rattle.grammar.specs.Laws.CodePoints.{utf8-text, text-utf8, same-text}
+use Rattle.grammar.specs.Laws.Ranges.{text-ranges}
+use Rattle.grammar.specs.Laws.Texts.{ranges-text}
+use Rattle.grammar.specs.Ranges.{byRanges}
 use Rattle.grammar.specs.Laws.Encodings.{text-one-reading}
 use Rattle.grammar.specs.Laws.Names.{SameIds, source-ids, names-sound, names-complete}
 use Rattle.grammar.specs.Laws.Metadata.{any-exact, hint-exact, metadata-sound, metadata-complete}
@@ -31,9 +33,11 @@ pub record ReadsNumbers : Type 0 where
   pub read-exactly : (o : ℕ) (bs : List ℕ) → Bytes bs → (v o′ : ℕ) (rest : List ℕ) → (number o bs ≡ got v o′ rest) ↔ ((front : List ℕ) × U32 front v × (bs ≡ front ++ rest) × (o′ ≡ o + length front))
   pub one-value : (bs : List ℕ) (v w : ℕ) → U32 bs v → U32 bs w → v ≡ w
 
--- "That many bytes of valid UTF-8": the byte ranges hold exactly of the encodings of characters.
+-- "That many bytes of valid UTF-8": what is worked out code point by code point holds exactly of the encodings of characters; and by the byte ranges of the Unicode Standard's table the same bytes are text, so that a reader may believe whichever they know.
 pub record ReadsTexts : Type 0 where
   pub valid-exactly : (bs : List ℕ) → (utf8 bs ≡ true) ↔ ((characters : List ℕ) × Text bs characters)
+  pub same-by-ranges : (bs : List ℕ) → utf8 bs ≡ byRanges bs
+  pub ranges-exactly : (bs : List ℕ) → (byRanges bs ≡ true) ↔ ((characters : List ℕ) × Text bs characters)
   pub one-reading : (bs cs ds : List ℕ) → Text bs cs → Text bs ds → cs ≡ ds
 
 -- Payloads and modules: accepted is exactly what the grammar has a meaning for, and with that meaning; refused is exactly what it has none for; and no bytes have two meanings.
@@ -49,7 +53,7 @@ pub numbers-exact : ReadsNumbers
 numbers-exact = record { read-exactly = number-exactly; one-value = number-one-value }
 
 pub texts-exact : ReadsTexts
-texts-exact = record { valid-exactly = λ bs. (utf8-text bs, λ t. text-utf8 (t .1)); one-reading = text-one-reading }
+texts-exact = record { valid-exactly = λ bs. (utf8-text bs, λ t. text-utf8 (t .1)); same-by-ranges = same-text; ranges-exactly = λ bs. (ranges-text bs, λ t. text-ranges (t .1)); one-reading = text-one-reading }
 
 module _ {A B : Type 0} {judgement : List ℕ → Judged A} {plain : A → B} {grammar : Grammar B}
     (sound : (p : List ℕ) (v : A) → Bytes p → judgement p ≡ accepted v → grammar p (plain v))

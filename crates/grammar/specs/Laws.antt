@@ -3,6 +3,7 @@ pub mod Judgements
 pub mod Numbers
 pub mod Ranges
 pub mod Texts
+pub mod CodePoints
 pub mod Encodings
 pub mod Lists
 pub mod Names

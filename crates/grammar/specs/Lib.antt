@@ -1,5 +1,6 @@
 pub mod Numbers
 pub mod Texts
+pub mod Ranges
 pub mod Lists
 pub mod Names
 pub mod Metadata

@@ -15,7 +15,7 @@ use Rattle.format.specs.Questions.{idOf, queryOf, answer, asked, askAt, ask, as
 use Rattle.format.specs.declared.Question.{Question}
 use Rattle.format.specs.declared.Question.the-variants.{ModuleName}
 use Rattle.format.specs.Tables.{lookup, mapTable}
-use Rattle.format.specs.Text.{utf8, continues}
+use Rattle.format.specs.Text.{utf8, characters, character, completes}
 use Rattle.format.specs.declared.Answer.{Answer}
 use Rattle.format.specs.declared.Answer.the-variants.{Found}
 
@@ -25,5 +25,5 @@ name-call kindOf = calls-answer (questions-answered kindOf)
 
 -- An empty name is found with length 0, and so told from none.
 pub empty-name-told : (r : Answer) → answered r ≡ asPlace (ask knownKind ModuleName (hex "00 01 00")) → r ≡ Found (record { offset = record { 0 = 3 }; length = 0 })
-unfolding hex digit number groups utf8 continues sized name lookup known knownKind contents subsections payload judgeNames answer asked askAt ask asPlace
+unfolding hex digit number groups utf8 characters character completes sized name lookup known knownKind contents subsections payload judgeNames answer asked askAt ask asPlace
 empty-name-told r e = same-answer r (Found (record { offset = record { 0 = 3 }; length = 0 })) e

@@ -20,7 +20,7 @@ use Rattle.format.specs.declared.Question.{Question}
 use Rattle.format.specs.declared.Question.the-variants.{ModuleName, FunctionName, TypeName, TagName, LocalName, FieldName, KeptContents}
 use Rattle.format.specs.Reading.{Judged, accepted, refused}
 use Rattle.format.specs.Tables.{lookup, rows, table}
-use Rattle.format.specs.Text.{utf8, continues, following, wellFormed}
+use Rattle.format.specs.Text.{utf8, characters, character, completes}
 use Rattle.format.specs.Through.{through, askThrough, metadataSection, itemOf, askMetadataThrough, askHintThrough}
 use Rattle.format.specs.Walk.{preamble, begins, greatestId, isCustom, isCode, isData, rank, custom, isCalled, nameSection, hintSection, nothing, seeing, idRules, nameRules, section, sections, framing, walk, payloadOf, payloadIn, customPayload}
 use Rattle.format.specs.declared.CodeOffset.{CodeOffset}
@@ -229,7 +229,7 @@ module _ (answer : Question → List ℕ → Judged (Option Part)) (lend : Strin
       (cc) (cc) (cc) (cc) (cc))) (each-asked rows (cc) (cc))
 
 pub name-questions : Each (Asked (ask knownKind) hex 0) tried
-unfolding hex digit number groups utf8 continues following wellFormed sized name remaining lookup rows table known knownKind contents subsections payload judgeNames answer asked askAt ask asPlace
+unfolding hex digit number groups utf8 characters character completes sized name remaining lookup rows table known knownKind contents subsections payload judgeNames answer asked askAt ask asPlace
 name-questions = each-asked (ask knownKind) hex 0 tried refl refl
 
 -- The same through a module whose only section is `name`, with the payload from offset 15 on
@@ -237,7 +237,7 @@ unfoldable pub withNames : String → List ℕ
 withNames s = preamble ++ (0 ∷ writePart (writePart nameSection ++ hex s))
 
 pub name-questions-through : Each (Asked (askThrough knownKind) withNames 15) tried
-unfolding withNames writePart shortest fewest ascii same preamble begins greatestId isCustom isCode isData rank custom isCalled nameSection hintSection nothing seeing idRules nameRules section sections framing walk payloadOf payloadIn customPayload through askThrough hex digit number groups utf8 continues following wellFormed sized name remaining lookup rows table known knownKind contents subsections payload judgeNames answer asked askAt asPlace
+unfolding withNames writePart shortest fewest ascii same preamble begins greatestId isCustom isCode isData rank custom isCalled nameSection hintSection nothing seeing idRules nameRules section sections framing walk payloadOf payloadIn customPayload through askThrough hex digit number groups utf8 characters character completes sized name remaining lookup rows table known knownKind contents subsections payload judgeNames answer asked askAt asPlace
 name-questions-through = each-asked (askThrough knownKind) withNames 15 tried refl refl
 
 -- The question for code metadata: the second function, or the second item, is damaged. Through a module it is put to `metadata.code.x`, whose payload begins at 26
@@ -249,7 +249,7 @@ pub record MetadataQuestions : Type 0 where
   pub find-through : PlaceCalls (λ (x : List ℕ × List ℕ × FunctionIndex × CodeOffset). asPlace (askMetadataThrough (x .1) (x .2) (x .3) (x .0)))
 
 pub metadata-questions : MetadataQuestions
-unfolding withData writePart shortest fewest ascii same preamble begins greatestId isCustom isCode isData rank custom isCalled nameSection hintSection nothing seeing idRules nameRules section sections framing walk payloadOf payloadIn customPayload through metadataSection itemOf askMetadataThrough hex digit number groups utf8 continues following wellFormed sized name remaining lookup rows table anyItem metadata judgeMetadata itemAt askMetadata asPlace
+unfolding withData writePart shortest fewest ascii same preamble begins greatestId isCustom isCode isData rank custom isCalled nameSection hintSection nothing seeing idRules nameRules section sections framing walk payloadOf payloadIn customPayload through metadataSection itemOf askMetadataThrough hex digit number groups utf8 characters character completes sized name remaining lookup rows table anyItem metadata judgeMetadata itemAt askMetadata asPlace
 metadata-questions = record {
   find = place-calls _ (place-answers _
       (finds (hex "01 02 01 05 00", record { 0 = 2 }, record { 0 = 5 }) 5)
@@ -305,7 +305,7 @@ pub record HintQuestions : Type 0 where
   pub hint-through : HintCalls (λ (x : List ℕ × FunctionIndex × CodeOffset). askHintThrough (x .1) (x .2) (x .0))
 
 pub hint-questions : HintQuestions
-unfolding withHints writePart shortest fewest ascii same preamble begins greatestId isCustom isCode isData rank custom isCalled nameSection hintSection nothing seeing idRules nameRules section sections framing walk payloadOf payloadIn customPayload through askHintThrough hex digit number groups utf8 continues following wellFormed sized name remaining lookup rows table hintOf hintItem metadata judgeMetadata itemAt askMetadata hintIn askHint
+unfolding withHints writePart shortest fewest ascii same preamble begins greatestId isCustom isCode isData rank custom isCalled nameSection hintSection nothing seeing idRules nameRules section sections framing walk payloadOf payloadIn customPayload through askHintThrough hex digit number groups utf8 characters character completes sized name remaining lookup rows table hintOf hintItem metadata judgeMetadata itemAt askMetadata hintIn askHint
 hint-questions = record {
   hint = hint-calls _ (hint-answers _
       (hex "01 02 01 05 01 00", record { 0 = 2 }, record { 0 = 5 })

@@ -16,7 +16,7 @@ use Rattle.format.specs.Numbers.{number, groups, shortest, fewest}
 use Rattle.format.specs.Parts.{sized, name, remaining}
 use Rattle.format.specs.Reading.{Judged, accepted, refused, verdict}
 use Rattle.format.specs.Tables.{lookup, rows, table, size, mapTable}
-use Rattle.format.specs.Text.{utf8, continues, following, wellFormed}
+use Rattle.format.specs.Text.{utf8, characters, character, completes}
 use Rattle.format.specs.Walk.{preamble, begins, greatestId, isCustom, isCode, isData, rank, custom, isCalled, nameSection, hintSection, nothing, seeing, idRules, nameRules, section, sections, framing, walk, sectionCount}
 use Rattle.format.specs.Verdicts.{verdictOf}
 use Rattle.names.specs.Places.{Judges, verdictIn}
@@ -49,7 +49,7 @@ name-rows =
     []
 
 names-computed : map (λ (row : Row (List ℕ) (Judged (Unit {0}))). verdict (judgeNames knownKind 0 (row .input))) name-rows ≡ map (λ row. row .verdict) name-rows
-unfolding hex digit number groups utf8 continues following wellFormed sized name remaining lookup rows table known knownKind contents subsections payload judgeNames
+unfolding hex digit number groups utf8 characters character completes sized name remaining lookup rows table known knownKind contents subsections payload judgeNames
 names-computed = refl
 
 pub names-judge : Demanded (λ p r. Judges knownKind p 0 p r) (λ r. verdictOf (verdictIn r)) name-rows
@@ -111,7 +111,7 @@ section-rows =
     []
 
 sections-computed : map (λ (row : Row (List ℕ) (Judged ℕ)). sectionCount (row .input)) section-rows ≡ map (λ row. row .verdict) section-rows
-unfolding hex digit ascii same preamble begins greatestId isCustom isCode isData rank custom isCalled nameSection hintSection nothing seeing idRules nameRules section sections framing walk sectionCount number groups utf8 continues following wellFormed sized name remaining
+unfolding hex digit ascii same preamble begins greatestId isCustom isCode isData rank custom isCalled nameSection hintSection nothing seeing idRules nameRules section sections framing walk sectionCount number groups utf8 characters character completes sized name remaining
 sections-computed = refl
 
 pub walk-count : Demanded (λ m r. counted r ≡ sectionCount m) counted section-rows
@@ -136,7 +136,7 @@ module _ (wanted : List ℕ → Judged (List ℕ)) (rows : List (Row (List ℕ) 
   }
 
 pub rewrite-names : RewritesSo (canonicalNames knownKind) name-rows
-unfolding same hex digit number groups shortest fewest utf8 continues following wellFormed sized name remaining lookup size mapTable rows table known knownKind contents subsections payload judgeNames writePart writeRows writeTable unlessEmpty keepRows bare writeContent writeSubsections rewriteNames canonicalNames fitting writeAnswer outputAfter
+unfolding same hex digit number groups shortest fewest utf8 characters character completes sized name remaining lookup size mapTable rows table known knownKind contents subsections payload judgeNames writePart writeRows writeTable unlessEmpty keepRows bare writeContent writeSubsections rewriteNames canonicalNames fitting writeAnswer outputAfter
 rewrite-names = rewrites-so (canonicalNames knownKind) name-rows refl
 
 pub rewrite-metadata : RewritesSo canonicalMetadata metadata-rows

@@ -20,7 +20,7 @@ use Rattle.format.specs.Questions.{answer, asked, idOf, queryOf, askAt, ask, as
 use Rattle.format.specs.declared.Question.{Question}
 use Rattle.format.specs.Reading.{Judged, accepted}
 use Rattle.format.specs.Tables.{lookup, rows, table}
-use Rattle.format.specs.Text.{utf8, continues, following, wellFormed}
+use Rattle.format.specs.Text.{utf8, characters, character, completes}
 use Rattle.format.specs.Through.{through, askThrough, metadataSection, itemOf, askMetadataThrough}
 use Rattle.format.specs.Walk.{preamble, begins, greatestId, isCustom, isCode, isData, rank, custom, isCalled, nameSection, hintSection, nothing, seeing, idRules, nameRules, section, sections, framing, walk, payloadOf, payloadIn, customPayload}
 use Rattle.format.specs.declared.Answer.{Answer}
@@ -74,11 +74,11 @@ module _ (answer : Question → List ℕ → Judged (Option Part)) (lend : Strin
   each-hands (row ∷ rows) e = and-question {row = row} (hands-rightly {Asked = Unit {0}} (λ _ p. answer (row .question) p) tt (lend (row .empty)) (lend (row .padded)) (ahead + row .at) (row .byte) (cc) (cc)) (each-hands rows (cc))
 
 pub name-bytes : Each (Hands (ask knownKind) hex 0) tried
-unfolding hex digit number groups utf8 continues following wellFormed sized name remaining lookup rows table known knownKind contents subsections payload judgeNames answer asked askAt ask
+unfolding hex digit number groups utf8 characters character completes sized name remaining lookup rows table known knownKind contents subsections payload judgeNames answer asked askAt ask
 name-bytes = each-hands (ask knownKind) hex 0 tried refl
 
 pub name-bytes-through : Each (Hands (askThrough knownKind) withNames 15) tried
-unfolding withNames writePart shortest fewest ascii same preamble begins greatestId isCustom isCode isData rank custom isCalled nameSection hintSection nothing seeing idRules nameRules section sections framing walk payloadOf payloadIn customPayload through askThrough hex digit number groups utf8 continues following wellFormed sized name remaining lookup rows table known knownKind contents subsections payload judgeNames answer asked askAt ask
+unfolding withNames writePart shortest fewest ascii same preamble begins greatestId isCustom isCode isData rank custom isCalled nameSection hintSection nothing seeing idRules nameRules section sections framing walk payloadOf payloadIn customPayload through askThrough hex digit number groups utf8 characters character completes sized name remaining lookup rows table known knownKind contents subsections payload judgeNames answer asked askAt ask
 name-bytes-through = each-hands (askThrough knownKind) withNames 15 tried refl
 
 -- The data's bytes, of a payload and through a module
@@ -87,7 +87,7 @@ pub record MetadataBytes : Type 0 where
   pub metadata-bytes : HandsRightly (λ (k : List ℕ × FunctionIndex × CodeOffset) m. askMetadataThrough (k .0) (k .1) (k .2) m)
 
 pub metadata-bytes : MetadataBytes
-unfolding withData writePart shortest fewest ascii same preamble begins greatestId isCustom isCode isData rank custom isCalled nameSection hintSection nothing seeing idRules nameRules section sections framing walk payloadOf payloadIn customPayload through metadataSection itemOf askMetadataThrough hex digit number groups utf8 continues following wellFormed sized name remaining lookup rows table anyItem metadata judgeMetadata itemAt askMetadata
+unfolding withData writePart shortest fewest ascii same preamble begins greatestId isCustom isCode isData rank custom isCalled nameSection hintSection nothing seeing idRules nameRules section sections framing walk payloadOf payloadIn customPayload through metadataSection itemOf askMetadataThrough hex digit number groups utf8 characters character completes sized name remaining lookup rows table anyItem metadata judgeMetadata itemAt askMetadata
 metadata-bytes = record {
   find-bytes = hands-rightly _ (record { 0 = 2 }, record { 0 = 5 }) (hex "01 02 01 05 00") (hex "01 02 01 05 81 00 41") 5 0x41 refl refl;
   metadata-bytes = hands-rightly _ (ascii "x", record { 0 = 2 }, record { 0 = 5 }) (withData "01 02 01 05 00") (withData "01 02 01 05 81 00 41") 31 0x41 refl refl;

@@ -19,7 +19,7 @@ use Rattle.format.specs.declared.Question.{Question}
 use Rattle.format.specs.declared.Question.the-variants.{FunctionName, TypeName, TagName, LocalName, FieldName, ModuleName, KeptContents}
 use Rattle.format.specs.Reading.{Judged, accepted, refused}
 use Rattle.format.specs.Tables.{lookup, rows, table}
-use Rattle.format.specs.Text.{utf8, continues, following, wellFormed}
+use Rattle.format.specs.Text.{utf8, characters, character, completes}
 use Rattle.format.specs.declared.CodeOffset.{CodeOffset}
 use Rattle.format.specs.declared.FunctionIndex.{FunctionIndex}
 use Rattle.format.specs.declared.Hint.{Hint}
@@ -106,11 +106,11 @@ abbrev pub name-rows : (String → List ℕ) → ℕ → List (Row (List ℕ × 
 name-rows lend ahead = map (λ (s : Stopped). (lend (s .payload), s .question) demands moved ahead (s .told)) stopped
 
 pub names : PlacesDemanded (λ (x : List ℕ × Question). asPlace (ask knownKind (x .1) (x .0))) (name-rows hex 0)
-unfolding hex digit number groups utf8 continues following wellFormed sized name remaining lookup rows table known knownKind contents subsections payload judgeNames answer asked askAt ask asPlace
+unfolding hex digit number groups utf8 characters character completes sized name remaining lookup rows table known knownKind contents subsections payload judgeNames answer asked askAt ask asPlace
 names = places-demanded _ (name-rows hex 0) refl
 
 pub names-through : PlacesDemanded (λ (x : List ℕ × Question). asPlace (askThrough knownKind (x .1) (x .0))) (name-rows withNames 15)
-unfolding withNames writePart shortest fewest ascii same preamble begins greatestId isCustom isCode isData rank custom isCalled nameSection hintSection nothing seeing idRules nameRules section sections framing walk payloadOf payloadIn customPayload through askThrough hex digit number groups utf8 continues following wellFormed sized name remaining lookup rows table known knownKind contents subsections payload judgeNames answer asked askAt asPlace
+unfolding withNames writePart shortest fewest ascii same preamble begins greatestId isCustom isCode isData rank custom isCalled nameSection hintSection nothing seeing idRules nameRules section sections framing walk payloadOf payloadIn customPayload through askThrough hex digit number groups utf8 characters character completes sized name remaining lookup rows table known knownKind contents subsections payload judgeNames answer asked askAt asPlace
 names-through = places-demanded _ (name-rows withNames 15) refl
 
 abbrev pub find-rows : List (Row (List ℕ × FunctionIndex × CodeOffset) (Judged (Option Place)))

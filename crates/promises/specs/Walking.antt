@@ -15,7 +15,7 @@ use Rattle.format.specs.Parts.{sized, name, remaining}
 use Rattle.format.specs.Questions.{asPlace, answered}
 use Rattle.format.specs.Reading.{Outcome, got, stop, Judged, accepted, refused, mapJudged}
 use Rattle.format.specs.Refusals.{numberOf}
-use Rattle.format.specs.Text.{utf8, continues, following, wellFormed}
+use Rattle.format.specs.Text.{utf8, characters, character, completes}
 use Rattle.format.specs.Walk.{preamble, begins, greatestId, isCustom, isCode, isData, rank, custom, isCalled, nameSection, hintSection, nothing, seeing, idRules, nameRules, section, step, sections, framing, walk, sectionCount, sectionAt, payloadOf, payloadIn, customPayload}
 use Rattle.walk.specs.Sections.{seenOf}
 use Rattle.walk.specs.Steps.{Begins, Steps}
@@ -104,7 +104,7 @@ wm-section = answers-rightly (λ x a meets. ap saysSection meets ∙ section-sai
 
 -- the payload of the first custom section of a name, also of one that is lent in two pieces
 pub custom-payload : PlaceCalls (λ (x : List ℕ × List ℕ). asPlace (customPayload (x .1) (x .0)))
-unfolding module′ hex digit ascii same utf8 continues following wellFormed preamble begins greatestId isCustom isData rank isCode nothing seeing idRules nameRules isCalled nameSection hintSection section sections framing walk number groups sized name remaining custom payloadOf payloadIn customPayload asPlace
+unfolding module′ hex digit ascii same utf8 characters character completes preamble begins greatestId isCustom isData rank isCode nothing seeing idRules nameRules isCalled nameSection hintSection section sections framing walk number groups sized name remaining custom payloadOf payloadIn customPayload asPlace
 custom-payload = place-calls _ (place-answers _
     (finds (module′ "00 02 01 78", ascii "x") 12)
     (finds (module′ "00 03 01 78 AA", ascii "x") 12)
@@ -113,7 +113,7 @@ custom-payload = place-calls _ (place-answers _
     refl refl refl refl refl)
 
 pub custom-joined : AnswersRightly (λ (x : List ℕ × List ℕ × List ℕ) r. answered r ≡ asPlace (customPayload (x .1 ++ x .2) (x .0))) answered (λ p. p .length) 0
-unfolding module′ hex digit ascii same utf8 continues following wellFormed preamble begins greatestId isCustom isData rank isCode nothing seeing idRules nameRules isCalled nameSection hintSection section sections framing walk number groups sized name remaining custom payloadOf payloadIn customPayload asPlace
+unfolding module′ hex digit ascii same utf8 characters character completes preamble begins greatestId isCustom isData rank isCode nothing seeing idRules nameRules isCalled nameSection hintSection section sections framing walk number groups sized name remaining custom payloadOf payloadIn customPayload asPlace
 custom-joined = answers-rightly (λ x r meets. meets) (place-answers _
     (finds (module′ "00 03 02 78 79", ascii "x", ascii "y") 13)
     (finds (module′ "00 04 02 78 79 AA", ascii "x", ascii "y") 13)

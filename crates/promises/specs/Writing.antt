@@ -21,7 +21,7 @@ use Rattle.format.specs.Outputs.{fitting, writeAnswer, outputAfter, writtenAs, 
 use Rattle.format.specs.Parts.{sized, name, remaining}
 use Rattle.format.specs.Reading.{Judged, accepted, refused, mapJudged}
 use Rattle.format.specs.Tables.{lookup, size, mapTable, rows, table}
-use Rattle.format.specs.Text.{utf8, continues, following, wellFormed}
+use Rattle.format.specs.Text.{utf8, characters, character, completes}
 use Rattle.format.specs.Walk.{preamble, begins, nameSection, hintSection, nothing, sections, framing, walk, payloadIn}
 use Rattle.format.specs.declared.Written.{Written}
 use Rattle.wakemiono.specs.Boundary.{WmWrites}
@@ -132,7 +132,7 @@ module _ (wanted : List ℕ → Judged (List ℕ)) where
 
 -- A padded function name; nothing but an empty map; a map's second entry damaged; an output that is too short
 pub rewrite-names : RewriteCalls (canonicalNames knownKind)
-unfolding same hex digit number groups shortest fewest utf8 continues following wellFormed sized name remaining lookup size mapTable rows table known knownKind contents subsections payload judgeNames writePart writeRows writeTable unlessEmpty keepRows bare writeContent writeSubsections rewriteNames canonicalNames fitting writeAnswer outputAfter
+unfolding same hex digit number groups shortest fewest utf8 characters character completes sized name remaining lookup size mapTable rows table known knownKind contents subsections payload judgeNames writePart writeRows writeTable unlessEmpty keepRows bare writeContent writeSubsections rewriteNames canonicalNames fitting writeAnswer outputAfter
 rewrite-names = rewrite-calls (canonicalNames knownKind) (record {
   one = finds (hex "01 85 00 01 00 81 00 61", hex "AA AA AA AA AA AA AA") (hex "01 04 01 00 01 61");
   another = finds (hex "01 01 00", hex "AA") [];
@@ -183,7 +183,7 @@ rewrite-hints = rewrite-calls canonicalHints (record {
 
 -- From lists: one name; none; lists that disagree; a second index that is not above the first
 pub function-names : WriteCalls (λ (x : List ℕ × List ℕ × List ℕ). functionNames (x .0) (x .1) (x .2))
-unfolding same hex digit shortest fewest utf8 continues following wellFormed size writePart writeRows writeTable unlessEmpty keepRows writeContent writeSubsections sum listed unsortedAt badTextAt subsection functionNames fitting writeAnswer outputAfter
+unfolding same hex digit shortest fewest utf8 characters character completes size writePart writeRows writeTable unlessEmpty keepRows writeContent writeSubsections sum listed unsortedAt badTextAt subsection functionNames fitting writeAnswer outputAfter
 function-names = write-calls _ (record {
   one = finds ((0 ∷ [], 1 ∷ [], hex "61"), hex "AA AA AA AA AA AA AA") (hex "01 04 01 00 01 61");
   another = finds (([], [], []), hex "AA") [];

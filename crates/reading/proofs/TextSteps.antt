@@ -1,60 +1,65 @@
--- The ways through the text reader's functions: what stands at a byte, by how it and those behind it compare with the table.
-use Prim.Native.Nat.{ℕ, zero, suc, _+_, _-_, _≤_, _<_}
-use mathlib.Core.Bool.{Bool, true, false}
-use mathlib.Core.List.{List, [], _∷_}
+-- The ways through the text reader's functions: what stands at a byte, by the form that it begins.
+use Prim.Native.Nat.{ℕ, _+_, _-_, _%_, _≤_, _<_}
+use mathlib.Core.Bool.{Bool, true, false, _&&_, _||_}
+use mathlib.Core.List.{List}
 use mathlib.Core.Path.{_≡_, refl, sym, ap, _∙_}
 use native.Mathlib.Omega.{arith}
 use borrow.Author.Needs.{needs}
-use borrow.Author.Tests.{le-leb}
-use lib.Dec.{leb·suc-zero}
+use borrow.Author.Tests.{lt-ltb, le-ltb, le-leb, leb-true}
+use lib.Dec.{ltb, leb}
 use lib.ListN.{length, getD}
 use lib.Seq.{slice, slice-empty}
-use Rattle.format.specs.Text.{Range, inRange, following, wellFormed, continues, utf8}
-use Rattle.reading.specs.Texts.{between, secondOf, Begins, Passes, Stands}
-use Rattle.reading.proofs.TextLaws.{later, noByte, wants-ascii, wants-none, wants-two, wants-three, wants-four, wants-no-more, any-second, Wants, wants-first, wants-next, wants-other, wants-more, stands-some, stands-none}
+use Rattle.format.specs.Laws.Outcomes.{byTest, and-true}
+use Rattle.format.specs.Laws.Text.{form-one, form-none, form-two, form-three, form-four, form-above, text-end}
+use Rattle.format.specs.Text.{isAllowed, isLater, withLater, utf8}
+use Rattle.reading.specs.Texts.{Begins, Passes, Stands, twoComplete, threeComplete, fourComplete}
+use Rattle.reading.proofs.TextLaws.{completes-one, completes-two, completes-three, stands-some, stands-none, form-short, form-stands, form-fails}
 
--- The second byte's range, by the first
-module _ (first : ℕ) (r : Bool) (c : ℕ) where
-  pub second-E0 : first ≡ 0xE0 → r ≡ inRange c (between 0xA0 0xBF) → r ≡ inRange c (secondOf first)
-  unfolding secondOf
-  second-E0 e f = rw e f
+-- Code points: with each later byte they grow by six bits, and stay small
+module _ (code b next : ℕ) (e : next ≡ withLater code b) where
+  pub still-small : code < 16 → next < 1024
+  still-small h = omega arith
 
-  pub second-ED : first ≡ 0xED → r ≡ inRange c (between 0x80 0x9F) → r ≡ inRange c (secondOf first)
-  unfolding secondOf
-  second-ED e f = rw e f
+  pub still-fits : code < 1024 → next < 0x10000
+  still-fits h = omega arith
 
-  pub second-F0 : first ≡ 0xF0 → r ≡ inRange c (between 0x90 0xBF) → r ≡ inRange c (secondOf first)
-  unfolding secondOf
-  second-F0 e f = rw e f
+-- and a form can reach only some of the limits
+below-surrogates : (least code : ℕ) → code < 0xD800 → leb least code ≡ isAllowed least code
+below-surrogates least code h = byTest (leb least code) (λ t. rw (t, lt-ltb code 0xD800 h, le-leb code 0x10FFFF (omega arith)) refl) (λ t. rw t refl)
 
-  pub second-F4 : first ≡ 0xF4 → r ≡ inRange c (between 0x80 0x8F) → r ≡ inRange c (secondOf first)
-  unfolding secondOf
-  second-F4 e f = rw e f
+below-greatest : (least code : ℕ) → code < 0x10000 → (leb least code && (ltb code 0xD800 || ltb 0xDFFF code)) ≡ isAllowed least code
+below-greatest least code h = rw (le-leb code 0x10FFFF (omega arith), and-true (ltb code 0xD800 || ltb 0xDFFF code)) refl
 
-  pub second-other : (first ≡ 0xE0 → ⊥) → (first ≡ 0xED → ⊥) → (first ≡ 0xF0 → ⊥) → (first ≡ 0xF4 → ⊥) → r ≡ inRange c (between 0x80 0xBF) → r ≡ inRange c (secondOf first)
-  second-other p q u t f = f ∙ ap (inRange c) (sym (any-second first p q u t))
+above-surrogates : (least code : ℕ) → 0xE000 ≤ least → (leb least code && leb code 0x10FFFF) ≡ isAllowed least code
+above-surrogates least code h =
+    byTest (leb least code)
+    (λ t. let u = leb-true least code t in rw (t, le-ltb code 0xD800 (omega arith), lt-ltb 0xDFFF code (omega arith)) refl)
+    (λ t. rw t refl)
 
-pub ruleset seconds = (second-E0, second-ED, second-F0, second-F4, second-other, needs)
+module _ (first b code : ℕ) (later : Bool) (f : later ≡ isLater b) where
+  pub two-complete : code ≡ withLater (first % 32) b → (later && leb 0x80 code) ≡ twoComplete first b
+  two-complete e = rw (f, e) (ap (λ t. isLater b && t) (below-surrogates 0x80 (withLater (first % 32) b) (omega arith)))
 
-refuses : (bs : List ℕ) → continues (noByte ∷ []) bs ≡ false
-unfolding continues
-refuses [] = refl
-refuses (zero ∷ bs) = refl
-refuses (suc b ∷ bs) = simp (le-leb 1 (suc b) (omega arith), leb·suc-zero b)
+module _ (first b c code next : ℕ) (later later′ : Bool) (f : later ≡ isLater b) (f′ : later′ ≡ isLater c) where
+  pub three-complete : code ≡ withLater (first % 16) b → next ≡ withLater code c → (later && (later′ && (leb 0x800 next && (ltb next 0xD800 || ltb 0xDFFF next)))) ≡ threeComplete first b c
+  three-complete e e′ = rw (f, f′, e′, e) (ap (λ t. isLater b && (isLater c && t)) (below-greatest 0x800 (withLater (withLater (first % 16) b) c) (omega arith)))
+
+module _ (first b c d code next last : ℕ) (later later′ later″ : Bool) (f : later ≡ isLater b) (f′ : later′ ≡ isLater c) (f″ : later″ ≡ isLater d) where
+  pub four-complete : code ≡ withLater (first % 8) b → next ≡ withLater code c → last ≡ withLater next d → (later && (later′ && (later″ && (leb 0x10000 last && leb last 0x10FFFF)))) ≡ fourComplete first b c d
+  four-complete e e′ e″ = rw (f, f′, f″, e″, e′, e) (ap (λ t. isLater b && (isLater c && (isLater d && t))) (above-surrogates 0x10000 (withLater (withLater (withLater (first % 8) b) c) d) (omega arith)))
+
+pub ruleset forms = (two-complete, three-complete, four-complete, still-small, still-fits, needs)
 
 -- One byte, or none
 module _ {s : List ℕ} {i end : ℕ} (p : i < end) (q : end ≤ length s) where
   pub ascii-stands : getD s i 0 < 0x80 → Stands s i end 1
-  ascii-stands h = stands-some 1 (λ e. absurd (omega arith)) (wants-first q p [] (wants-ascii _ h))
+  ascii-stands h = stands-some s q p 0 (omega arith) (form-one _ _ h)
 
-  no-byte : noByte ∷ [] ≡ following (getD s i 0) wellFormed → Stands s i end 0
-  no-byte e = stands-none p (wants-first q p (noByte ∷ []) e .rest ∙ refuses _)
+  pub below-stands : 0x80 ≤ getD s i 0 → getD s i 0 < 0xC0 → Stands s i end 0
+  below-stands h k = stands-none s q p (form-none _ _ h k)
 
-  pub below-stands : 0x80 ≤ getD s i 0 → getD s i 0 < 0xC2 → Stands s i end 0
-  below-stands h k = no-byte (wants-none _ h k)
-
-  pub above-stands : 0xF5 ≤ getD s i 0 → Stands s i end 0
-  above-stands h = no-byte (wants-no-more _ (omega arith) h)
+  pub above-stands : 0xF8 ≤ getD s i 0 → Stands s i end 0
+  above-stands h = stands-none s q p (form-above _ _ h)
 
   pub begins : {low high : ℕ} → low ≤ getD s i 0 → getD s i 0 < high → Begins s i end low high
   begins h k = record { before = p; lent = q; at-least = h; below = k }
@@ -62,95 +67,83 @@ module _ {s : List ℕ} {i end : ℕ} (p : i < end) (q : end ≤ length s) where
 pub ruleset firsts = (ascii-stands, below-stands, above-stands, begins, needs)
 
 -- Two bytes
-module _ {s : List ℕ} {i end : ℕ} (b : Begins s i end 0xC2 0xE0) where
-  wanted₂ : Wants s i end (i + 1) (later ∷ [])
-  wanted₂ = wants-first (b .lent) (b .before) _ (wants-two _ (b .at-least) (b .below))
-
+module _ {s : List ℕ} {i end : ℕ} (b : Begins s i end 0xC0 0xE0) where
   pub two-short : end - i < 2 → Stands s i end 0
-  two-short h = stands-none (b .before) (wants-more (b .lent) wanted₂ (omega arith))
+  two-short h = form-short s (b .lent) (b .before) 1 0x80 (getD s i 0 % 32) (form-two _ _ (b .at-least) (b .below)) h
 
-  module _ (h : 2 ≤ end - i) {t : Bool} (e : t ≡ inRange (getD s (i + 1) 0) (between 0x80 0xBF)) where
+  module _ (h : 2 ≤ end - i) {t : Bool} (e : t ≡ twoComplete (getD s i 0) (getD s (i + 1) 0)) where
     pub two-stand : t ≡ true → Stands s i end 2
-    two-stand f =
-        let all = wants-next (b .lent) wanted₂ (omega arith) (sym e ∙ f) in
-        let far : i + 1 + 1 ≡ i + 2 = omega arith in
-        stands-some 2 (λ z. absurd (omega arith)) (rw far at all)
+    two-stand f = form-stands s (b .lent) (b .before) 1 0x80 (getD s i 0 % 32) (form-two _ _ (b .at-least) (b .below)) (e ∙ sym (completes-one s (b .lent) i 0x80 (getD s i 0 % 32) h)) f h
 
     pub two-other : t ≡ false → Stands s i end 0
-    two-other f = stands-none (b .before) (wants-other (b .lent) wanted₂ (omega arith) (sym e ∙ f))
+    two-other f = form-fails s (b .lent) (b .before) 1 0x80 (getD s i 0 % 32) (form-two _ _ (b .at-least) (b .below)) (e ∙ sym (completes-one s (b .lent) i 0x80 (getD s i 0 % 32) h)) f
 
 pub ruleset twos = (two-short, two-stand, two-other, needs)
 
--- Three bytes and four: the second by the first, then later ones
-module _ {s : List ℕ} {i end : ℕ} {rs : List Range} (lent : end ≤ length s) (w : Wants s i end (i + 1) (secondOf (getD s i 0) ∷ rs)) (h : 2 ≤ end - i) {t : Bool} (e : t ≡ inRange (getD s (i + 1) 0) (secondOf (getD s i 0))) where
-  behind-second : t ≡ true → Wants s i end (i + 2) rs
-  behind-second f =
-      let all = wants-next lent w (omega arith) (sym e ∙ f) in
-      let far : i + 1 + 1 ≡ i + 2 = omega arith in
-      rw far at all
-
-  second-fails : t ≡ false → Stands s i end 0
-  second-fails f = stands-none (omega arith) (wants-other lent w (omega arith) (sym e ∙ f))
-
-module _ {s : List ℕ} {i end : ℕ} {rs : List Range} (lent : end ≤ length s) (k : ℕ) (w : Wants s i end (i + k) (later ∷ rs)) (h : suc k ≤ end - i) {t : Bool} (e : t ≡ inRange (getD s (i + k) 0) (between 0x80 0xBF)) where
-  behind-later : t ≡ true → Wants s i end (i + suc k) rs
-  behind-later f =
-      let all = wants-next lent w (omega arith) (sym e ∙ f) in
-      let far : i + k + 1 ≡ i + suc k = omega arith in
-      rw far at all
-
-  later-fails : t ≡ false → Stands s i end 0
-  later-fails f = stands-none (omega arith) (wants-other lent w (omega arith) (sym e ∙ f))
-
+-- Three bytes
 module _ {s : List ℕ} {i end : ℕ} (b : Begins s i end 0xE0 0xF0) where
-  wanted₃ : Wants s i end (i + 1) (secondOf (getD s i 0) ∷ later ∷ [])
-  wanted₃ = wants-first (b .lent) (b .before) _ (wants-three _ (b .at-least) (b .below))
-
   pub three-short : end - i < 3 → Stands s i end 0
-  three-short h = stands-none (b .before) (wants-more (b .lent) wanted₃ (omega arith))
+  three-short h = form-short s (b .lent) (b .before) 2 0x800 (getD s i 0 % 16) (form-three _ _ (b .at-least) (b .below)) h
 
-  module _ (h : 3 ≤ end - i) {t : Bool} (e : t ≡ inRange (getD s (i + 1) 0) (secondOf (getD s i 0))) where
-    pub three-second : t ≡ false → Stands s i end 0
-    three-second f = second-fails (b .lent) wanted₃ (omega arith) e f
+  module _ (h : 3 ≤ end - i) {t : Bool} (e : t ≡ threeComplete (getD s i 0) (getD s (i + 1) 0) (getD s (i + 2) 0)) where
+    pub three-stand : t ≡ true → Stands s i end 3
+    three-stand f = form-stands s (b .lent) (b .before) 2 0x800 (getD s i 0 % 16) (form-three _ _ (b .at-least) (b .below)) (e ∙ sym (completes-two s (b .lent) i 0x800 (getD s i 0 % 16) h)) f h
 
-    module _ (f : t ≡ true) {u : Bool} (g : u ≡ inRange (getD s (i + 2) 0) (between 0x80 0xBF)) where
-      pub three-third : u ≡ false → Stands s i end 0
-      three-third x = later-fails (b .lent) 2 (behind-second (b .lent) wanted₃ (omega arith) e f) h g x
+    pub three-other : t ≡ false → Stands s i end 0
+    three-other f = form-fails s (b .lent) (b .before) 2 0x800 (getD s i 0 % 16) (form-three _ _ (b .at-least) (b .below)) (e ∙ sym (completes-two s (b .lent) i 0x800 (getD s i 0 % 16) h)) f
 
-      pub three-stand : u ≡ true → Stands s i end 3
-      three-stand x = stands-some 3 (λ z. absurd (omega arith)) (behind-later (b .lent) 2 (behind-second (b .lent) wanted₃ (omega arith) e f) h g x)
+pub ruleset threes = (three-short, three-stand, three-other, needs)
 
-pub ruleset threes = (three-short, three-second, three-third, three-stand, needs)
-
-module _ {s : List ℕ} {i end : ℕ} (b : Begins s i end 0xF0 0xF5) where
-  wanted₄ : Wants s i end (i + 1) (secondOf (getD s i 0) ∷ later ∷ later ∷ [])
-  wanted₄ = wants-first (b .lent) (b .before) _ (wants-four _ (b .at-least) (b .below))
-
+-- Four bytes
+module _ {s : List ℕ} {i end : ℕ} (b : Begins s i end 0xF0 0xF8) where
   pub four-short : end - i < 4 → Stands s i end 0
-  four-short h = stands-none (b .before) (wants-more (b .lent) wanted₄ (omega arith))
+  four-short h = form-short s (b .lent) (b .before) 3 0x10000 (getD s i 0 % 8) (form-four _ _ (b .at-least) (b .below)) h
 
-  module _ (h : 4 ≤ end - i) {t : Bool} (e : t ≡ inRange (getD s (i + 1) 0) (secondOf (getD s i 0))) where
-    pub four-second : t ≡ false → Stands s i end 0
-    four-second f = second-fails (b .lent) wanted₄ (omega arith) e f
+  module _ (h : 4 ≤ end - i) {t : Bool} (e : t ≡ fourComplete (getD s i 0) (getD s (i + 1) 0) (getD s (i + 2) 0) (getD s (i + 3) 0)) where
+    pub four-stand : t ≡ true → Stands s i end 4
+    four-stand f = form-stands s (b .lent) (b .before) 3 0x10000 (getD s i 0 % 8) (form-four _ _ (b .at-least) (b .below)) (e ∙ sym (completes-three s (b .lent) i 0x10000 (getD s i 0 % 8) h)) f h
 
-    module _ (f : t ≡ true) {u : Bool} (g : u ≡ inRange (getD s (i + 2) 0) (between 0x80 0xBF)) where
-      third : Wants s i end (i + 2) (later ∷ later ∷ [])
-      third = behind-second (b .lent) wanted₄ (omega arith) e f
+    pub four-other : t ≡ false → Stands s i end 0
+    four-other f = form-fails s (b .lent) (b .before) 3 0x10000 (getD s i 0 % 8) (form-four _ _ (b .at-least) (b .below)) (e ∙ sym (completes-three s (b .lent) i 0x10000 (getD s i 0 % 8) h)) f
 
-      pub four-third : u ≡ false → Stands s i end 0
-      four-third x = later-fails (b .lent) 2 third (omega arith) g x
+pub ruleset fours = (four-short, four-stand, four-other, needs)
 
-      module _ (x : u ≡ true) {v : Bool} (y : v ≡ inRange (getD s (i + 3) 0) (between 0x80 0xBF)) where
-        fourth : Wants s i end (i + 3) (later ∷ [])
-        fourth = behind-later (b .lent) 2 third (omega arith) g x
+-- Where no character can be cut short
+near : {i end : ℕ} → i + 4 ≤ end → i < end
+near p = omega arith
 
-        pub four-fourth : v ≡ false → Stands s i end 0
-        four-fourth z = later-fails (b .lent) 3 fourth h y z
+module _ {s : List ℕ} {i end : ℕ} (p : i + 4 ≤ end) (q : end ≤ length s) where
+  pub whole-one : getD s i 0 < 0x80 → Stands s i end 1
+  whole-one h = ascii-stands (near p) q h
 
-        pub four-stand : v ≡ true → Stands s i end 4
-        four-stand z = stands-some 4 (λ a. absurd (omega arith)) (behind-later (b .lent) 3 fourth h y z)
+  pub whole-below : 0x80 ≤ getD s i 0 → getD s i 0 < 0xC0 → Stands s i end 0
+  whole-below h k = below-stands (near p) q h k
 
-pub ruleset fours = (four-short, four-second, four-third, four-fourth, four-stand, needs)
+  pub whole-above : 0xF8 ≤ getD s i 0 → Stands s i end 0
+  whole-above h = above-stands (near p) q h
+
+  module _ (h : 0xC0 ≤ getD s i 0) (k : getD s i 0 < 0xE0) {t : Bool} (e : t ≡ twoComplete (getD s i 0) (getD s (i + 1) 0)) where
+    pub whole-two : t ≡ true → Stands s i end 2
+    whole-two f = two-stand (begins (near p) q h k) (omega arith) e f
+
+    pub no-two : t ≡ false → Stands s i end 0
+    no-two f = two-other (begins (near p) q h k) (omega arith) e f
+
+  module _ (h : 0xE0 ≤ getD s i 0) (k : getD s i 0 < 0xF0) {t : Bool} (e : t ≡ threeComplete (getD s i 0) (getD s (i + 1) 0) (getD s (i + 2) 0)) where
+    pub whole-three : t ≡ true → Stands s i end 3
+    whole-three f = three-stand (begins (near p) q h k) (omega arith) e f
+
+    pub no-three : t ≡ false → Stands s i end 0
+    no-three f = three-other (begins (near p) q h k) (omega arith) e f
+
+  module _ (h : 0xF0 ≤ getD s i 0) (k : getD s i 0 < 0xF8) {t : Bool} (e : t ≡ fourComplete (getD s i 0) (getD s (i + 1) 0) (getD s (i + 2) 0) (getD s (i + 3) 0)) where
+    pub whole-four : t ≡ true → Stands s i end 4
+    whole-four f = four-stand (begins (near p) q h k) (omega arith) e f
+
+    pub no-four : t ≡ false → Stands s i end 0
+    no-four f = four-other (begins (near p) q h k) (omega arith) e f
+
+pub ruleset wholes = (whole-one, whole-below, whole-above, whole-two, no-two, whole-three, no-three, whole-four, no-four, needs)
 
 -- From character to character
 pub passes-none : {s : List ℕ} {i end : ℕ} → i ≤ end → Passes s i end i
@@ -171,7 +164,6 @@ module _ {s : List ℕ} {from end i : ℕ} (u : Passes s from end i) where
     no-text p = sym (u .same ∙ c .none p)
 
   pub all-text : end ≤ i → true ≡ utf8 (slice from end s)
-  unfolding utf8 continues
-  all-text h = let e : i ≡ end = omega (arith, u .within) in sym (u .same ∙ rw (e, slice-empty) refl)
+  all-text h = let e : i ≡ end = omega (arith, u .within) in sym (u .same ∙ rw (e, slice-empty) text-end)
 
 pub ruleset turns = (passes-none, passes-join, passed, passes-character, no-text, all-text, needs)

@@ -1,12 +1,11 @@
 -- What the text reader promises of the bytes that it looks at: ASCII in blocks, characters one by one.
-use Prim.Native.Nat.{ℕ, _+_, _≤_, _<_}
-use mathlib.Core.Bool.{Bool, true, false, cond}
+use Prim.Native.Nat.{ℕ, _+_, _%_, _≤_, _<_}
+use mathlib.Core.Bool.{Bool, true, false, _&&_}
 use mathlib.Core.List.{List}
 use mathlib.Core.Path.{_≡_}
-use lib.Dec.{eqb}
 use lib.ListN.{length, getD}
 use lib.Seq.{slice}
-use Rattle.format.specs.Text.{Range, _to_, utf8}
+use Rattle.format.specs.Text.{isAllowed, isLater, withLater, utf8}
 
 -- told so, the `n` bytes from `i` on are ASCII
 pub record SeesAscii (s : List ℕ) (i n : ℕ) (told : Bool) : Type 0 where
@@ -25,17 +24,15 @@ pub record Begins (s : List ℕ) (i end low high : ℕ) : Type 0 where
   pub at-least : low ≤ getD s i 0
   pub below : getD s i 0 < high
 
-abbrev pub between : ℕ → ℕ → Range
-between low high = low to high
+-- whether the bytes of a form complete a code point that is allowed: `completes` in `format`, by the bytes one by one
+abbrev pub twoComplete : (first b : ℕ) → Bool
+twoComplete first b = isLater b && isAllowed 0x80 (withLater (first % 32) b)
 
--- what the second byte of a character may be, by the first
-unfoldable pub secondOf : ℕ → Range
-secondOf first =
-    cond (eqb first 0xE0) (0xA0 to 0xBF)
-    (cond (eqb first 0xED) (0x80 to 0x9F)
-    (cond (eqb first 0xF0) (0x90 to 0xBF)
-    (cond (eqb first 0xF4) (0x80 to 0x8F)
-    (0x80 to 0xBF))))
+abbrev pub threeComplete : (first b c : ℕ) → Bool
+threeComplete first b c = isLater b && (isLater c && isAllowed 0x800 (withLater (withLater (first % 16) b) c))
+
+abbrev pub fourComplete : (first b c d : ℕ) → Bool
+fourComplete first b c d = isLater b && (isLater c && (isLater d && isAllowed 0x10000 (withLater (withLater (withLater (first % 8) b) c) d)))
 
 -- at `i` stands a character of `n` bytes, before `end`; where none stands, n is 0 and what begins there is no text
 pub record Stands (s : List ℕ) (i end n : ℕ) : Type 0 where

@@ -1,56 +1,67 @@
-// Valid UTF-8, by the byte ranges of the Unicode Standard's table, whose numbers stand here as they do there.
+// Valid UTF-8: each character is worked out from its bytes and compared with the limits, as the definition does.
 ghost use mathlib.Core.Path.{_≡_};
-ghost use Prim.Native.Nat.{_≤_, _<_};
+ghost use Prim.Native.Nat.{_≤_, _<_, _+_};
 ghost use lib.ListN.{length};
-ghost use Rattle.format.specs.Text.{inRange};
-ghost use Rattle.reading.specs.Texts.{between, Begins, secondOf, Passes, Stands};
+ghost use Rattle.format.specs.Text.{isLater, withLater};
 ghost use Rattle.reading.specs.Promises.{reading-is-text};
+ghost use Rattle.reading.specs.Texts.{Begins, Passes, Stands, twoComplete, threeComplete, fourComplete};
 use crate::ascii::after_ascii;
 
 // No character is longer.
 const LONGEST: usize = 4;
 
-fn is_between(b: u8, low: u8, high: u8) -> bool
-    ensures { λ r. ⌜ r ≡ inRange b (between low high) ⌝ }
-{
-    (low <= b) & (b <= high)
-}
+// A byte behind the first has so many values: six bits of the code point.
+const LATER: u8 = 64;
 
-// Any byte of a character but the first two.
+// A byte behind a character's first begins with the bits 10.
 fn is_later(b: u8) -> bool
-    ensures { λ r. ⌜ r ≡ inRange b (between 0x80 0xBF) ⌝ }
+    ensures { λ r. ⌜ r ≡ isLater b ⌝ }
 {
-    is_between(b, 0x80, 0xBF)
+    (0x80 <= b) & (b < 0xC0)
 }
 
-// The second byte: four first bytes allow only some, so that nothing is overlong, a surrogate or above U+10FFFF.
-fn is_second(first: u8, b: u8) -> bool
-    ensures { λ r. ⌜ r ≡ inRange b (secondOf first) ⌝ }
+// The code point with the six bits of such a byte.
+fn with_later(code: u32, b: u8) -> u32
+    requires { ⌜ code < 0x10000 ⌝ }
+    ensures { λ r. ⌜ r ≡ withLater code b ⌝ }
 {
-    if first == 0xE0 {
-        return is_between(b, 0xA0, 0xBF);
-    }
-    if first == 0xED {
-        return is_between(b, 0x80, 0x9F);
-    }
-    if first == 0xF0 {
-        return is_between(b, 0x90, 0xBF);
-    }
-    if first == 0xF4 {
-        return is_between(b, 0x80, 0x8F);
-    }
-    is_later(b)
+    code * LATER as u32 + (b % LATER) as u32
+}
+
+// Whether two bytes are a character. Of the first, the five low bits are those of the code point. Each form compares it with
+// the limits that it can reach.
+fn is_two(first: u8, b: u8) -> bool
+    ensures { λ r. ⌜ r ≡ twoComplete first b ⌝ }
+{
+    let code = with_later((first % 32) as u32, b);
+    is_later(b) & (0x80 <= code)
+}
+
+// Three; of the first, the four low bits.
+fn is_three(first: u8, b: u8, c: u8) -> bool
+    ensures { λ r. ⌜ r ≡ threeComplete first b c ⌝ }
+{
+    let code = with_later(with_later((first % 16) as u32, b), c);
+    is_later(b) & (is_later(c) & ((0x800 <= code) & ((code < 0xD800) | (0xDFFF < code))))
+}
+
+// Four; of the first, the three low bits.
+fn is_four(first: u8, b: u8, c: u8, d: u8) -> bool
+    ensures { λ r. ⌜ r ≡ fourComplete first b c d ⌝ }
+{
+    let code = with_later(with_later(with_later((first % 8) as u32, b), c), d);
+    is_later(b) & (is_later(c) & (is_later(d) & ((0x10000 <= code) & (code <= 0x10FFFF))))
 }
 
 // A character of two bytes, by its first byte.
 fn two(s: &[u8], i: usize, to: usize) -> usize
-    requires { ⌜ Begins (now s) i to 0xC2 0xE0 ⌝ }
+    requires { ⌜ Begins (now s) i to 0xC0 0xE0 ⌝ }
     ensures { λ r. ⌜ Stands (now (s .entry)) i to r ⌝ }
 {
     if to - i < 2 {
         return 0;
     }
-    if is_later(s[i + 1]) {
+    if is_two(s[i], s[i + 1]) {
         return 2;
     }
     0
@@ -64,28 +75,22 @@ fn three(s: &[u8], i: usize, to: usize) -> usize
     if to - i < 3 {
         return 0;
     }
-    if is_second(s[i], s[i + 1]) {
-        if is_later(s[i + 2]) {
-            return 3;
-        }
+    if is_three(s[i], s[i + 1], s[i + 2]) {
+        return 3;
     }
     0
 }
 
 // Of four bytes.
 fn four(s: &[u8], i: usize, to: usize) -> usize
-    requires { ⌜ Begins (now s) i to 0xF0 0xF5 ⌝ }
+    requires { ⌜ Begins (now s) i to 0xF0 0xF8 ⌝ }
     ensures { λ r. ⌜ Stands (now (s .entry)) i to r ⌝ }
 {
     if to - i < 4 {
         return 0;
     }
-    if is_second(s[i], s[i + 1]) {
-        if is_later(s[i + 2]) {
-            if is_later(s[i + 3]) {
-                return 4;
-            }
-        }
+    if is_four(s[i], s[i + 1], s[i + 2], s[i + 3]) {
+        return 4;
     }
     0
 }
@@ -99,29 +104,65 @@ fn character(s: &[u8], i: usize, to: usize) -> usize
     if first < 0x80 {
         return 1;
     }
+    if first < 0xC0 {
+        return 0;
+    }
     if first < 0xE0 {
-        if first < 0xC2 {
-            return 0;
-        }
         return two(s, i, to);
     }
     if first < 0xF0 {
         return three(s, i, to);
     }
-    if first < 0xF5 {
+    if first < 0xF8 {
         return four(s, i, to);
     }
     0
 }
 
-// As far as characters go, up to where one could be cut short: until there none has to look for the end.
+// The same where no character can be cut short, so that none looks for the end.
+fn whole(s: &[u8], i: usize, to: usize) -> usize
+    requires { ⌜ (i + 4 ≤ to) × (to ≤ length (now s)) ⌝ }
+    ensures { λ r. ⌜ Stands (now (s .entry)) i to r ⌝ }
+{
+    let first = s[i];
+    if first < 0x80 {
+        return 1;
+    }
+    if first < 0xE0 {
+        if first < 0xC0 {
+            return 0;
+        }
+        if is_two(first, s[i + 1]) {
+            return 2;
+        }
+        return 0;
+    }
+    if first < 0xF0 {
+        if is_three(first, s[i + 1], s[i + 2]) {
+            return 3;
+        }
+        return 0;
+    }
+    if first < 0xF8 {
+        if is_four(first, s[i + 1], s[i + 2], s[i + 3]) {
+            return 4;
+        }
+    }
+    0
+}
+
+// As far as characters go, up to where one could be cut short.
 fn after_characters(s: &[u8], from: usize, to: usize) -> usize
     requires { ⌜ (from ≤ to) × (to ≤ length (now s)) ⌝ }
     ensures { λ r. ⌜ Passes (now (s .entry)) from to r ⌝ }
 {
+    if to < LONGEST {
+        return from;
+    }
+    let last = to - LONGEST;
     let mut i = from;
-    while LONGEST <= to - i {
-        let n = character(s, i, to);
+    while i <= last {
+        let n = whole(s, i, to);
         if n == 0 {
             return i;
         }

@@ -37,6 +37,9 @@ const SECTIONS_ASKED: u64 = 12;
 /// How many positions behind them are asked for too.
 const POSITIONS_BEHIND: u64 = 2;
 
+/// A text whose length is a number of one byte, as that of the subsection which it fills.
+pub const SHORT_TEXT: usize = 126;
+
 /// Indices and offsets that are asked for; the made payloads use them too.
 pub const KEYS: [u32; 8] = [0, 1, 2, 3, 127, 128, 300, u32::MAX];
 
@@ -106,6 +109,16 @@ impl Tally {
         assert_eq!(told, Told::from(reader(bytes)), "{call} of {bytes:02X?}");
         self.calls += 1;
         told
+    }
+
+    /// Whether a short text is one: the judgement of the payload whose module name it is.
+    pub fn text(&mut self, text: &[u8]) {
+        let mut payload = [0; SHORT_TEXT + 3];
+        let length = u8::try_from(text.len()).expect("a short text");
+        payload[1] = length + 1;
+        payload[2] = length;
+        payload[3..text.len() + 3].copy_from_slice(text);
+        ask!(self, &payload[..text.len() + 3], names_judge);
     }
 
     /// Every question to a name payload.

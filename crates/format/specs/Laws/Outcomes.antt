@@ -41,6 +41,10 @@ pub onBoth {ℓ} : {C : Type ℓ} (a b : Bool) → (a && b) ≡ true → (a ≡ 
 onBoth true b e k = k refl e
 onBoth false b e k = false-true e
 
+pub and-true : (b : Bool) → (b && true) ≡ b
+and-true true = refl
+and-true false = refl
+
 pub and-false : (b : Bool) → (b && false) ≡ false
 and-false true = refl
 and-false false = refl

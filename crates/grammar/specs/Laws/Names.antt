@@ -21,8 +21,7 @@ use Rattle.format.specs.declared.Reason.the-variants.{NotText}
 use Rattle.grammar.specs.Lists.{Sized}
 use Rattle.grammar.specs.Names.{Name, name as named, NameMap, IndirectNameMap, SourceIds, moduleName, functionNames, localNames, typeNames, fieldNames, tagNames, anyOther, Contents, aName, aNameMap, anIndirectNameMap, anyBytes, Subsections, noSubsection, subsection, NamePayload, payload as aPayload}
 use Rattle.grammar.specs.Laws.Exact.{read-bytes, left-bytes, no-longer, Exact, fills-sound, fills-complete}
-use Rattle.grammar.specs.Laws.Ranges.{text-utf8}
-use Rattle.grammar.specs.Laws.Texts.{utf8-text}
+use Rattle.grammar.specs.Laws.CodePoints.{utf8-text, text-utf8}
 use Rattle.grammar.specs.Laws.Lists.{sized-exact, contents-bytes, tested-exact, table-exact, From, fromNil, fromRow, from-increasing, increasing-from}
 
 name-from : (bs x : List ℕ) → Name bs x → Sized bs x × (utf8 x ≡ true)

@@ -6,8 +6,8 @@ use mathlib.Core.Path.{_≡_, refl, ap, _∙_}
 use native.Mathlib.Omega.{arith}
 use borrow.Author.Tests.{ltb-true, ltb-false, le-leb, lt-leb}
 use lib.Dec.{ltb, leb}
-use Rattle.format.specs.Text.{Range, _to_, inRange, wellFormed, following, continues, utf8}
 use Rattle.format.specs.Laws.Outcomes.{byTest}
+use Rattle.grammar.specs.Ranges.{Range, _to_, inRange, wellFormed, following, continues, byRanges}
 use Rattle.grammar.specs.Texts.{Character, beforeSurrogates, afterSurrogates, Encoding, one, two, three, four, Text, empty, character}
 
 within : (b low high : ℕ) → low ≤ b → b ≤ high → inRange b (low to high) ≡ true
@@ -99,7 +99,7 @@ encoding-good (beforeSurrogates k) (three {c = c} l h) bs = three-below c bs l k
 encoding-good (afterSurrogates k m) (three {c = c} l h) bs = three-above c bs k h
 encoding-good ch (four {c = c} l h) bs = four-good c bs l h
 
-pub text-utf8 : {bs cs : List ℕ} → Text bs cs → utf8 bs ≡ true
-unfolding utf8 continues
-text-utf8 empty = refl
-text-utf8 (character {bs = bs} ch e t) = encoding-good ch e bs ∙ text-utf8 t
+pub text-ranges : {bs cs : List ℕ} → Text bs cs → byRanges bs ≡ true
+unfolding byRanges continues
+text-ranges empty = refl
+text-ranges (character {bs = bs} ch e t) = encoding-good ch e bs ∙ text-ranges t

@@ -7,24 +7,24 @@ use native.Mathlib.Omega.{arith}
 use borrow.Author.Tests.{leb-true}
 use lib.Dec.{leb}
 use lib.ListN.{length}
-use Rattle.format.specs.Text.{Range, _to_, inRange, Row, form, wellFormed, following, continues, utf8}
 use Rattle.format.specs.Laws.Outcomes.{byTest, false-true, onBoth}
+use Rattle.grammar.specs.Ranges.{Range, _to_, inRange, Row, form, wellFormed, following, continues, byRanges}
 use Rattle.grammar.specs.Texts.{Character, beforeSurrogates, afterSurrogates, one, two, three, four, Text, empty, character}
 use Rattle.grammar.specs.Laws.Ranges.{tail}
 
-abbrev HasText : List ℕ → Type 0
+abbrev pub HasText : List ℕ → Type 0
 HasText bs = (cs : List ℕ) × Text bs cs
 
-a-one : (b : ℕ) (bs : List ℕ) → b ≤ 0x7F → HasText bs → HasText (b ∷ bs)
+pub a-one : (b : ℕ) (bs : List ℕ) → b ≤ 0x7F → HasText bs → HasText (b ∷ bs)
 a-one b bs h t = (b ∷ t .0, character (beforeSurrogates {c = b} (omega arith)) (one {c = b} (omega arith)) (t .1))
 
-a-two : (c b x : ℕ) (bs : List ℕ) → 0xC0 + c / 64 ≡ b → 0x80 + c % 64 ≡ x → 0x80 ≤ c → c < 0x800 → HasText bs → HasText (b ∷ x ∷ bs)
+pub a-two : (c b x : ℕ) (bs : List ℕ) → 0xC0 + c / 64 ≡ b → 0x80 + c % 64 ≡ x → 0x80 ≤ c → c < 0x800 → HasText bs → HasText (b ∷ x ∷ bs)
 a-two c b x bs p q l h t = rw (← p, ← q) (c ∷ t .0, character (beforeSurrogates {c = c} (omega arith)) (two l h) (t .1))
 
-a-three : (c b x y : ℕ) (bs : List ℕ) → 0xE0 + c / 4096 ≡ b → 0x80 + c / 64 % 64 ≡ x → 0x80 + c % 64 ≡ y → 0x800 ≤ c → c < 0x10000 → Character c → HasText bs → HasText (b ∷ x ∷ y ∷ bs)
+pub a-three : (c b x y : ℕ) (bs : List ℕ) → 0xE0 + c / 4096 ≡ b → 0x80 + c / 64 % 64 ≡ x → 0x80 + c % 64 ≡ y → 0x800 ≤ c → c < 0x10000 → Character c → HasText bs → HasText (b ∷ x ∷ y ∷ bs)
 a-three c b x y bs p q r l h ch t = rw (← p, ← q, ← r) (c ∷ t .0, character ch (three l h) (t .1))
 
-a-four : (c b x y z : ℕ) (bs : List ℕ) → 0xF0 + c / 262144 ≡ b → 0x80 + c / 4096 % 64 ≡ x → 0x80 + c / 64 % 64 ≡ y → 0x80 + c % 64 ≡ z → 0x10000 ≤ c → c < 0x110000 → HasText bs → HasText (b ∷ x ∷ y ∷ z ∷ bs)
+pub a-four : (c b x y z : ℕ) (bs : List ℕ) → 0xF0 + c / 262144 ≡ b → 0x80 + c / 4096 % 64 ≡ x → 0x80 + c / 64 % 64 ≡ y → 0x80 + c % 64 ≡ z → 0x10000 ≤ c → c < 0x110000 → HasText bs → HasText (b ∷ x ∷ y ∷ z ∷ bs)
 a-four c b x y z bs p q r s l h t = rw (← p, ← q, ← r, ← s) (c ∷ t .0, character (afterSurrogates {c = c} (omega arith) h) (four l h) (t .1))
 
 -- a byte in the range that is wanted next, and a first byte in a row of the table
@@ -94,6 +94,6 @@ continued-text zero (b ∷ bs) f e = absurd (omega arith)
 continued-text (suc most) [] f e = ([], empty)
 continued-text (suc most) (b ∷ bs) f e = by-first most (continued-text most) b bs (omega arith) (record { goes = e })
 
-pub utf8-text : (bs : List ℕ) → utf8 bs ≡ true → (cs : List ℕ) × Text bs cs
-unfolding utf8
-utf8-text bs e = continued-text (length bs) bs (omega arith) e
+pub ranges-text : (bs : List ℕ) → byRanges bs ≡ true → (cs : List ℕ) × Text bs cs
+unfolding byRanges
+ranges-text bs e = continued-text (length bs) bs (omega arith) e

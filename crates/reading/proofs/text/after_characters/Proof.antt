@@ -5,22 +5,22 @@ use Rattle.reading.proofs.text.after_characters.Statement.{statement}
 use Rattle.reading.proofs.text.after_characters.Tie as tie
 
 abbrev Inv-loop : tie.InvT-loop
-Inv-loop s from to i₀ i = Passes s from to i
+Inv-loop s from to last i₀ i = Passes s from to i
 
 abbrev μ-loop : tie.MeasureT-loop
-μ-loop s from to i₀ i = to - i
+μ-loop s from to last i₀ i = to - i
+
+returns : tie.Need-returns Inv-loop μ-loop
+returns c = search turns
 
 loop-holds : tie.Need-loop-holds Inv-loop μ-loop
 loop-holds c = search turns
 
-sub-loop : tie.Need-sub-loop Inv-loop μ-loop
-sub-loop c = search turns
+whole-requires : tie.Need-whole-requires Inv-loop μ-loop
+whole-requires c κs = search turns
 
-character-requires : tie.Need-character-requires Inv-loop μ-loop
-character-requires c κs = search turns
-
-returns : tie.Need-returns Inv-loop μ-loop
-returns c = search turns
+returns-2 : tie.Need-returns-2 Inv-loop μ-loop
+returns-2 c = search turns
 
 add-i : tie.Need-add-i Inv-loop μ-loop
 add-i c = search turns
@@ -31,20 +31,8 @@ loop-less c = search turns
 loop-again : tie.Need-loop-again Inv-loop μ-loop
 loop-again c = search turns
 
-returns-2 : tie.Need-returns-2 Inv-loop μ-loop
-returns-2 c = search turns
+returns-3 : tie.Need-returns-3 Inv-loop μ-loop
+returns-3 c = search turns
 
 pub after-characters-spec : {M : Type 1} → statement M
-after-characters-spec =
-    tie.close
-    (tie.spec
-    Inv-loop
-    μ-loop
-    loop-holds
-    sub-loop
-    character-requires
-    returns
-    add-i
-    loop-less
-    loop-again
-    returns-2)
+after-characters-spec = tie.close (tie.spec Inv-loop μ-loop returns loop-holds whole-requires returns-2 add-i loop-less loop-again returns-3)

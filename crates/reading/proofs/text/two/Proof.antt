@@ -8,14 +8,17 @@ sub-if1 c = search twos
 returns : tie.Need-returns
 returns c = search twos
 
-add-is-later : tie.Need-add-is-later
-add-is-later c = search twos
+shared-slice-read-is-two : tie.Need-shared-slice-read-is-two
+shared-slice-read-is-two c = search twos
 
-shared-slice-read-is-later : tie.Need-shared-slice-read-is-later
-shared-slice-read-is-later c = search twos
+add-is-two : tie.Need-add-is-two
+add-is-two c = search twos
 
-is-later-requires : tie.Need-is-later-requires
-is-later-requires c κs = search twos
+shared-slice-read-is-two-2 : tie.Need-shared-slice-read-is-two-2
+shared-slice-read-is-two-2 c = search twos
+
+is-two-requires : tie.Need-is-two-requires
+is-two-requires c κs = search twos
 
 returns-2 : tie.Need-returns-2
 returns-2 c = search twos
@@ -24,13 +27,4 @@ returns-3 : tie.Need-returns-3
 returns-3 c = search twos
 
 pub two-spec : {M : Type 1} → statement M
-two-spec =
-    tie.close
-    (tie.spec
-    sub-if1
-    returns
-    add-is-later
-    shared-slice-read-is-later
-    is-later-requires
-    returns-2
-    returns-3)
+two-spec = tie.close (tie.spec sub-if1 returns shared-slice-read-is-two add-is-two shared-slice-read-is-two-2 is-two-requires returns-2 returns-3)
