@@ -4,7 +4,17 @@ use mathlib.Core.Bool.{Bool, true, false, cond, _&&_, _||_}
 use mathlib.Core.List.{List, [], _∷_}
 use lib.Dec.{ltb, leb, eqb}
 
--- THE LIMITS of a code point, in a form whose shortest use is from `least` on
+-- the least code points that need two, three and four bytes
+abbrev pub leastOfTwo : ℕ
+leastOfTwo = 0x80
+
+abbrev pub leastOfThree : ℕ
+leastOfThree = 0x800
+
+abbrev pub leastOfFour : ℕ
+leastOfFour = 0x10000
+
+-- THE LIMITS of a code point, in a form that is the shortest from `least` on
 abbrev pub isAllowed : (least code : ℕ) → Bool
 isAllowed least code = leb least code && ((ltb code 0xD800 || ltb 0xDFFF code) && leb code 0x10FFFF)
 
@@ -27,9 +37,9 @@ character [] = 0
 character (b ∷ bs) =
     cond (ltb b 0x80) 1
     (cond (ltb b 0xC0) 0
-    (cond (ltb b 0xE0) (cond (completes 1 0x80 (b % 32) bs) 2 0)
-    (cond (ltb b 0xF0) (cond (completes 2 0x800 (b % 16) bs) 3 0)
-    (cond (ltb b 0xF8) (cond (completes 3 0x10000 (b % 8) bs) 4 0)
+    (cond (ltb b 0xE0) (cond (completes 1 leastOfTwo (b % 32) bs) 2 0)
+    (cond (ltb b 0xF0) (cond (completes 2 leastOfThree (b % 16) bs) 3 0)
+    (cond (ltb b 0xF8) (cond (completes 3 leastOfFour (b % 8) bs) 4 0)
     0))))
 
 -- characters to the end, once the `rest` of the one before is passed

@@ -5,7 +5,7 @@ use mathlib.Core.List.{List}
 use mathlib.Core.Path.{_≡_}
 use lib.ListN.{length, getD}
 use lib.Seq.{slice}
-use Rattle.format.specs.Text.{isAllowed, isLater, withLater, utf8}
+use Rattle.format.specs.Text.{leastOfTwo, leastOfThree, leastOfFour, isAllowed, isLater, withLater, utf8}
 
 -- told so, the `n` bytes from `i` on are ASCII
 pub record SeesAscii (s : List ℕ) (i n : ℕ) (told : Bool) : Type 0 where
@@ -26,13 +26,13 @@ pub record Begins (s : List ℕ) (i end low high : ℕ) : Type 0 where
 
 -- whether the bytes of a form complete a code point that is allowed: `completes` in `format`, by the bytes one by one
 abbrev pub twoComplete : (first b : ℕ) → Bool
-twoComplete first b = isLater b && isAllowed 0x80 (withLater (first % 32) b)
+twoComplete first b = isLater b && isAllowed leastOfTwo (withLater (first % 32) b)
 
 abbrev pub threeComplete : (first b c : ℕ) → Bool
-threeComplete first b c = isLater b && (isLater c && isAllowed 0x800 (withLater (withLater (first % 16) b) c))
+threeComplete first b c = isLater b && (isLater c && isAllowed leastOfThree (withLater (withLater (first % 16) b) c))
 
 abbrev pub fourComplete : (first b c d : ℕ) → Bool
-fourComplete first b c d = isLater b && (isLater c && (isLater d && isAllowed 0x10000 (withLater (withLater (withLater (first % 8) b) c) d)))
+fourComplete first b c d = isLater b && (isLater c && (isLater d && isAllowed leastOfFour (withLater (withLater (withLater (first % 8) b) c) d)))
 
 -- at `i` stands a character of `n` bytes, before `end`; where none stands, n is 0 and what begins there is no text
 pub record Stands (s : List ℕ) (i end n : ℕ) : Type 0 where
