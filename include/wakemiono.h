@@ -1,8 +1,9 @@
 /* Wakemiono: reads, asks and canonically rewrites the metadata of WebAssembly modules. x86-64 System V.
  *
  * Every call takes any bytes, ends, and asks no prior check. A byte slice is a pointer and a length; a length of 0 may
- * come with any non-null pointer. Every answer is one struct by value, so that no call needs a buffer for it. A call
- * reads what is lent to it and nothing else, and stores nothing but into an output; slices may not overlap an output.
+ * come with any non-null pointer. Every answer is one struct by value, or, to a yes or no, the number 1 or 0, so that no
+ * call needs a buffer for it. A call reads what is lent to it and nothing else, and stores nothing but into an output;
+ * slices may not overlap an output.
  *
  *   kind            code             offset                    length
  *   WM_NONE      0  0                0                         0
@@ -115,8 +116,18 @@ wm_answer wm_metadata_canonical(const uint8_t *payload, size_t payload_len, uint
 /* The canonical form of a payload of branch hints. */
 wm_answer wm_hints_canonical(const uint8_t *payload, size_t payload_len, uint8_t *out, size_t out_len);
 
+/* Is a payload canonical already? 1 exactly where it is accepted and equals its canonical rewriting, else 0: a payload
+ * that is refused gets 0 as well. It takes one pass and no output. */
+
+/* Is a name payload canonical? */
+uint32_t wm_names_is_canonical(const uint8_t *payload, size_t payload_len);
+/* Is a metadata payload of any format canonical? */
+uint32_t wm_metadata_is_canonical(const uint8_t *payload, size_t payload_len);
+/* Is a payload of branch hints canonical? */
+uint32_t wm_hints_is_canonical(const uint8_t *payload, size_t payload_len);
+
 /* Function names written from three lists: indices, name lengths in bytes, and the text of all names joined. The payload
- * is canonical; answers and output as above. Refusals in this order: 14, all of 11, all of 4, 15, 13. */
+ * is canonical; answers and output as for the rewritings. Refusals in this order: 14, all of 11, all of 4, 15, 13. */
 wm_answer wm_function_names_write(const uint32_t *indices, size_t indices_len, const uint32_t *lengths, size_t lengths_len,
                                   const uint8_t *text, size_t text_len, uint8_t *out, size_t out_len);
 

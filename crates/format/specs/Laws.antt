@@ -3,6 +3,7 @@ pub mod Bytes
 pub mod Options
 pub mod Tight
 pub mod Numbers
+pub mod Padding
 pub mod Turns
 pub mod Codecs
 pub mod Tables
@@ -15,6 +16,9 @@ pub mod Answers
 pub mod CanonicalNames
 pub mod CanonicalMetadata
 pub mod Unchanged
+pub mod Telling
+pub mod TellingNames
+pub mod TellingItems
 pub mod Refusals
 pub mod Hints
 pub mod Places

@@ -14,6 +14,7 @@ pub mod Holding
 pub mod Metadata
 pub mod Through
 pub mod Canonical
+pub mod Telling
 pub mod Outputs
 pub mod Lists
 pub mod Listing

@@ -1,5 +1,6 @@
 -- THE PROMISES of the crate `metadata`, each by the name of its function. They stand in the `ensures` of the public functions and nowhere else: what is shown of these names is shown of the functions. A promise relates what is lent to what comes back.
 use Prim.Native.Nat.{ℕ, _+_}
+use mathlib.Core.Bool.{Bool}
 use mathlib.Core.List.{List}
 use mathlib.Core.Path.{_≡_}
 use Rattle.format.specs.Metadata.{anyItem, hintItem, judgeMetadata, askMetadata, askHint, hintAnswered}
@@ -9,6 +10,7 @@ use Rattle.format.specs.declared.Answer.{Answer}
 use Rattle.format.specs.declared.CodeOffset.{CodeOffset}
 use Rattle.format.specs.declared.FunctionIndex.{FunctionIndex}
 use Rattle.format.specs.declared.HintAnswer.{HintAnswer}
+use Rattle.format.specs.Telling.{itemsAreCanonical}
 use Rattle.format.specs.Verdicts.{verdictOf}
 use Rattle.format.specs.declared.Verdict.{Verdict}
 use Rattle.reading.specs.Cursors.{left}
@@ -40,3 +42,10 @@ metadata-find-bytes p lent-at f at begins bytes = (bytes ≡ asBytes (askMetadat
 
 abbrev pub metadata-hint : (p : List ℕ) (f : FunctionIndex) (at : CodeOffset) → HintAnswer → Type 0
 metadata-hint p f at r = hintAnswered r ≡ askHint f at 0 p
+
+-- metadata::telling
+abbrev pub metadata-is-canonical : (p : List ℕ) → Bool → Type 0
+metadata-is-canonical p r = r ≡ itemsAreCanonical anyItem p
+
+abbrev pub metadata-are-hints-canonical : (p : List ℕ) → Bool → Type 0
+metadata-are-hints-canonical p r = r ≡ itemsAreCanonical hintItem p

@@ -23,6 +23,8 @@ use tables::Seek;
 use tables::Wanted;
 use tables::finding::answer_of;
 
+pub mod telling;
+
 // The data byte of a branch that is likely taken.
 const LIKELY: u8 = 1;
 

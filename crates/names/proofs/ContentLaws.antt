@@ -1,5 +1,6 @@
 -- A subsection's contents: its kind by its id, and what a search over them answers.
 use Prim.Native.Nat.{ℕ, _≤_, _<_}
+use mathlib.Core.Bool.{Bool}
 use mathlib.Core.List.{List, [], _∷_}
 use mathlib.Core.Logic.{_⊎_, inl, inr}
 use mathlib.Core.Option.{Option, none, some}
@@ -149,7 +150,7 @@ module _ {s : List ℕ} {part : Cursor} {x : PartRead} (p : PartReads name s par
   unfolding contents asPlace
   one-refused e = record { says = rw (← rw e at (p .means)) }
 
-  module _ {text next : Cursor} (i : Inside s part) (e : x ≡ APart text next) where
+  module _ {text next : Cursor} {told : Bool} (i : Inside s part) (e : x ≡ APart text next told) where
     pub one-asks : {y : Answer} → y ≡ endOf (Found text next) → Asks oneName ItsName s part y
     unfolding contents
     one-asks q =

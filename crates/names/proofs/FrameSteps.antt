@@ -1,5 +1,6 @@
 -- From subsection to subsection, as the code goes.
 use Prim.Native.Nat.{ℕ, suc, _+_, _≤_, _<_}
+use mathlib.Core.Bool.{Bool}
 use mathlib.Core.List.{List, []}
 use mathlib.Core.Logic.{_⊎_, ⊎-elim}
 use mathlib.Core.Path.{_≡_, refl, sym}
@@ -27,27 +28,24 @@ use Rattle.reading.specs.declared.PartRead.{PartRead}
 use Rattle.reading.specs.declared.PartRead.the-variants.{Part as APart, Refused as NoPart}
 use Rattle.reading.proofs.Laws.{sized-means, part-behind}
 use Rattle.names.specs.Contents.{Rules}
-use Rattle.names.specs.Frames.{frame, subsection, Forward, FrameReads}
+use Rattle.names.specs.Frames.{frame, subsection, Forward, FrameReads, behindId}
 use Rattle.names.specs.declared.frames.FrameRead.{FrameRead}
 use Rattle.names.specs.declared.frames.FrameRead.the-variants.{Frame, End, Refused}
 use Rattle.names.proofs.frames.FrameRead as frame-type
 
 -- The frame: the id byte, its order, and the size
-abbrev behindId : Cursor → Cursor
-behindId c = record { at = c .at + 1; end = c .end }
-
 module _ {least : ℕ} {s : List ℕ} {c : Cursor} (i : Inside s c) where
   pub frame-end : c .end ≤ c .at → FrameReads frame least s c End
   unfolding frame
   frame-end h =
       let q : c .end ≡ c .at = omega (arith, i .ahead) in
       let nothing : left s c ≡ [] = rw (q, slice-empty) in
-      record { means = rw nothing; forward = tt }
+      record { means = rw nothing; forward = tt; tells = tt }
 
   module _ {b : ℕ} (h : c .at < c .end) (w : b ≡ getD s (c .at) 0) where
     pub frame-low : b < least → FrameReads frame least s c (Refused (record { reason = SubsectionOrder; offset = record { 0 = c .at } }))
     unfolding frame
-    frame-low l = record { means = rw (slice-cons (c .at) (c .end) s 0 h (i .within), ← w, lt-leb least b l); forward = tt }
+    frame-low l = record { means = rw (slice-cons (c .at) (c .end) s 0 h (i .within), ← w, lt-leb least b l); forward = tt; tells = tt }
 
     module _ {x : PartRead} (l : least ≤ b) (p : PartReads sized s (behindId c) x) where
       sized-there : sized (suc (c .at)) (slice (suc (c .at)) (c .end) s) ≡ sized (c .at + 1) (left s (behindId c))
@@ -55,9 +53,9 @@ module _ {least : ℕ} {s : List ℕ} {c : Cursor} (i : Inside s c) where
 
       pub frame-refused : {r : Refusal} → x ≡ NoPart r → FrameReads frame least s c (Refused r)
       unfolding frame
-      frame-refused e = record { means = rw (slice-cons (c .at) (c .end) s 0 h (i .within), ← w, le-leb least b l, sized-there, ← rw e at (p .means)); forward = tt }
+      frame-refused e = record { means = rw (slice-cons (c .at) (c .end) s 0 h (i .within), ← w, le-leb least b l, sized-there, ← rw e at (p .means)); forward = tt; tells = tt }
 
-      pub frame-taken : {part next : Cursor} → x ≡ APart part next → FrameReads frame least s c (Frame (getD s (c .at) 0) part next)
+      pub frame-taken : {part next : Cursor} {told : Bool} → x ≡ APart part next told → FrameReads frame least s c (Frame (getD s (c .at) 0) part next told)
       unfolding frame
       frame-taken e =
           let behind : Inside s (behindId c) = record { ahead = omega arith; within = i .within } in
@@ -65,6 +63,7 @@ module _ {least : ℕ} {s : List ℕ} {c : Cursor} (i : Inside s c) where
           record {
             means = rw (slice-cons (c .at) (c .end) s 0 h (i .within), ← w, le-leb least b l, sized-there, sized-means p e);
             forward = record { above = omega arith; in-part = far .in-part; in-rest = far .in-rest; moves = omega (arith, far .forward, far .in-part .ahead, far .ends); same-end = far .same-end };
+            tells = rw e at (p .tells);
           }
 
 pub rest-inside : {s : List ℕ} {c : Cursor} → Inside s c → c .at < c .end → Inside s (record { at = c .at + 1; end = c .end })
@@ -74,7 +73,7 @@ pub ruleset frame-steps = (frame-end, frame-low, frame-refused, frame-taken, res
 
 -- The same with its contents judged
 pub as-end : (x : FrameRead) → tagOf frame-type.the-type x ≡ 1 → x ≡ End
-as-end (Frame id part next) h = absurd (omega arith)
+as-end (Frame id part next told) h = absurd (omega arith)
 as-end End h = refl
 as-end (Refused r) h = absurd (omega arith)
 
@@ -95,13 +94,13 @@ stops (stop m at) x o bs f e = same-stop e
 module _ {least : ℕ} {s : List ℕ} {c : Cursor} {x : FrameRead} (p : FrameReads frame least s c x) where
   pub sub-refused : (kindOf : ℕ → AnyKind) {r : Refusal} → x ≡ Refused r → FrameReads (subsection kindOf) least s c (Refused r)
   unfolding subsection
-  sub-refused kindOf e = record { means = rw (← rw e at (p .means)); forward = tt }
+  sub-refused kindOf e = record { means = rw (← rw e at (p .means)); forward = tt; tells = tt }
 
   pub sub-end : (kindOf : ℕ → AnyKind) → tagOf frame-type.the-type x ≡ 1 → FrameReads (subsection kindOf) least s c End
   unfolding subsection
-  sub-end kindOf t = record { means = rw (← rw (as-end x t) at (p .means)); forward = tt }
+  sub-end kindOf t = record { means = rw (← rw (as-end x t) at (p .means)); forward = tt; tells = tt }
 
-  module _ {id : ℕ} {part next : Cursor} (e : x ≡ Frame id part next) where
+  module _ {id : ℕ} {part next : Cursor} {told : Bool} (e : x ≡ Frame id part next told) where
     forward : Forward least s c id part next
     forward = rw e at (p .forward)
 
@@ -111,10 +110,10 @@ module _ {least : ℕ} {s : List ℕ} {c : Cursor} {x : FrameRead} (p : FrameRea
     module _ (kindOf : ℕ → AnyKind) {kind : AnyKind} {y : Answer} (k : kind ≡ kindOf id) (v : Rules kind s part y) where
       pub sub-bad : {r : Refusal} → y ≡ NotAnswered r → FrameReads (subsection kindOf) least s c (Refused r)
       unfolding subsection
-      sub-bad {r} q = record { means = rw (← rw e at (p .means), ← k) (stops (contents kind (part .at) (left s part)) r (next .at) (left s next) _ (rw q at (v .says))); forward = tt }
+      sub-bad {r} q = record { means = rw (← rw e at (p .means), ← k) (stops (contents kind (part .at) (left s part)) r (next .at) (left s next) _ (rw q at (v .says))); forward = tt; tells = tt }
 
-      pub sub-fine : (tagOf answer-type.the-type y ≡ 0) ⊎ (tagOf answer-type.the-type y ≡ 1) → FrameReads (subsection kindOf) least s c (Frame id part next)
+      pub sub-fine : (tagOf answer-type.the-type y ≡ 0) ⊎ (tagOf answer-type.the-type y ≡ 1) → FrameReads (subsection kindOf) least s c (Frame id part next told)
       unfolding subsection
-      sub-fine n = record { means = rw (← rw e at (p .means), ← k) (goes-on (contents kind (part .at) (left s part)) y (next .at) (left s next) _ (v .says) n); forward = forward }
+      sub-fine n = record { means = rw (← rw e at (p .means), ← k) (goes-on (contents kind (part .at) (left s part)) y (next .at) (left s next) _ (v .says) n); forward = forward; tells = rw e at (p .tells) }
 
 pub ruleset subsection-steps = (sub-refused, sub-end, frame-inside, sub-bad, sub-fine, needs)

@@ -1,5 +1,6 @@
 -- The loops over a payload's subsections: one judges and keeps the places, the other finds an id.
 use Prim.Native.Nat.{ℕ, suc, _+_, _-_, _≤_, _<_}
+use mathlib.Core.Bool.{Bool}
 use mathlib.Core.List.{List, []}
 use mathlib.Core.Option.{Option, none, some}
 use mathlib.Core.Path.{_≡_, refl, sym, _∙_}
@@ -49,7 +50,7 @@ stopped part j (stop n at) e = same e
 
 -- a subsection that was read
 module _ {read : ℕ → Reader (Option (Headed Part))} {least : ℕ} {s : List ℕ} {c : Cursor} {x : FrameRead} (p : FrameReads read least s c x) where
-  module _ {id : ℕ} {part next : Cursor} (e : x ≡ Frame id part next) where
+  module _ {id : ℕ} {part next : Cursor} {told : Bool} (e : x ≡ Frame id part next told) where
     pub forward : Forward least s c id part next
     forward = rw e at (p .forward)
 
@@ -111,7 +112,7 @@ module _ {kindOf : ℕ → Kind} {s : List ℕ} {c : Cursor} where
           };
         }
 
-    module _ {id : ℕ} {part after : Cursor} {u : Places} (e : x ≡ Frame id part after) (put : Puts kindOf p id part u) where
+    module _ {id : ℕ} {part after : Cursor} {told : Bool} {u : Places} (e : x ≡ Frame id part after told) (put : Puts kindOf p id part u) where
       held-then : (j : ℕ) → (kindOf j ≡ kept → ⊥) → holding j (subOf s (placedAt p j)) id (partOf s part) ≡ subOf s (placedAt u j)
       held-then j k =
           byTest (eqb j id)
@@ -159,8 +160,8 @@ same-option : {A : Type 0} (x : Option A) → mapSome (λ a. a) x ≡ x
 same-option none = refl
 same-option (some v) = refl
 
-as-refused : (x : FrameRead) → tagOf frame-type.the-type x ≡ 2 → (r : Refusal) × (x ≡ NoFrame r)
-as-refused (Frame id part next) h = absurd (omega arith)
+pub as-refused : (x : FrameRead) → tagOf frame-type.the-type x ≡ 2 → (r : Refusal) × (x ≡ NoFrame r)
+as-refused (Frame id part next told) h = absurd (omega arith)
 as-refused End h = absurd (omega arith)
 as-refused (NoFrame r) h = (r, refl)
 
@@ -183,7 +184,7 @@ module _ {s : List ℕ} {c : Cursor} {id : ℕ} where
     pub search-ends : tagOf frame-type.the-type x ≡ 1 → Finds s (c .at) (left s c) id Absent
     search-ends h = finds c Absent (λ f o rest e₁. record { is = sym (got-value (rw (e₁, ← rw (as-end x h) at (p .means), same-option) at sought-on)); inside = tt })
 
-    module _ {k : ℕ} {part after : Cursor} (e : x ≡ Frame k part after) where
+    module _ {k : ℕ} {part after : Cursor} {told : Bool} (e : x ≡ Frame k part after told) where
       passed-by : partAt (λ p. p) id none (wholeFrames s c) ≡ partAt (λ p. p) id (holding id none k (partOf s part)) (frames (t .most - 1) (suc k) (after .at) (left s after))
       unfolding frames
       passed-by = sought-on ∙ rw (← rw e at (p .means))

@@ -7,3 +7,4 @@ pub mod AskLaws
 pub mod Verdicts
 pub mod TakenLaws
 pub mod Same
+pub mod TellLaws

@@ -1,5 +1,6 @@
 -- Two results that meet one promise are equal.
 use Prim.Native.Nat.{ℕ}
+use mathlib.Core.Bool.{Bool}
 use mathlib.Core.List.{List}
 use mathlib.Core.Option.{Option, none, some}
 use mathlib.Core.Path.{_≡_, refl, sym, ap, subst, _∙_}
@@ -80,21 +81,22 @@ pub kind-same : (a b : Kind) → kindMeant a ≡ kindMeant b → a ≡ b
 kind-same a b e = sym (kind-is a) ∙ ap kindOf e ∙ kind-is b
 
 -- a subsection
-same-frame : {read : ℕ → Reader (Option (Headed Part))} {least : ℕ} {s : List ℕ} {c : Cursor} {id k : ℕ} {part next part′ next′ : Cursor} → FrameReads read least s c (Frame id part next) → FrameReads read least s c (Frame k part′ next′) → Frame id part next ≡ Frame k part′ next′
-same-frame {part = part} {next = next} {part′ = part′} {next′ = next′} p q =
+same-frame : {read : ℕ → Reader (Option (Headed Part))} {least : ℕ} {s : List ℕ} {c : Cursor} {id k : ℕ} {part next part′ next′ : Cursor} {told told′ : Bool} → FrameReads read least s c (Frame id part next told) → FrameReads read least s c (Frame k part′ next′ told′) → Frame id part next told ≡ Frame k part′ next′ told′
+same-frame {part = part} {next = next} {part′ = part′} {next′ = next′} {told = told} {told′ = told′} p q =
     let one = p .means ∙ sym (q .means) in
     let headed = some-is (got-value one) in
     let parts = same-part part part′ (p .forward .in-part) (q .forward .in-part) (ap (λ (h : Headed Part). h .value) headed) in
     let behind = same-cursor next next′ (got-next one) (p .forward .same-end ∙ sym (q .forward .same-end)) in
-    λ i. Frame (headed i .id) (parts i) (behind i)
+    let tells : told ≡ told′ = p .tells ∙ rw (parts, behind) (sym (q .tells)) in
+    λ i. Frame (headed i .id) (parts i) (behind i) (tells i)
 
 pub frame-same : {read : ℕ → Reader (Option (Headed Part))} {least : ℕ} {s : List ℕ} {c : Cursor} (a b : FrameRead) → FrameReads read least s c a → FrameReads read least s c b → a ≡ b
-frame-same (Frame id part next) (Frame k part′ next′) p q = same-frame p q
-frame-same (Frame id part next) End p q = absurd (not-some (sym (got-value (p .means ∙ sym (q .means)))))
-frame-same (Frame id part next) (NoFrame r) p q = absurd (not-got (sym (p .means ∙ sym (q .means))))
-frame-same End (Frame k part′ next′) p q = absurd (not-some (got-value (p .means ∙ sym (q .means))))
+frame-same (Frame id part next t) (Frame k part′ next′ t′) p q = same-frame p q
+frame-same (Frame id part next t) End p q = absurd (not-some (sym (got-value (p .means ∙ sym (q .means)))))
+frame-same (Frame id part next t) (NoFrame r) p q = absurd (not-got (sym (p .means ∙ sym (q .means))))
+frame-same End (Frame k part′ next′ t) p q = absurd (not-some (got-value (p .means ∙ sym (q .means))))
 frame-same End End p q = refl
 frame-same End (NoFrame r) p q = absurd (not-got (sym (p .means ∙ sym (q .means))))
-frame-same (NoFrame r) (Frame k part next) p q = absurd (not-got (p .means ∙ sym (q .means)))
+frame-same (NoFrame r) (Frame k part next t) p q = absurd (not-got (p .means ∙ sym (q .means)))
 frame-same (NoFrame r) End p q = absurd (not-got (p .means ∙ sym (q .means)))
 frame-same (NoFrame r) (NoFrame t) p q = ap NoFrame (same-stop (p .means ∙ sym (q .means)))

@@ -1,5 +1,5 @@
 -- Where the subsections' contents lie, whatever they hold. Assumes nothing.
-use Prim.Native.Nat.{ℕ, zero, suc, _≤_, _<_}
+use Prim.Native.Nat.{ℕ, zero, suc, _≤_, _<_, _+_}
 use mathlib.Core.List.{List, [], _∷_}
 use mathlib.Core.Option.{Option, none, some}
 use mathlib.Core.Path.{_≡_}
@@ -10,6 +10,8 @@ use Rattle.format.specs.Parts.{Part, sized, inside}
 use Rattle.format.specs.Tables.{Table, nil, row}
 use Rattle.format.specs.Names.{Kind, Content, contents}
 use Rattle.format.specs.declared.Reason.the-variants.{SubsectionOrder}
+use Rattle.format.specs.Canonical.{writePart}
+use Rattle.format.specs.Telling.{asFew}
 use Rattle.reading.specs.Cursors.{Inside, left, partOf, refusalOf}
 use Rattle.reading.specs.declared.Cursor.{Cursor}
 use Rattle.names.specs.declared.frames.FrameRead.{FrameRead}
@@ -60,7 +62,7 @@ subsection kindOf least = frame least >>= looked kindOf
 
 -- What reading one finds
 abbrev pub frameOutcome : List ℕ → Cursor → FrameRead → Outcome (Option (Headed Part))
-frameOutcome s c (Frame id part next) = got (some (record { id = id; value = partOf s part })) (next .at) (left s next)
+frameOutcome s c (Frame id part next shortest) = got (some (record { id = id; value = partOf s part })) (next .at) (left s next)
 frameOutcome s c End = got none (c .at) []
 frameOutcome s c (Refused r) = refusalOf r
 
@@ -73,10 +75,21 @@ pub record Forward (least : ℕ) (s : List ℕ) (c : Cursor) (id : ℕ) (part ne
   pub same-end : next .end ≡ c .end
 
 abbrev pub frameForward : ℕ → List ℕ → Cursor → FrameRead → Type 0
-frameForward least s c (Frame id part next) = Forward least s c id part next
+frameForward least s c (Frame id part next shortest) = Forward least s c id part next
 frameForward least s c End = Unit {0}
 frameForward least s c (Refused r) = Unit {0}
+
+-- the cursor behind an id byte
+abbrev pub behindId : Cursor → Cursor
+behindId c = record { at = c .at + 1; end = c .end }
+
+-- K10: handed on from its size's number
+abbrev pub frameTold : List ℕ → Cursor → FrameRead → Type 0
+frameTold s c (Frame id part next told) = told ≡ asFew (writePart (left s part)) (left s next) (left s (behindId c))
+frameTold s c End = Unit {0}
+frameTold s c (Refused r) = Unit {0}
 
 pub record FrameReads (read : ℕ → Reader (Option (Headed Part))) (least : ℕ) (s : List ℕ) (c : Cursor) (r : FrameRead) : Type 0 where
   pub means : frameOutcome s c r ≡ read least (c .at) (left s c)
   pub forward : frameForward least s c r
+  pub tells : frameTold s c r

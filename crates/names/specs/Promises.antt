@@ -1,9 +1,11 @@
 -- THE PROMISES of the crate `names`, each by the name of its function. They stand in the `ensures` of the public functions and nowhere else: what is shown of these names is shown of the functions. A promise relates what is lent to what comes back.
 use Prim.Native.Nat.{ℕ, _+_}
+use mathlib.Core.Bool.{Bool}
 use mathlib.Core.List.{List}
 use mathlib.Core.Path.{_≡_}
 use Rattle.format.specs.Names.{oneName, nameMap, indirectMap, kept, knownKind}
 use Rattle.format.specs.Questions.{askAt, ask, asPlace, asBytes, startOf, answered}
+use Rattle.format.specs.Telling.{namesAreCanonical}
 use Rattle.format.specs.declared.Question.{Question}
 use Rattle.format.specs.declared.Query.the-variants.{ItsName, ItsContents, NameOf, NameWithin}
 use Rattle.format.specs.declared.Answer.{Answer}
@@ -76,6 +78,10 @@ names-placed places id part r = Puts knownKind places id part r
 
 abbrev pub names-place-of : (places : Places) (id : ℕ) → Held → Type 0
 names-place-of places id r = r ≡ placedAt places id
+
+-- names::telling
+abbrev pub names-is-canonical : (p : List ℕ) → Bool → Type 0
+names-is-canonical p r = r ≡ namesAreCanonical knownKind p
 
 -- names::within
 abbrev pub names-ask-in : (s : List ℕ) (c : Cursor) (q : Question) → Answer → Type 0

@@ -57,7 +57,7 @@ pub fn one_name(s: &[u8], part: Cursor) -> Answer
 {
     match part.name(s) {
         PartRead::Refused(r) => Answer::Refused(r),
-        PartRead::Part(name, next) => ended(Seek::Found(name, next)),
+        PartRead::Part(name, next, _) => ended(Seek::Found(name, next)),
     }
 }
 

@@ -11,9 +11,10 @@ use reading::Cursor;
 use reading::PartRead;
 use reading::wide;
 
-// What reading a subsection finds: its id, where its contents lie, and the cursor behind it.
+// What reading a subsection finds: its id, where its contents lie, the cursor behind it, and whether its size took its
+// fewest bytes.
 pub enum FrameRead {
-    Frame(u8, Cursor, Cursor),
+    Frame(u8, Cursor, Cursor, bool),
     End,
     Refused(Refusal),
 }
@@ -38,7 +39,7 @@ pub fn frame(s: &[u8], c: Cursor, least: u32) -> FrameRead
     let rest = Cursor { at: at + 1, end };
     match rest.sized(s) {
         PartRead::Refused(r) => FrameRead::Refused(r),
-        PartRead::Part(part, next) => FrameRead::Frame(id, part, next),
+        PartRead::Part(part, next, shortest) => FrameRead::Frame(id, part, next, shortest),
     }
 }
 
@@ -50,9 +51,9 @@ pub fn subsection(s: &[u8], c: Cursor, least: u32) -> FrameRead
     match frame(s, c, least) {
         FrameRead::Refused(r) => FrameRead::Refused(r),
         FrameRead::End => FrameRead::End,
-        FrameRead::Frame(id, part, next) => match content(s, part, kind_of(id)) {
+        FrameRead::Frame(id, part, next, shortest) => match content(s, part, kind_of(id)) {
             Answer::Refused(r) => FrameRead::Refused(r),
-            _ => FrameRead::Frame(id, part, next),
+            _ => FrameRead::Frame(id, part, next, shortest),
         },
     }
 }

@@ -54,7 +54,7 @@ pub fn judge_in(s: &[u8], c: Cursor) -> Judged
             FrameRead::End => {
                 return Judged::Accepted(places);
             }
-            FrameRead::Frame(id, part, after) => {
+            FrameRead::Frame(id, part, after, _) => {
                 places = placed(places, id, part);
                 next = after;
                 least = (id as u32) + 1;
@@ -85,7 +85,7 @@ pub fn find(s: &[u8], c: Cursor, id: u8) -> Held
             FrameRead::End => {
                 return Held::Nothing;
             }
-            FrameRead::Frame(k, part, after) => {
+            FrameRead::Frame(k, part, after, _) => {
                 if k == id {
                     return Held::Part(part);
                 }

@@ -11,6 +11,7 @@ pub mod frames;
 pub mod judging;
 pub mod kinds;
 pub mod places;
+pub mod telling;
 pub mod within;
 
 // A question to a payload.

@@ -14,11 +14,10 @@ use Rattle.format.specs.Parts.{sized}
 use Rattle.format.specs.Laws.Outcomes.{not-got, byTest, got-value, got-rest}
 use Rattle.format.specs.Laws.Turns.{inSized}
 use Rattle.format.specs.Laws.Passing.{number-passes}
-use Rattle.reading.specs.Cursors.{left, NumberReads}
+use Rattle.reading.specs.Cursors.{left}
 use Rattle.reading.specs.declared.Cursor.{Cursor}
-use Rattle.reading.specs.declared.NumberRead.the-variants.{Value}
-use Rattle.reading.proofs.Laws.{reached, number-inside, sized-means, part-behind}
-use Rattle.reading.proofs.NumberLoop.{onto, Turn, number-begins, group-product, group-sum, next-weight, fifth-product, fifth-sum, last-product, last-sum, number-goes-on, number-ends, fifth-ends}
+use Rattle.reading.proofs.Laws.{reached, number-read, number-inside, sized-means, part-behind}
+use Rattle.reading.proofs.NumberLoop.{onto, Turn, number-begins, group-product, group-sum, next-weight, fifth-product, fifth-sum, last-product, last-sum, number-goes-on, ends, ends-fifth}
 use Rattle.reading.proofs.PartSteps.{sized-fits}
 use Rattle.reading.specs.Standing.{Stands, Known, TakesPart}
 
@@ -104,14 +103,14 @@ module _ {s : List ℕ} {c : Cursor} where
       pub whole-fits : value + weight * b < limit32
       whole-fits = last (λ z. group-sum (g .turn) z h) (λ z l. fifth-sum (g .turn) z l)
 
-      reads-it : NumberReads s c (Value (value + weight * b) (record { at = i + 1; end = c .end }))
+      reads-it : number (c .at) (left s c) ≡ got (value + weight * b) (i + 1) (left s (record { at = i + 1; end = c .end }))
       reads-it =
           last
-          (λ z. number-ends (g .turn) (g .byte) (g .within) (g .known .stands .inside .within) z h)
-          (λ z l. fifth-ends (g .turn) (g .byte) (g .within) (g .known .stands .inside .within) z l)
+          (λ z. ends (g .turn) (g .byte) (g .within) (g .known .stands .inside .within) z h)
+          (λ z l. ends-fifth (g .turn) (g .byte) (g .within) (g .known .stands .inside .within) z l)
 
       pub number-stands : Stands number s c (value + weight * b) (record { at = i + 1; end = c .end })
-      number-stands = record { inside = g .known .stands .inside; reads = sym (reads-it .means); behind = number-inside (g .known .stands .inside) reads-it refl; same-end = refl }
+      number-stands = record { inside = g .known .stands .inside; reads = reads-it; behind = number-inside (g .known .stands .inside) (number-read reads-it refl) refl; same-end = refl }
 
 pub ruleset number-steps = (going-first, first-lent, group-fits, value-fits, weight-fits, next-lent, going-on, last-fits, whole-fits, number-stands, needs)
 
@@ -143,7 +142,7 @@ module _ {s : List ℕ} {c : Cursor} (k : Known sized s c) where
     pub part-stands : TakesPart s c (record { part = record { at = d .at; end = d .at + n }; next = record { at = d .at + n; end = d .end } })
     part-stands =
         let i = k .stands .inside in
-        let read : NumberReads s c (Value n d) = record { means = sym (z .reads); same-part = z .same-end } in
+        let read = number-read (z .reads) (z .same-end) in
         let taken = sized-fits i read refl size-fits in
         let b = part-behind i taken refl in
         record { stands = record { inside = i; reads = sized-means taken refl; behind = b .in-rest; same-end = b .same-end }; in-part = b .in-part }

@@ -1,5 +1,6 @@
 -- Laws for callers: a reading stays inside its part and moves forward, and a part that was read lies where it says. Callers cite these and never open a definition of reading.
 use Prim.Native.Nat.{ℕ, suc, _-_, _≤_, _<_}
+use mathlib.Core.Bool.{Bool}
 use mathlib.Core.List.{List, _∷_, append-assoc}
 use mathlib.Core.Path.{_≡_, refl, sym, ap, _∙_}
 use native.Mathlib.Omega.{arith}
@@ -8,8 +9,9 @@ use lib.Dec.{ltb}
 use lib.ListN.{length, take, drop, take-append-drop}
 use lib.Seq.{slice, slice-cons, length-slice, length-take-le, take-length}
 use Rattle.format.specs.Reading.{got, Reader}
-use Rattle.format.specs.Numbers.{number}
+use Rattle.format.specs.Numbers.{number, shortest}
 use Rattle.format.specs.Parts.{sized, name}
+use Rattle.format.specs.Telling.{asFew}
 use Rattle.format.specs.Text.{utf8}
 use Rattle.format.specs.Laws.Outcomes.{byTest}
 use Rattle.format.specs.Laws.Numbers.{shortest-positive}
@@ -47,23 +49,29 @@ pub reached : {A : Type 0} {read : Reader A} → ((Holds : ℕ → List ℕ → 
 reached passes {s} {c} i e = passes (Reached s (c .end)) (reached-step s (c .end) (i .within)) (c .at) (left s c) _ _ _ (here i) e
 
 -- A number
-module _ {s : List ℕ} {c : Cursor} {x : NumberRead} {v : ℕ} {next : Cursor} where
-  pub number-means : NumberReads s c x → x ≡ Value v next → number (c .at) (left s c) ≡ got v (next .at) (left s next)
+pub number-read : {s : List ℕ} {c next : Cursor} {v : ℕ} → number (c .at) (left s c) ≡ got v (next .at) (left s next) → next .end ≡ c .end → NumberReads s c (Value v next (asFew (shortest v) (left s next) (left s c)))
+number-read e far = record { means = sym e; same-part = far; tells = refl }
+
+module _ {s : List ℕ} {c : Cursor} {x : NumberRead} {v : ℕ} {next : Cursor} {told : Bool} where
+  pub number-means : NumberReads s c x → x ≡ Value v next told → number (c .at) (left s c) ≡ got v (next .at) (left s next)
   number-means r e = sym (rw e at (r .means))
 
-  pub number-end : NumberReads s c x → x ≡ Value v next → next .end ≡ c .end
+  pub number-tells : NumberReads s c x → x ≡ Value v next told → told ≡ asFew (shortest v) (left s next) (left s c)
+  number-tells r e = rw e at (r .tells)
+
+  pub number-end : NumberReads s c x → x ≡ Value v next told → next .end ≡ c .end
   number-end r e = rw e at (r .same-part)
 
-  pub number-inside : Inside s c → NumberReads s c x → x ≡ Value v next → Inside s next
+  pub number-inside : Inside s c → NumberReads s c x → x ≡ Value v next told → Inside s next
   number-inside i r e =
       let there = reached number-passes i (number-means r e) in
       let same = number-end r e in
       record { ahead = omega (arith, there .inside); within = omega (arith, i .within) }
 
-  pub number-ahead : Inside s c → NumberReads s c x → x ≡ Value v next → next .at ≤ next .end
+  pub number-ahead : Inside s c → NumberReads s c x → x ≡ Value v next told → next .at ≤ next .end
   number-ahead i r e = number-inside i r e .ahead
 
-  pub number-moves : Inside s c → NumberReads s c x → x ≡ Value v next → c .at < next .at
+  pub number-moves : Inside s c → NumberReads s c x → x ≡ Value v next told → c .at < next .at
   number-moves i r e =
       let sound = number-sound (c .at) (left s c) (number-means r e) .shorter in
       let there = number-inside i r e in
@@ -94,17 +102,17 @@ module _ {s : List ℕ} {c part next : Cursor} where
         same-end = same;
       }
 
-  module _ {x : PartRead} where
-    pub sized-means : PartReads sized s c x → x ≡ APart part next → sized (c .at) (left s c) ≡ got (partOf s part) (next .at) (left s next)
+  module _ {x : PartRead} {told : Bool} where
+    pub sized-means : PartReads sized s c x → x ≡ APart part next told → sized (c .at) (left s c) ≡ got (partOf s part) (next .at) (left s next)
     sized-means r e = sym (rw e at (r .means))
 
-    pub name-means : PartReads name s c x → x ≡ APart part next → name (c .at) (left s c) ≡ got (partOf s part) (next .at) (left s next)
+    pub name-means : PartReads name s c x → x ≡ APart part next told → name (c .at) (left s c) ≡ got (partOf s part) (next .at) (left s next)
     name-means r e = sym (rw e at (r .means))
 
-    pub part-behind : Inside s c → PartReads sized s c x → x ≡ APart part next → Behind s c part next
+    pub part-behind : Inside s c → PartReads sized s c x → x ≡ APart part next told → Behind s c part next
     part-behind i r e = let same = rw e at (r .same-part) in sized-behind i (sized-means r e) (same .0) (same .1)
 
-    pub name-behind : Inside s c → PartReads name s c x → x ≡ APart part next → Behind s c part next
+    pub name-behind : Inside s c → PartReads name s c x → x ≡ APart part next told → Behind s c part next
     unfolding name
     name-behind i r e =
         let same = rw e at (r .same-part) in

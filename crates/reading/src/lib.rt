@@ -1,5 +1,5 @@
 // Reads numbers, sized parts and names out of lent bytes, left to right, from a cursor by value.
-ghost use Rattle.reading.specs.Cursors.{Inside, NumberReads};
+ghost use Rattle.reading.specs.Cursors.{Inside, Followed, NumberReads};
 ghost use Rattle.reading.specs.Promises.{reading-wide, reading-over, reading-number, reading-sized, reading-name};
 use format::Offset;
 use format::Reason;
@@ -16,15 +16,16 @@ pub struct Cursor {
     pub end: usize,
 }
 
-// What reading a number finds: its value and the cursor behind it.
+// What reading a number finds: its value, the cursor behind it, and whether it took its fewest bytes.
 pub enum NumberRead {
-    Value(u32, Cursor),
+    Value(u32, Cursor, bool),
     Refused(Refusal),
 }
 
-// What reading a sized part or a name finds: a cursor over the part alone, and the cursor behind it.
+// What reading a sized part or a name finds: a cursor over the part alone, the cursor behind it, and whether its length
+// took its fewest bytes.
 pub enum PartRead {
-    Part(Cursor, Cursor),
+    Part(Cursor, Cursor, bool),
     Refused(Refusal),
 }
 
@@ -69,12 +70,13 @@ impl Cursor {
         if FOLLOWED <= first {
             return self.long_number(s);
         }
-        NumberRead::Value(first, Cursor { at: at + 1, end })
+        NumberRead::Value(first, Cursor { at: at + 1, end }, true)
     }
 
-    // A number of any length.
+    // A number of more than one byte, or of none. It is padded exactly where its last byte is 0.
     fn long_number(self, s: &[u8]) -> NumberRead
         requires { ⌜ Inside (now s) self ⌝ }
+        requires { ⌜ Followed (now s) self ⌝ }
         ensures { λ r. ⌜ NumberReads (now (s .entry)) self r ⌝ }
     {
         let at = self.at;
@@ -88,7 +90,7 @@ impl Cursor {
             let next = Cursor { at: i + 1, end };
             if more == 0 {
                 if b <= GREATEST_FIFTH {
-                    return NumberRead::Value(value + weight * b, next);
+                    return NumberRead::Value(value + weight * b, next, b != 0);
                 }
                 return NumberRead::Refused(Refusal {
                     reason: Reason::NumberTooLarge,
@@ -96,7 +98,7 @@ impl Cursor {
                 });
             }
             if b < FOLLOWED {
-                return NumberRead::Value(value + weight * b, next);
+                return NumberRead::Value(value + weight * b, next, b != 0);
             }
             value = value + weight * (b % FOLLOWED);
             weight = weight * FOLLOWED;
@@ -117,7 +119,7 @@ impl Cursor {
         let first = self.at;
         match self.number(s) {
             NumberRead::Refused(r) => PartRead::Refused(r),
-            NumberRead::Value(n, c) => {
+            NumberRead::Value(n, c, shortest) => {
                 let at = c.at;
                 let end = c.end;
                 let size = n as usize;
@@ -128,7 +130,7 @@ impl Cursor {
                     });
                 }
                 let next = at + size;
-                PartRead::Part(Cursor { at, end: next }, Cursor { at: next, end })
+                PartRead::Part(Cursor { at, end: next }, Cursor { at: next, end }, shortest)
             }
         }
     }
@@ -140,10 +142,10 @@ impl Cursor {
     {
         match self.sized(s) {
             PartRead::Refused(r) => PartRead::Refused(r),
-            PartRead::Part(part, next) => {
+            PartRead::Part(part, next, shortest) => {
                 let from = part.at;
                 if text::is_text(s, from, part.end) {
-                    return PartRead::Part(part, next);
+                    return PartRead::Part(part, next, shortest);
                 }
                 PartRead::Refused(Refusal {
                     reason: Reason::NotText,

@@ -1,5 +1,6 @@
 -- What is said where a result is one that holds something. (Of one that holds nothing the search finds it.) Assumes nothing.
 use Prim.Native.Nat.{ℕ}
+use mathlib.Core.Bool.{Bool}
 use mathlib.Core.Path.{_≡_}
 use borrow.Author.Needs.{needs}
 use Rattle.format.specs.declared.Answer.{Answer}
@@ -26,15 +27,15 @@ use Rattle.walk.specs.declared.survey.SectionAnswer.the-variants.{Found as ASec
 use Rattle.walk.specs.declared.survey.SectionPlace.{SectionPlace}
 
 module _ (x : NumberRead) where
-  pub number-is : (v : ℕ) (next : Cursor) → x ≡ Number v next → Value v (next .at) ≡ numberSaid x
-  number-is v next e = rw e
+  pub number-is : (v : ℕ) (next : Cursor) (told : Bool) → x ≡ Number v next told → Value v (next .at) ≡ numberSaid x
+  number-is v next told e = rw e
 
   pub number-refused : (r : Refusal) → x ≡ NoNumber r → Refused r ≡ numberSaid x
   number-refused r e = rw e
 
 module _ (x : PartRead) where
-  pub part-is : (part next : Cursor) → x ≡ Part part next → UpTo (next .at) ≡ partSaid x
-  part-is part next e = rw e
+  pub part-is : (part next : Cursor) (told : Bool) → x ≡ Part part next told → UpTo (next .at) ≡ partSaid x
+  part-is part next told e = rw e
 
   pub part-refused : (r : Refusal) → x ≡ NoPart r → Refused r ≡ partSaid x
   part-refused r e = rw e

@@ -20,11 +20,11 @@ use Rattle.walk.specs.declared.survey.SectionAnswer.{SectionAnswer}
 use Rattle.walk.specs.declared.survey.SectionAnswer.the-variants.{None as NoSection, Found as ASection, Refused as NoSections}
 
 abbrev pub numberSaid : NumberRead → Said
-numberSaid (Number v next) = Value v (next .at)
+numberSaid (Number v next told) = Value v (next .at)
 numberSaid (NoNumber r) = Refused r
 
 abbrev pub partSaid : PartRead → Said
-partSaid (Part part next) = UpTo (next .at)
+partSaid (Part part next told) = UpTo (next .at)
 partSaid (NoPart r) = Refused r
 
 abbrev pub answerSaid : Answer → Said

@@ -42,7 +42,7 @@ pub fn of_number(n: NumberRead) -> Said
 {
     match n {
         NumberRead::Refused(r) => Said::Refused(r),
-        NumberRead::Value(v, next) => Said::Value(v, next.at),
+        NumberRead::Value(v, next, _) => Said::Value(v, next.at),
     }
 }
 
@@ -51,7 +51,7 @@ pub fn of_part(p: PartRead) -> Said
 {
     match p {
         PartRead::Refused(r) => Said::Refused(r),
-        PartRead::Part(_, next) => Said::UpTo(next.at),
+        PartRead::Part(_, next, _) => Said::UpTo(next.at),
     }
 }
 

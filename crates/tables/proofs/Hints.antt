@@ -2,7 +2,7 @@
 use Prim.Native.Nat.{ℕ, zero, suc, _+_, _-_, _≤_, _<_}
 use mathlib.Core.Bool.{Bool, true, false}
 use mathlib.Core.List.{List, [], _∷_}
-use mathlib.Core.Path.{_≡_, refl, sym, _∙_}
+use mathlib.Core.Path.{_≡_, refl, sym, ap, _∙_}
 use native.Mathlib.Omega.{arith}
 use borrow.Author.Needs.{needs}
 use borrow.Author.Tests.{le-leb, le-ltb, ne-eqb, eqb-true, ltb-true, ltb-false}
@@ -10,11 +10,13 @@ use lib.Dec.{eqb, ltb}
 use lib.ListN.{length, getD}
 use lib.Seq.{slice, slice-cons, slice-empty, length-slice}
 use Rattle.format.specs.Reading.{got}
-use Rattle.format.specs.Numbers.{number, groups}
+use Rattle.format.specs.Canonical.{writePart}
+use Rattle.format.specs.Numbers.{number, groups, fewest, shortest}
 use Rattle.format.specs.Options.{isSome}
 use Rattle.format.specs.Parts.{sized}
 use Rattle.format.specs.Metadata.{hintOf, hintItem}
 use Rattle.format.specs.Laws.Outcomes.{byTest, false-true, onBoth}
+use Rattle.format.specs.Laws.Padding.{as-few}
 use Rattle.reading.specs.Cursors.{Inside, left, PartReads}
 use Rattle.reading.specs.declared.Cursor.{Cursor}
 use Rattle.reading.specs.declared.PartRead.{PartRead}
@@ -87,7 +89,12 @@ pub ruleset short-steps = (hint-short, needs)
 
 -- the part of one byte behind the size, and what follows it
 abbrev behind-size : Cursor → PartRead
-behind-size c = APart (record { at = c .at + 1; end = c .at + 1 + 1 }) (record { at = c .at + 1 + 1; end = c .end })
+behind-size c = APart (record { at = c .at + 1; end = c .at + 1 + 1 }) (record { at = c .at + 1 + 1; end = c .end }) true
+
+-- a part of one byte takes two
+two-long : (x : List ℕ) → length x ≡ 1 → length (writePart x) ≡ 2
+unfolding writePart shortest fewest
+two-long x h = rw h (ap suc h)
 
 module _ {s : List ℕ} {c : Cursor} (i : Inside s c) where
   hint-taken : isShortHint (left s c) ≡ true → PartReads hintItem s c (behind-size c)
@@ -102,7 +109,7 @@ module _ {s : List ℕ} {c : Cursor} (i : Inside s c) where
           onBoth (eqb (getD s (c .at) 0) 1) (ltb (getD s (suc (c .at)) 0) 2) (rw q at t) λ one small.
           let j : c .at + 1 ≡ suc (c .at) = omega arith in
           let k : c .at + 1 + 1 ≡ suc (suc (c .at)) = omega arith in
-          record { means = rw (k, j, slice-cons (suc (c .at)) (suc (suc (c .at))) s 0 (omega arith) (omega (arith, i .within)), slice-empty (suc (suc (c .at))) s, q, eqb-true (getD s (c .at) 0) 1 one, hint-read (c .at) (getD s (suc (c .at)) 0) (slice (suc (suc (c .at))) (c .end) s) small); same-part = (refl, refl) }
+          record { means = rw (k, j, slice-cons (suc (c .at)) (suc (suc (c .at))) s 0 (omega arith) (omega (arith, i .within)), slice-empty (suc (suc (c .at))) s, q, eqb-true (getD s (c .at) 0) 1 one, hint-read (c .at) (getD s (suc (c .at)) 0) (slice (suc (suc (c .at))) (c .end) s) small); same-part = (refl, refl); tells = sym (as-few (writePart (slice (c .at + 1) (c .at + 1 + 1) s)) (slice (c .at + 1 + 1) (c .end) s) (left s c) (omega (arith, i .within, two-long (slice (c .at + 1) (c .at + 1 + 1) s) (length-slice (c .at + 1) (c .at + 1 + 1) s (omega (arith, i .within)) ∙ omega arith), length-slice (c .at + 1 + 1) (c .end) s (i .within), length-slice (c .at) (c .end) s (i .within)))) }
 
   pub value-short : (item : Item) {b : Bool} → b ≡ isShort item (left s c) → b ≡ true → PartReads (readerOf item) s c (behind-size c)
   value-short Name q t = false-true (sym q ∙ t)

@@ -1,5 +1,6 @@
 -- Laws for callers: what an item or a search gives lies inside, and one result alone meets a promise.
 use Prim.Native.Nat.{ℕ, _≤_}
+use mathlib.Core.Bool.{Bool}
 use mathlib.Core.List.{List}
 use mathlib.Core.Option.{Option, none, some}
 use mathlib.Core.Path.{_≡_, refl, sym, ap, ap₂, _∙_}
@@ -27,18 +28,18 @@ use Rattle.tables.specs.declared.Seek.{Seek}
 use Rattle.tables.specs.declared.Seek.the-variants.{None, Found, Refused}
 
 -- An item
-module _ {s : List ℕ} {c part next : Cursor} where
-  hint-behind : Inside s c → PartReads hintItem s c (APart part next) → Behind s c part next
+module _ {s : List ℕ} {c part next : Cursor} {told : Bool} where
+  hint-behind : Inside s c → PartReads hintItem s c (APart part next told) → Behind s c part next
   unfolding hintItem
   hint-behind i r =
       inTested (λ x. isSome (hintOf x)) NotHint (λ o p. o) (c .at) (left s c) (sym (r .means)) λ e t.
-      let sized-part : PartReads _ s c (APart part next) = record { means = sym e; same-part = r .same-part } in
+      let sized-part : PartReads _ s c (APart part next told) = record { means = sym e; same-part = r .same-part; tells = r .tells } in
       part-behind i sized-part refl
 
-  pub item-means : {value : Reader Part} {x : PartRead} → PartReads value s c x → x ≡ APart part next → value (c .at) (left s c) ≡ got (partOf s part) (next .at) (left s next)
+  pub item-means : {value : Reader Part} {x : PartRead} → PartReads value s c x → x ≡ APart part next told → value (c .at) (left s c) ≡ got (partOf s part) (next .at) (left s next)
   item-means r e = sym (rw e at (r .means))
 
-  pub item-behind : {x : PartRead} (item : Item) → Inside s c → PartReads (readerOf item) s c x → x ≡ APart part next → Behind s c part next
+  pub item-behind : {x : PartRead} (item : Item) → Inside s c → PartReads (readerOf item) s c x → x ≡ APart part next told → Behind s c part next
   unfolding anyItem
   item-behind Name i r e = name-behind i r e
   item-behind Data i r e = part-behind i r e

@@ -8,3 +8,4 @@ pub mod Along
 pub mod StepLaws
 pub mod FindLaws
 pub mod Same
+pub mod TidySteps

@@ -6,7 +6,7 @@ use mathlib.Core.Option.{Option, some}
 use mathlib.Core.Path.{_≡_, refl, sym, _∙_}
 use native.Mathlib.Omega.{arith}
 use borrow.Author.Needs.{needs}
-use borrow.Author.Tests.{le-leb, lt-leb}
+use borrow.Author.Tests.{le-leb, lt-leb, leb-true}
 use lib.Dec.{leb}
 use Rattle.format.specs.Reading.{Outcome, got, stop, Reader}
 use Rattle.format.specs.Numbers.{number}
@@ -24,7 +24,7 @@ use Rattle.reading.specs.declared.NumberRead.{NumberRead}
 use Rattle.reading.specs.declared.NumberRead.the-variants.{Value, Refused as NoNumber}
 use Rattle.reading.specs.declared.PartRead.{PartRead}
 use Rattle.reading.specs.declared.PartRead.the-variants.{Part as APart, Refused as NoPart}
-use Rattle.reading.proofs.Laws.{number-means, number-inside, number-end, sized-means, part-behind}
+use Rattle.reading.proofs.Laws.{number-means, number-tells, number-inside, number-end, sized-means, part-behind}
 use Rattle.reading.proofs.PartSteps.{name-refused, name-taken, name-not-text}
 use Rattle.tables.specs.Seeking.{readerOf, isItem, notItem, wantedIn, sought, Seeks}
 use Rattle.tables.specs.Steps.{indexFrom, IndexReads, passing, RowReads}
@@ -69,20 +69,20 @@ module _ {s : List ℕ} {c : Cursor} {x : PartRead} (n : PartReads sized s c x) 
   unfolding anyItem hintItem
   value-refused Name e = name-refused n e
   value-refused Data e = rw e at n
-  value-refused Hint e = record { means = rw (← rw e at (n .means)); same-part = tt }
+  value-refused Hint e = record { means = rw (← rw e at (n .means)); same-part = tt; tells = tt }
 
-  module _ {part next : Cursor} (e : x ≡ APart part next) where
-    pub value-taken : (item : Item) {b : Bool} → b ≡ isItem item (left s part) → b ≡ true → PartReads (readerOf item) s c (APart part next)
+  module _ {part next : Cursor} {told : Bool} (e : x ≡ APart part next told) where
+    pub value-taken : (item : Item) {b : Bool} → b ≡ isItem item (left s part) → b ≡ true → PartReads (readerOf item) s c (APart part next told)
     unfolding anyItem hintItem
     value-taken Name q t = name-taken n e q t
     value-taken Data q t = rw e at n
-    value-taken Hint q t = record { means = rw (sized-means n e, ← q, t); same-part = rw e at (n .same-part) }
+    value-taken Hint q t = record { means = rw (sized-means n e, ← q, t); same-part = rw e at (n .same-part); tells = rw e at (n .tells) }
 
     not-taken : (item : Item) {b : Bool} → b ≡ isItem item (left s part) → b ≡ false → PartReads (readerOf item) s c (NoPart (notItem item (c .at) (part .at)))
     unfolding hintItem
     not-taken Name q t = name-not-text n e q t
     not-taken Data q t = absurd (let z : _≡_ {A = ℕ} 0 1 = cc in omega arith)
-    not-taken Hint q t = record { means = rw (sized-means n e, ← q, t); same-part = tt }
+    not-taken Hint q t = record { means = rw (sized-means n e, ← q, t); same-part = tt; tells = tt }
 
     pub value-not : (item : Item) {b : Bool} {r : Refusal} → b ≡ isItem item (left s part) → b ≡ false → r ≡ notItem item (c .at) (part .at) → PartReads (readerOf item) s c (NoPart r)
     value-not item q t w = rw w (not-taken item q t)
@@ -96,33 +96,39 @@ pub ruleset value-steps = (value-short, value-refused, value-taken, value-not, p
 module _ {s : List ℕ} {c : Cursor} {x : NumberRead} {least : ℕ} where
   pub index-refused : {r : Refusal} → NumberReads s c x → x ≡ NoNumber r → IndexReads least s c (NoNumber r)
   unfolding indexFrom
-  index-refused n e = record { means = rw (← rw e at (n .means)); same-part = tt }
+  index-refused n e = record { means = rw (← rw e at (n .means)); same-part = tt; tells = tt }
 
-  module _ {k : ℕ} {next : Cursor} (n : NumberReads s c x) (e : x ≡ Value k next) where
+  module _ {k : ℕ} {next : Cursor} {told : Bool} (n : NumberReads s c x) (e : x ≡ Value k next told) where
     pub index-low : k < least → IndexReads least s c (NoNumber (record { reason = NotAbove; offset = record { 0 = c .at } }))
     unfolding indexFrom
-    index-low h = record { means = rw (number-means n e, lt-leb least k h); same-part = tt }
+    index-low h = record { means = rw (number-means n e, lt-leb least k h); same-part = tt; tells = tt }
 
-    pub index-taken : least ≤ k → IndexReads least s c (Value k next)
+    pub index-taken : least ≤ k → IndexReads least s c (Value k next told)
     unfolding indexFrom
-    index-taken h = record { means = rw (number-means n e, le-leb least k h); same-part = number-end n e }
+    index-taken h = record { means = rw (number-means n e, le-leb least k h); same-part = number-end n e; tells = number-tells n e }
 
 pub ruleset index-steps = (index-refused, index-low, index-taken, needs)
 
-module _ {s : List ℕ} {c : Cursor} {x : NumberRead} {least k : ℕ} {d : Cursor} where
-  index-means : IndexReads least s c x → x ≡ Value k d → indexFrom least (c .at) (left s c) ≡ got k (d .at) (left s d)
+module _ {s : List ℕ} {c : Cursor} {x : NumberRead} {least k : ℕ} {d : Cursor} {told : Bool} where
+  index-means : IndexReads least s c x → x ≡ Value k d told → indexFrom least (c .at) (left s c) ≡ got k (d .at) (left s d)
   index-means n e = sym (rw e at (n .means))
 
-  index-end : IndexReads least s c x → x ≡ Value k d → d .end ≡ c .end
+  pub index-end : IndexReads least s c x → x ≡ Value k d told → d .end ≡ c .end
   index-end n e = rw e at (n .same-part)
 
-  index-number : IndexReads least s c x → x ≡ Value k d → NumberReads s c (Value k d)
+  pub index-number : IndexReads least s c x → x ≡ Value k d told → NumberReads s c (Value k d told)
   unfolding indexFrom
   index-number n e =
       inTurn (number (c .at) (left s c)) _ (index-means n e) λ k′ o₁ r₁ e₁ e₂. passed (leb least k′) _ _ _ _ _ e₂ λ t e₃.
-      record { means = sym (e₁ ∙ e₃); same-part = index-end n e }
+      record { means = sym (e₁ ∙ e₃); same-part = index-end n e; tells = rw e at (n .tells) }
 
-  pub index-inside : Inside s c → IndexReads least s c x → x ≡ Value k d → Inside s d
+  pub index-above : IndexReads least s c x → x ≡ Value k d told → least ≤ k
+  unfolding indexFrom
+  index-above n e =
+      inTurn (number (c .at) (left s c)) _ (index-means n e) λ k′ o₁ r₁ e₁ e₂. passed (leb least k′) _ _ _ _ _ e₂ λ t e₃.
+      omega (arith, leb-true least k′ t, got-value e₃)
+
+  pub index-inside : Inside s c → IndexReads least s c x → x ≡ Value k d told → Inside s d
   index-inside i n e = number-inside i (index-number n e) refl
 
 -- A row
@@ -131,12 +137,12 @@ module _ {s : List ℕ} {c : Cursor} {x : NumberRead} {least : ℕ} where
   unfolding passing
   row-no-index n e = record { means = rw (← rw e at (n .means)); same-part = tt }
 
-  module _ {k : ℕ} {d : Cursor} where
-    pub row-no-value : {value : Reader Part} {y : PartRead} {r : Refusal} → IndexReads least s c x → x ≡ Value k d → PartReads value s d y → y ≡ NoPart r → RowReads value some least s c (NoRow r)
+  module _ {k : ℕ} {d : Cursor} {told : Bool} where
+    pub row-no-value : {value : Reader Part} {y : PartRead} {r : Refusal} → IndexReads least s c x → x ≡ Value k d told → PartReads value s d y → y ≡ NoPart r → RowReads value some least s c (NoRow r)
     unfolding passing
     row-no-value n e v q = record { means = rw (index-means n e, ← rw q at (v .means)); same-part = tt }
 
-    pub row-passed : (item : Item) {y : PartRead} {part next : Cursor} → Inside s c → IndexReads least s c x → x ≡ Value k d → PartReads (readerOf item) s d y → y ≡ APart part next → RowReads (readerOf item) some least s c (Row k (Held·Part part) next)
+    pub row-passed : (item : Item) {y : PartRead} {part next : Cursor} {told′ : Bool} → Inside s c → IndexReads least s c x → x ≡ Value k d told → PartReads (readerOf item) s d y → y ≡ APart part next told′ → RowReads (readerOf item) some least s c (Row k (Held·Part part) next)
     unfolding passing
     row-passed item i n e v q =
         let b = item-behind item (index-inside i n e) v q in
@@ -159,12 +165,12 @@ unsought : (value : Reader Part) (inner : Wanted) (o : ℕ) (bs : List ℕ) {n a
 unfolding sought
 unsought value inner o bs e = byOutcome (table value o bs) (λ t o₁ r₁ e₁. absurd (not-got (rw e₁ at e))) (λ n at e₁. e₁ ∙ stops-alike (rw e₁ at e))
 
-module _ (value : Reader Part) (inner : Wanted) {s : List ℕ} {c : Cursor} {x : NumberRead} {least k : ℕ} {d : Cursor} {y : Seek} where
-  pub group-refused : {r : Refusal} → IndexReads least s c x → x ≡ Value k d → Seeks (sought value inner) s d y → y ≡ NoSeek r → RowReads (table value) (wantedIn inner) least s c (NoRow r)
+module _ (value : Reader Part) (inner : Wanted) {s : List ℕ} {c : Cursor} {x : NumberRead} {least k : ℕ} {d : Cursor} {told : Bool} {y : Seek} where
+  pub group-refused : {r : Refusal} → IndexReads least s c x → x ≡ Value k d told → Seeks (sought value inner) s d y → y ≡ NoSeek r → RowReads (table value) (wantedIn inner) least s c (NoRow r)
   unfolding passing
   group-refused n e v q = record { means = rw (index-means n e, unsought value inner (d .at) (left s d) (rw q at (v .means))); same-part = tt }
 
-  pub group-none : {next : Cursor} → Inside s c → IndexReads least s c x → x ≡ Value k d → Seeks (sought value inner) s d y → y ≡ None next → RowReads (table value) (wantedIn inner) least s c (Row k Nothing next)
+  pub group-none : {next : Cursor} → Inside s c → IndexReads least s c x → x ≡ Value k d told → Seeks (sought value inner) s d y → y ≡ None next → RowReads (table value) (wantedIn inner) least s c (Row k Nothing next)
   unfolding passing
   group-none i n e v q =
       inSought value inner (d .at) (left s d) (none-means v q) λ t e₁ is.
@@ -173,7 +179,7 @@ module _ (value : Reader Part) (inner : Wanted) {s : List ℕ} {c : Cursor} {x :
       let end = index-end n e in
       record { means = rw (index-means n e, e₁, is); same-part = (tt, omega (arith, b .ahead), far ∙ end) }
 
-  pub group-found : {part next : Cursor} → Inside s c → IndexReads least s c x → x ≡ Value k d → Seeks (sought value inner) s d y → y ≡ Found part next → RowReads (table value) (wantedIn inner) least s c (Row k (Held·Part part) next)
+  pub group-found : {part next : Cursor} → Inside s c → IndexReads least s c x → x ≡ Value k d told → Seeks (sought value inner) s d y → y ≡ Found part next → RowReads (table value) (wantedIn inner) least s c (Row k (Held·Part part) next)
   unfolding passing
   group-found i n e v q =
       inSought value inner (d .at) (left s d) (found-means v q) λ t e₁ is.

@@ -1,6 +1,6 @@
 -- The loops that search a table's rows: what is held so far, and what the rows left will add. Both loops are one: a row's value is an item or a table, and `answer` is what it answers.
 use Prim.Native.Nat.{ℕ, _+_, _-_, _≤_, _<_}
-use mathlib.Core.Bool.{cond}
+use mathlib.Core.Bool.{Bool, cond}
 use mathlib.Core.List.{List}
 use mathlib.Core.Option.{Option, none, some}
 use mathlib.Core.Path.{_≡_, refl, sym, _∙_}
@@ -120,7 +120,7 @@ module _ {s : List ℕ} {c : Cursor} {x : NumberRead} where
     unfolding sought table
     table-no-count n e = record { means = rw (← rw e at (n .means)); same-part = tt; ahead = tt }
 
-    pub table-counted : {m : ℕ} {d : Cursor} {y : Seek} → NumberReads s c x → x ≡ Value m d → Seeks (soughtRows value some (wanted .0) m) s d y → Seeks (sought value wanted) s c y
+    pub table-counted : {m : ℕ} {d : Cursor} {told : Bool} {y : Seek} → NumberReads s c x → x ≡ Value m d told → Seeks (soughtRows value some (wanted .0) m) s d y → Seeks (sought value wanted) s c y
     unfolding sought table soughtRows
     table-counted n e r = let far = number-end n e in record { means = r .means ∙ rw (number-means n e) (simp then-some); same-part = rw (← far) (r .same-part); ahead = rw (← far) (r .ahead) }
 
@@ -129,7 +129,7 @@ module _ {s : List ℕ} {c : Cursor} {x : NumberRead} where
     unfolding soughtWithin table
     tables-no-count n e = record { means = rw (← rw e at (n .means)); same-part = tt; ahead = tt }
 
-    pub tables-counted : {m : ℕ} {d : Cursor} {y : Seek} → NumberReads s c x → x ≡ Value m d → Seeks (soughtRows (table value) (wantedIn inner) (wanted .0) m) s d y → Seeks (soughtWithin value wanted inner) s c y
+    pub tables-counted : {m : ℕ} {d : Cursor} {told : Bool} {y : Seek} → NumberReads s c x → x ≡ Value m d told → Seeks (soughtRows (table value) (wantedIn inner) (wanted .0) m) s d y → Seeks (soughtWithin value wanted inner) s c y
     unfolding soughtWithin table soughtRows
     tables-counted n e r = let far = number-end n e in record { means = r .means ∙ rw (number-means n e); same-part = rw (← far) (r .same-part); ahead = rw (← far) (r .ahead) }
 

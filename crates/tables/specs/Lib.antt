@@ -2,4 +2,5 @@ pub mod Seeking
 pub mod Steps
 pub mod Stepping
 pub mod Finding
+pub mod Telling
 pub mod Promises

@@ -11,7 +11,7 @@ use Rattle.format.specs.Parts.{Part}
 use Rattle.format.specs.Tables.{lookup, rows}
 use Rattle.format.specs.Options.{thenSome}
 use Rattle.format.specs.declared.Reason.the-variants.{NotAbove}
-use Rattle.reading.specs.Cursors.{left, refusalOf, numberOutcome, numberEnd, partOf}
+use Rattle.reading.specs.Cursors.{left, refusalOf, numberOutcome, numberEnd, numberTold, partOf}
 use Rattle.reading.specs.declared.Cursor.{Cursor}
 use Rattle.reading.specs.declared.NumberRead.{NumberRead}
 use Rattle.tables.specs.declared.Item.{Item}
@@ -45,6 +45,7 @@ indexFrom least = do
 pub record IndexReads (least : ℕ) (s : List ℕ) (c : Cursor) (r : NumberRead) : Type 0 where
   pub means : numberOutcome s r ≡ indexFrom least (c .at) (left s c)
   pub same-part : numberEnd (c .end) r
+  pub tells : numberTold s c r
 
 -- a row, as a search passes it: its number, and what its value answers
 pub record Passed : Type 0 where

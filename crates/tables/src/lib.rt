@@ -19,6 +19,7 @@ use reading::text::is_text;
 
 pub mod finding;
 pub mod stepping;
+pub mod telling;
 
 // A hint's data is one byte.
 const HINT_SIZE: usize = 1;
@@ -159,13 +160,13 @@ pub fn value(c: Cursor, s: &[u8], item: Item) -> PartRead
             at: behind,
             end: c.end,
         };
-        return PartRead::Part(part, next);
+        return PartRead::Part(part, next, true);
     }
     match c.sized(s) {
         PartRead::Refused(r) => PartRead::Refused(r),
-        PartRead::Part(part, next) => {
+        PartRead::Part(part, next, shortest) => {
             if is_item(s, part, item) {
-                return PartRead::Part(part, next);
+                return PartRead::Part(part, next, shortest);
             }
             PartRead::Refused(not_item(item, size, part.at))
         }
@@ -180,14 +181,14 @@ fn index(c: Cursor, s: &[u8], least: u64) -> NumberRead
     let first = c.at;
     match c.number(s) {
         NumberRead::Refused(r) => NumberRead::Refused(r),
-        NumberRead::Value(k, next) => {
+        NumberRead::Value(k, next, shortest) => {
             if (k as u64) < least {
                 return NumberRead::Refused(Refusal {
                     reason: Reason::NotAbove,
                     offset: Offset(first),
                 });
             }
-            NumberRead::Value(k, next)
+            NumberRead::Value(k, next, shortest)
         }
     }
 }
@@ -199,9 +200,9 @@ fn row(c: Cursor, s: &[u8], item: Item, least: u64) -> RowRead
 {
     match index(c, s, least) {
         NumberRead::Refused(r) => RowRead::Refused(r),
-        NumberRead::Value(k, d) => match value(d, s, item) {
+        NumberRead::Value(k, d, _) => match value(d, s, item) {
             PartRead::Refused(r) => RowRead::Refused(r),
-            PartRead::Part(part, next) => RowRead::Row(k, Held::Part(part), next),
+            PartRead::Part(part, next, _) => RowRead::Row(k, Held::Part(part), next),
         },
     }
 }
@@ -213,7 +214,7 @@ fn group(c: Cursor, s: &[u8], item: Item, inner: Wanted, least: u64) -> RowRead
 {
     match index(c, s, least) {
         NumberRead::Refused(r) => RowRead::Refused(r),
-        NumberRead::Value(k, d) => match table(d, s, item, inner) {
+        NumberRead::Value(k, d, _) => match table(d, s, item, inner) {
             Seek::Refused(r) => RowRead::Refused(r),
             Seek::None(next) => RowRead::Row(k, Held::Nothing, next),
             Seek::Found(part, next) => RowRead::Row(k, Held::Part(part), next),
@@ -278,7 +279,7 @@ pub fn table(c: Cursor, s: &[u8], item: Item, wanted: Wanted) -> Seek
 {
     match c.number(s) {
         NumberRead::Refused(r) => Seek::Refused(r),
-        NumberRead::Value(n, d) => table_rows(d, s, item, wanted.0, n),
+        NumberRead::Value(n, d, _) => table_rows(d, s, item, wanted.0, n),
     }
 }
 
@@ -314,6 +315,6 @@ pub fn tables(c: Cursor, s: &[u8], item: Item, wanted: Wanted, inner: Wanted) ->
 {
     match c.number(s) {
         NumberRead::Refused(r) => Seek::Refused(r),
-        NumberRead::Value(n, d) => tables_rows(d, s, item, wanted.0, inner, n),
+        NumberRead::Value(n, d, _) => tables_rows(d, s, item, wanted.0, inner, n),
     }
 }

@@ -2,6 +2,7 @@
 use Prim.Native.Nat.{ℕ}
 use mathlib.Core.List.{List}
 use mathlib.Core.Option.{Option}
+use mathlib.Core.Bool.{Bool}
 use mathlib.Core.Path.{_≡_, refl, ap, _∙_}
 use native.Mathlib.Omega.{arith}
 use borrow.Author.Needs.{needs}
@@ -42,7 +43,7 @@ use Rattle.walk.specs.declared.survey.SectionAnswer.the-variants.{Found as ASec
 use Rattle.walk.specs.declared.survey.SectionPlace.{SectionPlace}
 use Rattle.walk.proofs.survey.SectionAnswer as section-type
 use Rattle.walk.proofs.Tags.{no-section}
-use Rattle.wakemiono.specs.Boundary.{wmNone, wmFound, wmRefused, wmPlace, wmSection, wmCount, wmJudged, wmHinted, wmHint, WmWrites}
+use Rattle.wakemiono.specs.Boundary.{wmNone, wmFound, wmRefused, wmPlace, wmSection, wmCount, wmJudged, wmHinted, wmHint, WmWrites, wmYes}
 use Rattle.wakemiono.specs.Calls.{wm-name, wm-name-in}
 use Rattle.wakemiono.specs.declared.WmAnswer.{WmAnswer}
 
@@ -95,6 +96,10 @@ module _ (j : Verdict) (n : ℕ) where
   pub judged-is : (a : WmAnswer) → tagOf verdict-type.the-type j ≡ 0 → a ≡ wmFound 0 0 n → a ≡ wmJudged n (verdictOf j)
   judged-is a h e = rw (as-accepted j h) e
 
+-- a yes or no
+pub told-is : (b x : Bool) {a : ℕ} → a ≡ wmYes b → b ≡ x → a ≡ wmYes x
+told-is b x e q = rw (← q) e
+
 -- a hint
 pub unlikely-is : (h : Hint) → tagOf likelihood-type.the-type h ≡ 0 → record { kind = 3; code = 0; offset = 0; length = 0 } ≡ wmHinted h
 unlikely-is Unlikely t = refl
@@ -119,7 +124,7 @@ module _ (x : HintAnswer) where
   pub hint-is : (a : WmAnswer) (h : Hint) → x ≡ AHint h → a ≡ wmHinted h → a ≡ wmHint (hintAnswered x)
   hint-is a h e q = rw e q
 
-pub ruleset fields = (refusal-is, count-refused, count-is, written-refused, written-is, section-none, section-refused, section-is, place-none, place-refused, place-is, judged-refused, judged-is, unlikely-is, likely-is, hint-none, hint-refused, hint-is, needs)
+pub ruleset fields = (refusal-is, count-refused, count-is, written-refused, written-is, section-none, section-refused, section-is, place-none, place-refused, place-is, judged-refused, judged-is, told-is, unlikely-is, likely-is, hint-none, hint-refused, hint-is, needs)
 
 -- and so does each call
 pub says-count : (a : WmAnswer) (x y : Judgement ℕ) → a ≡ wmCount x → x ≡ y → a ≡ wmCount y

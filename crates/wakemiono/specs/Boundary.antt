@@ -1,5 +1,6 @@
 -- The four fields of an answer at the C boundary. Assumes nothing.
 use Prim.Native.Nat.{ℕ}
+use mathlib.Core.Bool.{Bool, true, false}
 use mathlib.Core.List.{List}
 use mathlib.Core.Option.{Option, none, some}
 use mathlib.Core.Path.{_≡_}
@@ -51,6 +52,11 @@ wmHinted Likely = record { kind = 4; code = 0; offset = 0; length = 0 }
 
 abbrev pub wmHint : Judged (Option Hint) → WmAnswer
 wmHint j = wmAnswer wmHinted j
+
+-- a yes or no
+abbrev pub wmYes : Bool → ℕ
+wmYes true = 1
+wmYes false = 0
 
 -- a write: the answer, and the whole end state of the output
 pub record WmWrites (wanted : Judged (List ℕ)) (old new : List ℕ) (a : WmAnswer) : Type 0 where

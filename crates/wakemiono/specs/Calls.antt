@@ -11,10 +11,11 @@ use Rattle.format.specs.Options.{mapSome}
 use Rattle.format.specs.Questions.{asPlace, ask}
 use Rattle.format.specs.declared.Question.{Question}
 use Rattle.format.specs.Reading.{mapJudged, verdict}
+use Rattle.format.specs.Telling.{namesAreCanonical, itemsAreCanonical}
 use Rattle.format.specs.Through.{askThrough, askMetadataThrough, askHintThrough}
 use Rattle.format.specs.Walk.{sectionCount, sectionAt, customPayload}
 use Rattle.walk.specs.Surveys.{sectionPlace}
-use Rattle.wakemiono.specs.Boundary.{wmCount, wmSection, wmPlace, wmJudged, wmHint, WmWrites}
+use Rattle.wakemiono.specs.Boundary.{wmCount, wmSection, wmPlace, wmJudged, wmHint, wmYes, WmWrites}
 use Rattle.wakemiono.specs.declared.WmAnswer.{WmAnswer}
 
 abbrev pub wm-walk : List ℕ → WmAnswer → Type 0
@@ -64,6 +65,16 @@ wm-metadata-canonical payload old new a = WmWrites (canonicalMetadata payload) o
 
 abbrev pub wm-hints-canonical : (payload old new : List ℕ) → WmAnswer → Type 0
 wm-hints-canonical payload old new a = WmWrites (canonicalHints payload) old new a
+
+-- K10: a yes or no
+abbrev pub wm-names-is-canonical : (payload : List ℕ) → ℕ → Type 0
+wm-names-is-canonical payload a = a ≡ wmYes (namesAreCanonical knownKind payload)
+
+abbrev pub wm-metadata-is-canonical : (payload : List ℕ) → ℕ → Type 0
+wm-metadata-is-canonical payload a = a ≡ wmYes (itemsAreCanonical anyItem payload)
+
+abbrev pub wm-hints-is-canonical : (payload : List ℕ) → ℕ → Type 0
+wm-hints-is-canonical payload a = a ≡ wmYes (itemsAreCanonical hintItem payload)
 
 abbrev pub wm-function-names-write : (indices lengths text old new : List ℕ) → WmAnswer → Type 0
 wm-function-names-write indices lengths text old new a = WmWrites (functionNames indices lengths text) old new a

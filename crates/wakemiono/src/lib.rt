@@ -8,8 +8,8 @@ ghost use Rattle.format.specs.declared.Question.the-variants.{ModuleName, Funct
 ghost use Rattle.format.specs.Refusals.{numberOf};
 ghost use Rattle.format.specs.Verdicts.{verdictOf};
 ghost use Rattle.walk.specs.Surveys.{counted, sectionAnswered};
-ghost use Rattle.wakemiono.specs.Boundary.{wmFound, wmRefused, wmCount, wmSection, wmPlace, wmJudged, wmHinted, wmHint};
-ghost use Rattle.wakemiono.specs.Calls.{wm-walk, wm-section, wm-custom, wm-names-judge, wm-name, wm-metadata-judge, wm-metadata, wm-hints-judge, wm-hint, wm-name-in, wm-metadata-in, wm-hint-in, wm-names-canonical, wm-metadata-canonical, wm-hints-canonical, wm-function-names-write};
+ghost use Rattle.wakemiono.specs.Boundary.{wmFound, wmRefused, wmCount, wmSection, wmPlace, wmJudged, wmHinted, wmHint, wmYes};
+ghost use Rattle.wakemiono.specs.Calls.{wm-walk, wm-section, wm-custom, wm-names-judge, wm-name, wm-metadata-judge, wm-metadata, wm-hints-judge, wm-hint, wm-name-in, wm-metadata-in, wm-hint-in, wm-names-canonical, wm-metadata-canonical, wm-hints-canonical, wm-names-is-canonical, wm-metadata-is-canonical, wm-hints-is-canonical, wm-function-names-write};
 use format::Answer;
 use format::CodeOffset;
 use format::FieldIndex;
@@ -45,6 +45,11 @@ const REFUSED: u32 = 2;
 const UNLIKELY: u32 = 3;
 
 const LIKELY: u32 = 4;
+
+// The answer of a call that tells a yes or no.
+const YES: u32 = 1;
+
+const NO: u32 = 0;
 
 const ANSWERED_NONE: WmAnswer = WmAnswer {
     kind: NONE,
@@ -173,6 +178,15 @@ fn of_hint(answer: HintAnswer) -> WmAnswer
         HintAnswer::Refused(r) => of_refusal(r),
         HintAnswer::Found(hint) => of_likelihood(hint),
     }
+}
+
+fn of_yes(is: bool) -> u32
+    ensures { λ a. ⌜ a ≡ wmYes is ⌝ }
+{
+    if is {
+        return YES;
+    }
+    NO
 }
 
 #[no_mangle]
@@ -394,6 +408,27 @@ pub extern "C" fn wm_hints_canonical(payload: &[u8], out: &mut [u8]) -> WmAnswer
     ensures { λ a. ⌜ wm-hints-canonical (now (payload .entry)) (now (out .entry)) (now (out .exit)) a ⌝ }
 {
     of_written(rewrite::hints(payload, out))
+}
+
+#[no_mangle]
+pub extern "C" fn wm_names_is_canonical(payload: &[u8]) -> u32
+    ensures { λ a. ⌜ wm-names-is-canonical (now (payload .entry)) a ⌝ }
+{
+    of_yes(names::telling::is_canonical(payload))
+}
+
+#[no_mangle]
+pub extern "C" fn wm_metadata_is_canonical(payload: &[u8]) -> u32
+    ensures { λ a. ⌜ wm-metadata-is-canonical (now (payload .entry)) a ⌝ }
+{
+    of_yes(metadata::telling::is_canonical(payload))
+}
+
+#[no_mangle]
+pub extern "C" fn wm_hints_is_canonical(payload: &[u8]) -> u32
+    ensures { λ a. ⌜ wm-hints-is-canonical (now (payload .entry)) a ⌝ }
+{
+    of_yes(metadata::telling::are_hints_canonical(payload))
 }
 
 #[no_mangle]

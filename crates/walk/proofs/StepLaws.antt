@@ -1,6 +1,6 @@
 -- One step of the walk.
 use Prim.Native.Nat.{ℕ, zero, suc, _+_, _≤_, _<_}
-use mathlib.Core.Bool.{false, _||_}
+use mathlib.Core.Bool.{Bool, false, _||_}
 use mathlib.Core.List.{List, [], _∷_}
 use mathlib.Core.Option.{none, some}
 use mathlib.Core.Path.{_≡_, refl, sym, ap, _∙_}
@@ -56,7 +56,7 @@ module _ {m : List ℕ} {id : ℕ} {contents : Cursor} where
     unfolding custom
     custom-refused e = record { means = λ o bs. rw (z, ← rw e at (p .means)); within = λ c q. absurd (let w : _≡_ {A = ℕ} 0 1 = cc in omega arith) }
 
-    pub custom-read : {part payload : Cursor} → Inside m contents → x ≡ Part part payload → CustomReads m id contents (Read (Named part payload))
+    pub custom-read : {part payload : Cursor} {told : Bool} → Inside m contents → x ≡ Part part payload told → CustomReads m id contents (Read (Named part payload))
     unfolding custom remaining
     custom-read i e = record { means = λ o bs. rw (z, name-means p e); within = λ c q. rw (← read-is q) (let b = name-behind i p e in (b .in-part, b .in-rest)) }
 
@@ -160,7 +160,7 @@ module _ {m : List ℕ} {w : Walk} where
       unfolding section
       step-size-refused e = record { means = rw (opened m w h, ← j .says (w .at) (suc (w .at)) (drop (suc (w .at)) m), as-fine v a, sized-there, ← rw e at (p .means)); seen = tt; forward = tt }
 
-      module _ {contents next : Cursor} (e : x ≡ Part contents next) where
+      module _ {contents next : Cursor} {told : Bool} (e : x ≡ Part contents next told) where
         read-behind : Behind m (behindId m w) contents next
         read-behind = part-behind behind-inside p e
 

@@ -65,7 +65,7 @@ fn read_custom(m: &[u8], id: u8, contents: Cursor) -> CustomRead
     }
     match contents.name(m) {
         PartRead::Refused(r) => CustomRead::Refused(r),
-        PartRead::Part(name, payload) => CustomRead::Read(Custom::Named(name, payload)),
+        PartRead::Part(name, payload, _) => CustomRead::Read(Custom::Named(name, payload)),
     }
 }
 
@@ -169,7 +169,9 @@ impl Walk {
                 };
                 match rest.sized(m) {
                     PartRead::Refused(r) => Step::Refused(r),
-                    PartRead::Part(contents, next) => { after_size(m, self, id, contents, next.at) }
+                    PartRead::Part(contents, next, _) => {
+                        after_size(m, self, id, contents, next.at)
+                    }
                 }
             }
         }

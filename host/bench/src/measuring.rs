@@ -1,6 +1,6 @@
 //! Every operation that a payload allows, put once to each reader, and the two results compared.
 
-use comparison::library::{self, Told};
+use comparison::library;
 
 use crate::function_map::{FunctionMap, Lists};
 use crate::made::LAST_BRANCH;
@@ -21,7 +21,7 @@ macro_rules! asked {
         const READER: u8 = region($operation, Who::SecondReader);
         let told = counted::<LIBRARY, _, _>($input, |$lent| library::$call($($argument),*));
         let read = counted::<READER, _, _>($input, |$lent| second_reader::$call($($argument),*));
-        ($operation, told == Told::from(read))
+        ($operation, are_alike(told, read))
     }};
 }
 
@@ -37,8 +37,12 @@ macro_rules! written {
         let read = counted::<READER, _, _>(($input, &mut by_reader[..]), |($lent, $out)| {
             second_reader::$call($($argument),*)
         });
-        ($operation, told == Told::from(read) && by_library == by_reader)
+        ($operation, are_alike(told, read) && by_library == by_reader)
     }};
+}
+
+fn are_alike<Told: PartialEq>(told: Told, read: impl Into<Told>) -> bool {
+    told == read.into()
 }
 
 /// The operations that were measured, or the one on which the readers differ.
@@ -64,7 +68,7 @@ fn walk(module: &[u8]) -> Compared {
 }
 
 fn names(payload: &[u8]) -> Vec<Compared> {
-    let mut compared = vec![judge(payload)];
+    let mut compared = vec![judge(payload), tell(payload)];
     let map = FunctionMap::of(payload);
     let last = map.as_ref().and_then(|map| map.lists.indices.last());
     compared.extend(last.map(|&last| look_up(payload, last)));
@@ -76,6 +80,10 @@ fn names(payload: &[u8]) -> Vec<Compared> {
 
 fn judge(payload: &[u8]) -> Compared {
     asked!(Operation::Judge, names_judge(lent) where lent = payload)
+}
+
+fn tell(payload: &[u8]) -> Compared {
+    asked!(Operation::Tell, names_is_canonical(lent) where lent = payload)
 }
 
 fn look_up(payload: &[u8], last: u32) -> Compared {
@@ -99,6 +107,7 @@ fn write_from_lists(lists: &Lists, room: usize) -> Compared {
 fn hints(payload: &[u8]) -> Vec<Compared> {
     vec![
         judge_hints(payload),
+        tell_hints(payload),
         look_hint_up(payload, LAST_BRANCH),
         rewrite_hints(payload),
     ]
@@ -106,6 +115,10 @@ fn hints(payload: &[u8]) -> Vec<Compared> {
 
 fn judge_hints(payload: &[u8]) -> Compared {
     asked!(Operation::JudgeHints, hints_judge(lent) where lent = payload)
+}
+
+fn tell_hints(payload: &[u8]) -> Compared {
+    asked!(Operation::TellHints, hints_is_canonical(lent) where lent = payload)
 }
 
 fn look_hint_up(payload: &[u8], branch: (u32, u32)) -> Compared {
@@ -133,8 +146,13 @@ mod tests {
             let payload = payload::named(&name).expect("it was named");
             operations.extend(measure(&payload).expect("they agree"));
         }
-        for last in [Operation::WriteFromLists, Operation::RewriteHints] {
-            assert!(operations.contains(&last), "{} was not tried", last.words());
+        for tried in [
+            Operation::Tell,
+            Operation::WriteFromLists,
+            Operation::TellHints,
+            Operation::RewriteHints,
+        ] {
+            assert!(operations.contains(&tried), "not tried: {}", tried.words());
         }
     }
 }

@@ -6,10 +6,12 @@
 pub enum Operation {
     Walk,
     Judge,
+    Tell,
     LookUp,
     Rewrite,
     WriteFromLists,
     JudgeHints,
+    TellHints,
     LookHintUp,
     RewriteHints,
 }
@@ -20,10 +22,12 @@ impl Operation {
         match self {
             Operation::Walk => "walk",
             Operation::Judge => "judge",
+            Operation::Tell => "tell",
             Operation::LookUp => "judge, look last function up",
             Operation::Rewrite => "rewrite",
             Operation::WriteFromLists => "write from lists",
             Operation::JudgeHints => "judge hints",
+            Operation::TellHints => "tell hints",
             Operation::LookHintUp => "judge hints, look last up",
             Operation::RewriteHints => "rewrite hints",
         }

@@ -7,7 +7,9 @@
 
 pub mod fixtures;
 pub mod guarded;
+pub mod held;
 pub mod library;
 pub mod made;
 pub mod random;
+pub mod spelling;
 pub mod tally;

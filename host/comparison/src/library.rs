@@ -4,7 +4,7 @@
 // The crate that links the library is used for nothing else here.
 use wakemiono as _;
 
-/// The answer of every call.
+/// The answer of every call but those to a yes or no.
 #[derive(Clone, Copy, Debug, PartialEq, Eq)]
 #[repr(C)]
 pub struct Told {
@@ -25,6 +25,9 @@ pub const FOUND: u32 = 1;
 /// The kind of a refusal.
 pub const REFUSED: u32 = 2;
 
+/// The answer to a yes or no that says yes; no is 0.
+pub const YES: u32 = 1;
+
 impl From<second_reader::Answer> for Told {
     fn from(answer: second_reader::Answer) -> Told {
         Told {
@@ -38,15 +41,17 @@ impl From<second_reader::Answer> for Told {
 
 /// Declares calls that take one lent slice and numbers, with a safe function for each.
 macro_rules! questions {
-    ($($call:ident = $symbol:ident ($($argument:ident: $of:ty),*);)*) => {
+    ($($call:ident = $symbol:ident ($($argument:ident: $of:ty),*) -> $answer:ident;)*) => {
         mod declared {
+            use super::Told;
+
             extern "C" {
-                $(pub fn $symbol(lent: *const u8, lent_len: usize $(, $argument: $of)*) -> super::Told;)*
+                $(pub fn $symbol(lent: *const u8, lent_len: usize $(, $argument: $of)*) -> $answer;)*
             }
         }
         $(
             #[doc = concat!("`", stringify!($symbol), "` of the header, on a slice.")]
-            pub fn $call(lent: &[u8] $(, $argument: $of)*) -> Told {
+            pub fn $call(lent: &[u8] $(, $argument: $of)*) -> $answer {
                 // SAFETY: pointer and length are those of a live slice, which the call only reads.
                 unsafe { declared::$symbol(lent.as_ptr(), lent.len() $(, $argument)*) }
             }
@@ -55,28 +60,31 @@ macro_rules! questions {
 }
 
 questions! {
-    walk = wm_walk();
-    section = wm_section(position: u64);
-    names_judge = wm_names_judge();
-    module_name = wm_module_name();
-    function_name = wm_function_name(function: u32);
-    type_name = wm_type_name(index: u32);
-    tag_name = wm_tag_name(tag: u32);
-    local_name = wm_local_name(function: u32, local: u32);
-    field_name = wm_field_name(index: u32, field: u32);
-    kept = wm_kept(id: u8);
-    module_name_in = wm_module_name_in();
-    function_name_in = wm_function_name_in(function: u32);
-    type_name_in = wm_type_name_in(index: u32);
-    tag_name_in = wm_tag_name_in(tag: u32);
-    local_name_in = wm_local_name_in(function: u32, local: u32);
-    field_name_in = wm_field_name_in(index: u32, field: u32);
-    kept_in = wm_kept_in(id: u8);
-    metadata_judge = wm_metadata_judge();
-    hints_judge = wm_hints_judge();
-    metadata = wm_metadata(function: u32, offset: u32);
-    hint = wm_hint(function: u32, offset: u32);
-    hint_in = wm_hint_in(function: u32, offset: u32);
+    walk = wm_walk() -> Told;
+    section = wm_section(position: u64) -> Told;
+    names_judge = wm_names_judge() -> Told;
+    module_name = wm_module_name() -> Told;
+    function_name = wm_function_name(function: u32) -> Told;
+    type_name = wm_type_name(index: u32) -> Told;
+    tag_name = wm_tag_name(tag: u32) -> Told;
+    local_name = wm_local_name(function: u32, local: u32) -> Told;
+    field_name = wm_field_name(index: u32, field: u32) -> Told;
+    kept = wm_kept(id: u8) -> Told;
+    module_name_in = wm_module_name_in() -> Told;
+    function_name_in = wm_function_name_in(function: u32) -> Told;
+    type_name_in = wm_type_name_in(index: u32) -> Told;
+    tag_name_in = wm_tag_name_in(tag: u32) -> Told;
+    local_name_in = wm_local_name_in(function: u32, local: u32) -> Told;
+    field_name_in = wm_field_name_in(index: u32, field: u32) -> Told;
+    kept_in = wm_kept_in(id: u8) -> Told;
+    metadata_judge = wm_metadata_judge() -> Told;
+    hints_judge = wm_hints_judge() -> Told;
+    metadata = wm_metadata(function: u32, offset: u32) -> Told;
+    hint = wm_hint(function: u32, offset: u32) -> Told;
+    hint_in = wm_hint_in(function: u32, offset: u32) -> Told;
+    names_is_canonical = wm_names_is_canonical() -> u32;
+    metadata_is_canonical = wm_metadata_is_canonical() -> u32;
+    hints_is_canonical = wm_hints_is_canonical() -> u32;
 }
 
 /// Declares calls that rewrite a lent payload into an output.

@@ -1,95 +1,102 @@
 //! Payloads and modules made at random: well formed, with everything that the rules allow and few writers produce.
 
+use crate::held::{Contents, Entries, Groups, Held, Names, INDIRECT_MAPS, MAPS};
 use crate::random::Random;
+use crate::spelling::{self, LONGEST_NUMBER};
 use crate::tally::KEYS;
 
 /// Text of each length that a character can have, and none.
 const TEXTS: [&str; 7] = ["", "a", "main", "é", "漢", "🦀x", "core::fmt::write"];
 
-/// The most bytes that a number takes.
-const LONGEST_NUMBER: usize = 5;
+/// The id of the subsection with the module's name.
+const MODULE_NAME: u8 = 0;
 
-/// How many bits of a number stand in each of its bytes.
-const BITS_IN_A_BYTE: u32 = 7;
+/// The subsections that are made: every known id, and others between and behind them.
+const SUBSECTIONS: [u8; 13] = [0, 1, 2, 3, 4, 5, 7, 9, 10, 11, 12, 200, 255];
 
-/// The bit that says that the number goes on in the next byte.
-const GOES_ON: u8 = 1 << BITS_IN_A_BYTE;
+/// Of so many payloads one is made canonical; by chance only short ones are.
+const ONE_CANONICAL_IN: usize = 3;
 
-/// A number in its fewest bytes, or padded.
-pub fn number(r: &mut Random, value: u32) -> Vec<u8> {
-    let mut bytes = vec![];
-    let mut rest = value;
-    while rest >= u32::from(GOES_ON) {
-        bytes.push(rest as u8 | GOES_ON);
-        rest >>= BITS_IN_A_BYTE;
+/// Of so many numbers one is padded, by no more bytes than there is room for.
+const ONE_PADDED_IN: usize = 6;
+
+/// The padding of some numbers, and of most none.
+fn at_random(r: &mut Random) -> impl FnMut(usize) -> usize + '_ {
+    |fewest| match r.once_in(ONE_PADDED_IN) {
+        true => r.below(LONGEST_NUMBER - fewest + 1),
+        false => 0,
     }
-    bytes.push(rest as u8);
-    if r.once_in(6) {
-        let more = r.below(LONGEST_NUMBER - bytes.len() + 1);
-        for _ in 0..more {
-            *bytes.last_mut().expect("a number has bytes") |= GOES_ON;
-            bytes.push(0);
-        }
-    }
-    bytes
 }
 
-/// A part with its size before it.
-pub fn sized(r: &mut Random, contents: &[u8]) -> Vec<u8> {
-    let mut bytes = number(r, contents.len() as u32);
-    bytes.extend(contents);
-    bytes
+/// A part with its size before it, which may be padded.
+fn sized(r: &mut Random, contents: &[u8]) -> Vec<u8> {
+    spelling::sized(contents, &mut at_random(r))
 }
 
-fn name(r: &mut Random) -> Vec<u8> {
-    let text = r.one_of(&TEXTS);
-    sized(r, text.as_bytes())
+fn text(r: &mut Random) -> Vec<u8> {
+    r.one_of(&TEXTS).into()
 }
 
-/// A list with rising numbers out of `KEYS`, each with a value.
-fn table(r: &mut Random, value: &mut dyn FnMut(&mut Random) -> Vec<u8>) -> Vec<u8> {
-    let chosen: Vec<u32> = KEYS.into_iter().filter(|_| r.once_in(3)).collect();
-    let mut bytes = number(r, chosen.len() as u32);
-    for key in chosen {
-        bytes.extend(number(r, key));
-        bytes.extend(value(r));
-    }
-    bytes
+/// Fewer bytes than the bound.
+fn bytes(r: &mut Random, bound: usize) -> Vec<u8> {
+    (0..r.below(bound)).map(|_| r.number() as u8).collect()
 }
 
-fn contents(r: &mut Random, id: u8) -> Vec<u8> {
+fn keys(r: &mut Random) -> Vec<u32> {
+    KEYS.into_iter().filter(|_| r.once_in(3)).collect()
+}
+
+fn entries(r: &mut Random, part: fn(&mut Random) -> Vec<u8>) -> Entries {
+    keys(r).into_iter().map(|key| (key, part(r))).collect()
+}
+
+fn groups(r: &mut Random, part: fn(&mut Random) -> Vec<u8>) -> Groups {
+    let keys = keys(r).into_iter();
+    keys.map(|key| (key, entries(r, part))).collect()
+}
+
+fn contents(r: &mut Random, id: u8) -> Contents {
     match id {
-        0 => name(r),
-        1 | 4 | 11 => table(r, &mut name),
-        2 | 10 => table(r, &mut |r| table(r, &mut name)),
-        _ => (0..r.below(5)).map(|_| r.number() as u8).collect(),
+        MODULE_NAME => Contents::Name(text(r)),
+        map if MAPS.contains(&map) => Contents::Map(entries(r, text)),
+        map if INDIRECT_MAPS.contains(&map) => Contents::Indirect(groups(r, text)),
+        _ => Contents::Kept(bytes(r, 5)),
+    }
+}
+
+/// What a name payload holds.
+pub fn held_names(r: &mut Random) -> Names {
+    let ids = SUBSECTIONS.into_iter().filter(|_| r.once_in(3));
+    let ids: Vec<u8> = ids.collect();
+    ids.into_iter().map(|id| (id, contents(r, id))).collect()
+}
+
+/// What a metadata payload holds; of branch hints, or with data of any size.
+pub fn held_metadata(r: &mut Random, hints: bool) -> Groups {
+    match hints {
+        true => groups(r, |r| vec![r.below(2) as u8]),
+        false => groups(r, |r| bytes(r, 4)),
+    }
+}
+
+/// A canonical payload, or one with padding and empty lists.
+fn payload(r: &mut Random, held: impl Held) -> Vec<u8> {
+    match r.once_in(ONE_CANONICAL_IN) {
+        true => held.canonical(),
+        false => held.spelled(&mut at_random(r)),
     }
 }
 
 /// A name payload.
 pub fn names(r: &mut Random) -> Vec<u8> {
-    let mut payload = vec![];
-    for id in [0, 1, 2, 3, 4, 5, 7, 9, 10, 11, 12, 200, 255] {
-        if r.once_in(3) {
-            let held = contents(r, id);
-            payload.push(id);
-            payload.extend(sized(r, &held));
-        }
-    }
-    payload
+    let held = held_names(r);
+    payload(r, held)
 }
 
 /// A metadata payload; of branch hints, or with data of any size.
 pub fn metadata(r: &mut Random, hints: bool) -> Vec<u8> {
-    table(r, &mut |r| {
-        table(r, &mut |r| {
-            let data: Vec<u8> = match hints {
-                true => vec![r.below(2) as u8],
-                false => (0..r.below(4)).map(|_| r.number() as u8).collect(),
-            };
-            sized(r, &data)
-        })
-    })
+    let held = held_metadata(r, hints);
+    payload(r, held)
 }
 
 fn custom(r: &mut Random, name: &[u8], payload: &[u8]) -> Vec<u8> {
@@ -111,7 +118,7 @@ pub fn module(r: &mut Random) -> Vec<u8> {
         }
         if r.once_in(3) {
             m.push(id);
-            let contents: Vec<u8> = (0..r.below(4)).map(|_| r.number() as u8).collect();
+            let contents = bytes(r, 4);
             m.extend(sized(r, &contents));
         }
         if r.once_in(5) {

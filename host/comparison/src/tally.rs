@@ -3,7 +3,7 @@
 use std::fmt;
 
 use crate::guarded::Guarded;
-use crate::library::{self, Told, FOUND, REFUSED};
+use crate::library::{self, Told, FOUND, REFUSED, YES};
 use second_reader::Answer;
 
 /// The name of the section with names.
@@ -40,6 +40,9 @@ const POSITIONS_BEHIND: u64 = 2;
 /// A text whose length is a number of one byte, as that of the subsection which it fills.
 pub const SHORT_TEXT: usize = 126;
 
+/// How many calls are put for one text.
+pub const CALLS_OF_A_TEXT: u64 = 2;
+
 /// Indices and offsets that are asked for; the made payloads use them too.
 pub const KEYS: [u32; 8] = [0, 1, 2, 3, 127, 128, 300, u32::MAX];
 
@@ -53,6 +56,12 @@ pub const IDS: [u8; 12] = [0, 1, 2, 3, 4, 5, 7, 9, 10, 11, 12, 255];
 pub struct Tally {
     /// How many calls agreed.
     pub calls: u64,
+    /// What they said of name payloads.
+    pub names_said: Said,
+    /// What they said of metadata payloads, by the rules for any format.
+    pub metadata_said: Said,
+    /// What they said of metadata payloads, by the rules for hints.
+    pub hints_said: Said,
     lent: Guarded,
     also_lent: Guarded,
     text: Guarded,
@@ -63,12 +72,45 @@ impl Default for Tally {
     fn default() -> Self {
         Tally {
             calls: 0,
+            names_said: Said::default(),
+            metadata_said: Said::default(),
+            hints_said: Said::default(),
             lent: Guarded::new(ROOM),
             also_lent: Guarded::new(ROOM),
             text: Guarded::new(ROOM),
             output: Guarded::new(ROOM),
         }
     }
+}
+
+/// How often it was said of an accepted payload that it is canonical, and how often that it is not.
+#[derive(Clone, Copy, Debug, Default, PartialEq, Eq)]
+pub struct Said {
+    /// How many accepted payloads are canonical.
+    pub canonical: u64,
+    /// How many accepted payloads are not.
+    pub not_canonical: u64,
+}
+
+impl Said {
+    fn count(&mut self, told: Told, is_canonical: u32) -> Judged {
+        let canonical = is_canonical == YES;
+        match (told.kind, canonical) {
+            (REFUSED, _) => {}
+            (_, true) => self.canonical += 1,
+            (_, false) => self.not_canonical += 1,
+        }
+        Judged { told, canonical }
+    }
+}
+
+/// What both readers say of a payload.
+#[derive(Clone, Copy)]
+pub struct Judged {
+    /// The judgement.
+    pub told: Told,
+    /// Whether it is canonical.
+    pub canonical: bool,
 }
 
 /// Puts one question to both readers.
@@ -96,34 +138,52 @@ macro_rules! rewrite {
 }
 
 impl Tally {
-    fn ask(
+    fn ask<Answered: Copy + fmt::Debug + PartialEq, Read: Into<Answered>>(
         &mut self,
         call: &str,
         bytes: &[u8],
-        library: impl Fn(&[u8]) -> Told,
-        reader: impl Fn(&[u8]) -> Answer,
-    ) -> Told {
+        library: impl Fn(&[u8]) -> Answered,
+        reader: impl Fn(&[u8]) -> Read,
+    ) -> Answered {
         let lent = self.lent.lend(bytes);
         let told = library(lent);
         assert_eq!(lent, bytes, "{call} changed what was lent");
-        assert_eq!(told, Told::from(reader(bytes)), "{call} of {bytes:02X?}");
+        assert_eq!(told, reader(bytes).into(), "{call} of {bytes:02X?}");
         self.calls += 1;
         told
     }
 
-    /// Whether a short text is one: the judgement of the payload whose module name it is.
+    fn judge_names(&mut self, p: &[u8]) -> Judged {
+        let told = ask!(self, p, names_judge);
+        let is_canonical = ask!(self, p, names_is_canonical);
+        self.names_said.count(told, is_canonical)
+    }
+
+    fn judge_metadata(&mut self, p: &[u8]) -> Judged {
+        let told = ask!(self, p, metadata_judge);
+        let is_canonical = ask!(self, p, metadata_is_canonical);
+        self.metadata_said.count(told, is_canonical)
+    }
+
+    fn judge_hints(&mut self, p: &[u8]) -> Judged {
+        let told = ask!(self, p, hints_judge);
+        let is_canonical = ask!(self, p, hints_is_canonical);
+        self.hints_said.count(told, is_canonical)
+    }
+
+    /// Whether a short text is one: what is said of the payload whose module name it is.
     pub fn text(&mut self, text: &[u8]) {
         let mut payload = [0; SHORT_TEXT + 3];
         let length = u8::try_from(text.len()).expect("a short text");
         payload[1] = length + 1;
         payload[2] = length;
         payload[3..text.len() + 3].copy_from_slice(text);
-        ask!(self, &payload[..text.len() + 3], names_judge);
+        self.judge_names(&payload[..text.len() + 3]);
     }
 
     /// Every question to a name payload.
     pub fn names(&mut self, p: &[u8]) {
-        ask!(self, p, names_judge);
+        self.judge_names(p);
         ask!(self, p, module_name);
         for key in KEYS {
             ask!(self, p, function_name, key);
@@ -144,8 +204,8 @@ impl Tally {
 
     /// Every question to a metadata payload.
     pub fn metadata(&mut self, p: &[u8]) {
-        ask!(self, p, metadata_judge);
-        ask!(self, p, hints_judge);
+        self.judge_metadata(p);
+        self.judge_hints(p);
         for key in FEW_KEYS {
             for inner in FEW_KEYS {
                 ask!(self, p, metadata, key, inner);
@@ -189,34 +249,28 @@ impl Tally {
 
     /// How a custom section of a module is judged, put through the module and on its own, with the offset from the
     /// start of the module; none without the section.
-    pub fn judgement(&mut self, m: &[u8], section: &[u8]) -> Option<Told> {
+    pub fn judgement(&mut self, m: &[u8], section: &[u8]) -> Option<Judged> {
         let place = ask!(self, m, custom, section);
         if place.kind != FOUND {
             return None;
         }
         let payload = &m[place.offset as usize..][..place.length as usize];
         let (through, mut alone) = match section {
-            NAMES => (
-                ask!(self, m, module_name_in),
-                ask!(self, payload, names_judge),
-            ),
-            HINTS => (
-                ask!(self, m, hint_in, 0, 0),
-                ask!(self, payload, hints_judge),
-            ),
+            NAMES => (ask!(self, m, module_name_in), self.judge_names(payload)),
+            HINTS => (ask!(self, m, hint_in, 0, 0), self.judge_hints(payload)),
             _ => {
                 let format = section
                     .strip_prefix(METADATA)
                     .expect("a section with a judgement");
                 (
                     ask!(self, m, metadata_in, format, 0, 0),
-                    ask!(self, payload, metadata_judge),
+                    self.judge_metadata(payload),
                 )
             }
         };
-        if alone.kind == REFUSED {
-            alone.offset += place.offset;
-            assert_eq!(through, alone, "a refusal in {m:02X?}");
+        if alone.told.kind == REFUSED {
+            alone.told.offset += place.offset;
+            assert_eq!(through, alone.told, "a refusal in {m:02X?}");
         } else {
             assert_ne!(through.kind, REFUSED, "only through its module: {m:02X?}");
         }

@@ -2,6 +2,7 @@
 
 use comparison::made;
 use comparison::random::{seed, Random};
+use comparison::spelling::{number, sized, unpadded};
 use comparison::tally::Tally;
 
 /// What a byte is changed to: ends of ranges that the rules name, and its neighbours.
@@ -100,9 +101,9 @@ fn modules() {
 /// A name payload with one function name.
 fn one_name(text: &[u8]) -> Vec<u8> {
     let mut contents = vec![1, 0];
-    contents.extend(made::sized(&mut Random::new(1), text));
+    contents.extend(sized(text, &mut unpadded));
     let mut payload = vec![1];
-    payload.extend(made::sized(&mut Random::new(1), &contents));
+    payload.extend(sized(&contents, &mut unpadded));
     payload
 }
 
@@ -140,7 +141,7 @@ fn counts_and_lengths_up_to_the_greatest() {
         u32::MAX - 1,
         u32::MAX,
     ] {
-        let number = made::number(&mut Random::new(1), value);
+        let number = number(value, &mut unpadded);
         for before in [
             &[1, 8][..],
             &[2, 8],

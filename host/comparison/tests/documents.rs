@@ -1,12 +1,19 @@
 //! The documents' own cases.
 
-use comparison::tally::Tally;
+use comparison::tally::{Said, Tally};
 
 /// The payload P of the examples.
 const P: [u8; 21] = [
     0x00, 0x02, 0x01, 0x6D, 0x01, 0x07, 0x02, 0x00, 0x01, 0x61, 0x03, 0x01, 0x62, 0x02, 0x06, 0x01,
     0x03, 0x01, 0x00, 0x01, 0x78,
 ];
+
+fn said(canonical: u64, not_canonical: u64) -> Said {
+    Said {
+        canonical,
+        not_canonical,
+    }
+}
 
 #[test]
 fn name_payloads() {
@@ -35,6 +42,7 @@ fn name_payloads() {
         tally.names(payload);
     }
     println!("compared {} calls", tally.calls);
+    assert_eq!(tally.names_said, said(4, 4));
 }
 
 #[test]
@@ -58,6 +66,8 @@ fn metadata_payloads() {
         tally.metadata(payload);
     }
     println!("compared {} calls", tally.calls);
+    assert_eq!(tally.metadata_said, said(5, 2));
+    assert_eq!(tally.hints_said, said(3, 2));
 }
 
 #[test]

@@ -2,7 +2,7 @@
 
 use comparison::fixtures::{files, modules};
 use comparison::library::{self, custom, section, walk, Told, FOUND, REFUSED};
-use comparison::tally::{Tally, HINTS, NAMES};
+use comparison::tally::{Judged, Said, Tally, HINTS, NAMES};
 use std::fmt::Write;
 use std::fs;
 use std::path::Path;
@@ -13,10 +13,21 @@ const MODULES: usize = 77;
 const WITH_PAYLOADS: usize = 49;
 /// Their lines.
 const JUDGEMENTS: usize = 102;
+/// The accepted among them: of names, of hints, and of other metadata.
+const NAMES_SAID: Said = said(15, 7);
+const HINTS_SAID: Said = said(2, 2);
+const METADATA_SAID: Said = said(3, 0);
 /// Those with an accepted payload that has something to ask for.
 const WITH_ANSWERS: usize = 20;
 /// The questions to them.
 const QUESTIONS: usize = 1_058;
+
+const fn said(canonical: u64, not_canonical: u64) -> Said {
+    Said {
+        canonical,
+        not_canonical,
+    }
+}
 
 /// The module that a file of expectations is about.
 fn module_of(expectations: &Path) -> Vec<u8> {
@@ -56,13 +67,16 @@ fn listings() {
 }
 
 /// The judgement of a payload, as the third reading words it.
-fn judgement(told: Option<Told>) -> String {
-    match told {
+fn judgement(judged: Option<Judged>) -> String {
+    match judged {
         None => "none".to_owned(),
-        Some(refusal) if refusal.kind == REFUSED => {
-            format!("refused {} {}", refusal.code, refusal.offset)
+        Some(Judged { told, .. }) if told.kind == REFUSED => {
+            format!("refused {} {}", told.code, told.offset)
         }
-        Some(_) => "accepted".to_owned(),
+        Some(Judged { canonical, .. }) => {
+            let not = if canonical { "" } else { "not " };
+            format!("accepted {not}canonical")
+        }
     }
 }
 
@@ -87,6 +101,9 @@ fn payloads() {
         }
     }
     assert_eq!(judgements, JUDGEMENTS);
+    assert_eq!(tally.names_said, NAMES_SAID);
+    assert_eq!(tally.hints_said, HINTS_SAID);
+    assert_eq!(tally.metadata_said, METADATA_SAID);
     println!("compared {} calls", tally.calls);
 }
 

@@ -2,13 +2,20 @@
 
 use comparison::made;
 use comparison::random::{seed, Random};
+use comparison::spelling::{sized, unpadded};
 use comparison::tally::Tally;
+
+/// How many inputs of each kind are made.
+const ROUNDS: u64 = 700;
+
+/// How many of the accepted payloads are canonical at least, and how many are not.
+const LEAST_OF_EACH: u64 = 200;
 
 #[test]
 fn payloads_and_modules() {
     let mut r = Random::new(seed());
     let mut tally = Tally::default();
-    for _ in 0..700 {
+    for _ in 0..ROUNDS {
         let names = made::names(&mut r);
         tally.names(&names);
         let data = made::metadata(&mut r, false);
@@ -17,8 +24,6 @@ fn payloads_and_modules() {
         tally.metadata(&hints);
         let module = made::module(&mut r);
         tally.module(&module);
-        let (indices, lengths, text) = made::lists(&mut r);
-        tally.lists(&indices, &lengths, &text);
     }
     println!("compared {} calls", tally.calls);
     assert!(
@@ -26,6 +31,24 @@ fn payloads_and_modules() {
         "only {} calls were compared",
         tally.calls
     );
+    for said in [tally.names_said, tally.metadata_said, tally.hints_said] {
+        assert!(said.canonical >= LEAST_OF_EACH, "{said:?}");
+        assert!(said.not_canonical >= LEAST_OF_EACH, "{said:?}");
+    }
+}
+
+#[test]
+fn lists() {
+    let mut r = Random::new(seed());
+    let mut tally = Tally::default();
+    for _ in 0..ROUNDS {
+        let (indices, lengths, text) = made::lists(&mut r);
+        tally.lists(&indices, &lengths, &text);
+    }
+    println!("compared {} calls", tally.calls);
+    let said = tally.names_said;
+    assert!(said.canonical >= LEAST_OF_EACH, "{said:?}");
+    assert_eq!(said.not_canonical, 0, "written from lists");
 }
 
 /// A name of each length around the steps that a reader of text may take, with a fault at each place.
@@ -36,14 +59,14 @@ fn long_texts() {
         for count in 0..70 {
             let mut payload = vec![0];
             let name = text.repeat(count);
-            let mut contents = made::sized(&mut Random::new(1), name.as_bytes());
-            payload.extend(made::sized(&mut Random::new(1), &contents));
+            let mut contents = sized(name.as_bytes(), &mut unpadded);
+            payload.extend(sized(&contents, &mut unpadded));
             tally.names(&payload);
             if let Some(last) = contents.last_mut() {
                 *last = 0xFF;
             }
             let mut damaged = vec![0];
-            damaged.extend(made::sized(&mut Random::new(1), &contents));
+            damaged.extend(sized(&contents, &mut unpadded));
             tally.names(&damaged);
         }
     }

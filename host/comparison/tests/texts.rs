@@ -1,10 +1,24 @@
 //! Text: every one of up to three bytes, those of four bytes around each limit, and characters between others.
 
-use comparison::tally::{Tally, SHORT_TEXT};
+use comparison::tally::{Said, Tally, CALLS_OF_A_TEXT, SHORT_TEXT};
 
 /// Around the values that a byte behind a character's first may have.
 const EDGES: [u8; 8] = [0x00, 0x7F, 0x80, 0x81, 0xBE, 0xBF, 0xC0, 0xFF];
 
+/// How many characters take one, two and three bytes. Surrogates are none.
+const OF_ONE: u64 = 0x80;
+const OF_TWO: u64 = 0x800 - 0x80;
+const OF_THREE: u64 = 0x1_0000 - 0x800 - SURROGATES;
+const SURROGATES: u64 = 0xE000 - 0xD800;
+
+/// How many texts of one, two and three bytes there are.
+const TEXTS: [u64; 3] = [
+    OF_ONE,
+    OF_ONE * OF_ONE + OF_TWO,
+    OF_ONE * OF_ONE * OF_ONE + 2 * OF_ONE * OF_TWO + OF_THREE,
+];
+
+/// A payload with one text is canonical where it is accepted.
 #[test]
 fn one_to_three_bytes() {
     let mut tally = Tally::default();
@@ -17,7 +31,13 @@ fn one_to_three_bytes() {
             }
         }
     }
-    assert_eq!(tally.calls, (1 << 8) + (1 << 16) + (1 << 24));
+    let tried = (1 << 8) + (1 << 16) + (1 << 24);
+    assert_eq!(tally.calls, CALLS_OF_A_TEXT * tried);
+    let said = Said {
+        canonical: TEXTS.iter().sum(),
+        not_canonical: 0,
+    };
+    assert_eq!(tally.names_said, said);
 }
 
 /// Every first and second byte: the limits of four bytes, U+10000 and U+10FFFF, show in these two.
@@ -33,7 +53,8 @@ fn four_bytes_around_each_limit() {
             }
         }
     }
-    assert_eq!(tally.calls, (1 << 16) * 8 * 8);
+    let tried = (1 << 16) * 8 * 8;
+    assert_eq!(tally.calls, CALLS_OF_A_TEXT * tried);
 }
 
 /// The first and the last of each length, the neighbours of the surrogates and of the greatest, and what is beside them.
@@ -73,4 +94,5 @@ fn at_every_place_of_ascii() {
         }
     }
     println!("compared {} calls", tally.calls);
+    assert_eq!(tally.names_said.not_canonical, 0);
 }

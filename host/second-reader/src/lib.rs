@@ -5,8 +5,9 @@
 //! the two give different answers for the same bytes, one of them misreads the rules.
 //!
 //! The functions are the calls of the C header under the same names, with slices for pointer and
-//! length. Each takes any bytes, ends in an [`Answer`], and asks for no prior check: a payload is
-//! judged whole before it is asked or rewritten, and a refusal changes no byte of an output.
+//! length. Each takes any bytes, ends in an [`Answer`] or, to a yes or no, in a `bool`, and asks for
+//! no prior check: a payload is judged whole before it is asked or rewritten, and a refusal changes
+//! no byte of an output.
 //!
 //! ```
 //! use second_reader::{function_name, Kind};
@@ -27,6 +28,7 @@ mod metadata;
 mod names;
 mod number;
 mod reading;
+mod telling;
 mod through;
 mod walk;
 mod writing;
@@ -38,6 +40,7 @@ pub use metadata::{hint, hints_judge, metadata, metadata_judge};
 pub use names::{
     field_name, function_name, kept, local_name, module_name, names_judge, tag_name, type_name,
 };
+pub use telling::{hints_is_canonical, metadata_is_canonical, names_is_canonical};
 pub use through::{
     field_name_in, function_name_in, hint_in, kept_in, local_name_in, metadata_in, module_name_in,
     tag_name_in, type_name_in,

@@ -13,7 +13,13 @@ use support::*;
 
 const INDICES: [u32; 4] = [0, 1, 127, u32::MAX];
 
-type Rewrite = fn(&[u8], &mut [u8]) -> Answer;
+/// The calls on payloads of one kind.
+struct Calls {
+    judge: fn(&[u8]) -> Answer,
+    ask: fn(&[u8]) -> Vec<Answer>,
+    rewrite: fn(&[u8], &mut [u8]) -> Answer,
+    is_canonical: fn(&[u8]) -> bool,
+}
 
 /// Every question to a name payload, for a few indices.
 fn name_answers(payload: &[u8]) -> Vec<Answer> {
@@ -43,18 +49,20 @@ fn said(lent: &[u8], answers: Vec<Answer>) -> Vec<(Kind, Option<&[u8]>)> {
 }
 
 /// Puts every question to one payload, whatever it is.
-fn check_payload(
-    payload: &[u8],
-    judge: fn(&[u8]) -> Answer,
-    ask: fn(&[u8]) -> Vec<Answer>,
-    rewrite: Rewrite,
-) {
+fn check_payload(payload: &[u8], calls: Calls) {
+    let Calls {
+        judge,
+        ask,
+        rewrite,
+        is_canonical,
+    } = calls;
     let judged = judge(payload);
     if judged.kind == Kind::Refused {
         assert!((2..=12).contains(&judged.code));
         assert!(judged.offset <= payload.len() as u64);
         assert!(ask(payload).iter().all(|answer| *answer == judged));
         assert_eq!(rewritten(rewrite, payload), Err(judged));
+        assert!(!is_canonical(payload));
         return;
     }
     assert_eq!(judged, found(0, payload.len() as u64));
@@ -65,21 +73,36 @@ fn check_payload(
         said(payload, ask(payload)),
         said(&canonical, ask(&canonical))
     );
+    assert_eq!(is_canonical(payload), canonical == payload);
+    assert!(is_canonical(&canonical));
     assert_eq!(rewritten(rewrite, &canonical), Ok(canonical));
 }
 
 fn check_names(payload: &[u8]) {
-    check_payload(payload, names_judge, name_answers, names_canonical);
+    let calls = Calls {
+        judge: names_judge,
+        ask: name_answers,
+        rewrite: names_canonical,
+        is_canonical: names_is_canonical,
+    };
+    check_payload(payload, calls);
 }
 
 fn check_metadata(payload: &[u8]) {
-    check_payload(
-        payload,
-        metadata_judge,
-        metadata_answers,
-        metadata_canonical,
-    );
-    check_payload(payload, hints_judge, hint_answers, hints_canonical);
+    let of_any_format = Calls {
+        judge: metadata_judge,
+        ask: metadata_answers,
+        rewrite: metadata_canonical,
+        is_canonical: metadata_is_canonical,
+    };
+    check_payload(payload, of_any_format);
+    let of_hints = Calls {
+        judge: hints_judge,
+        ask: hint_answers,
+        rewrite: hints_canonical,
+        is_canonical: hints_is_canonical,
+    };
+    check_payload(payload, of_hints);
     // The rules for hints refuse more, and only by 12.
     let (any, hints) = (metadata_judge(payload), hints_judge(payload));
     assert!(any == hints || hints.code == 12);

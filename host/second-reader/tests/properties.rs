@@ -120,6 +120,7 @@ fn names_are_rewritten_by_the_definition() {
         let payload = encoded_names(&names, random);
         let canonical = rewritten(names_canonical, &payload).unwrap();
         assert_eq!(canonical, canonical_names(&names));
+        assert_eq!(names_is_canonical(&payload), payload == canonical);
         assert!(canonical.len() <= payload.len());
         assert_eq!(names_judge(&canonical), found(0, canonical.len() as u64));
         assert_eq!(rewritten(names_canonical, &canonical), Ok(canonical));
@@ -181,6 +182,7 @@ fn metadata_answers_and_is_rewritten() {
         assert_eq!(metadata_judge(&payload), found(0, payload.len() as u64));
         let canonical = rewritten(metadata_canonical, &payload).unwrap();
         assert_eq!(canonical, canonical_metadata(&list));
+        assert_eq!(metadata_is_canonical(&payload), payload == canonical);
         assert!(canonical.len() <= payload.len());
         assert_eq!(
             rewritten(metadata_canonical, &canonical),
@@ -207,6 +209,7 @@ fn hints_answer_and_are_rewritten() {
         assert_eq!(hints_judge(&payload), found(0, payload.len() as u64));
         let canonical = rewritten(hints_canonical, &payload).unwrap();
         assert_eq!(canonical, canonical_metadata(&list));
+        assert_eq!(hints_is_canonical(&payload), payload == canonical);
         assert!(canonical.len() <= payload.len());
         assert_eq!(
             rewritten(hints_canonical, &canonical),
@@ -237,6 +240,7 @@ fn names_written_from_lists_read_back() {
         let payload = written(write, joined.len() + 12 * indices.len() + 12).unwrap();
         let expected = canonical_names(&vec![(1, Contents::Map(list.clone()))]);
         assert_eq!(payload, expected);
+        assert!(names_is_canonical(&payload));
         assert_eq!(rewritten(names_canonical, &payload), Ok(payload.clone()));
         for (index, text) in &list {
             let answer = function_name(&payload, *index);

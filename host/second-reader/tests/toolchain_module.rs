@@ -90,6 +90,7 @@ fn its_names() {
 #[test]
 fn its_names_are_canonical() {
     assert_eq!(rewritten(names_canonical, names()), Ok(names().to_vec()));
+    assert!(names_is_canonical(names()));
 }
 
 /// Cut at any length it is refused, except between sections.

@@ -13,7 +13,7 @@ Usage: wakemiono COMMAND FILE [OPTIONS]
   hints FILE    all branch hints
   canon FILE    the canonical form of the name payload
   same A B      whether two modules have the same names
-  judge FILE    whether the module, its names and its hints are accepted
+  judge FILE    whether the module, its names and its hints are accepted, and canonical
 
 FILE may be - for standard input. `wakemiono COMMAND --help` says more of one command; --version
 says the version.
@@ -101,8 +101,9 @@ Rewrites the name payload of a module in its canonical form: the same names in t
 
 Usage: wakemiono canon FILE [-o OUT] [--json]
 
-Without -o it prints how many bytes the payload has before and after, and what that saves. A module
-without a name section has an empty canonical payload.
+Without -o it prints how many bytes the payload has before and after, and what that saves; where the
+payload is canonical already, it says that nothing can be saved. A module without a name section has
+an empty canonical payload.
 
   -o OUT   write the canonical payload to the file OUT, over what is there; - is standard output
 
@@ -132,18 +133,19 @@ Example: wakemiono same old.wasm new.wasm
 ";
 
 const JUDGE: &str = "\
-Judges a module, its name payload and its branch hints.
+Judges a module, its name payload and its branch hints, and says whether these two are canonical.
 
 Usage: wakemiono judge FILE [--json]
 
 Each of the lines `module`, `name` and `hints` says accepted, none where there is no such section,
-or refused: with the reason, the offset from the start of the module, and the bytes around it. The
-payloads of a module that is itself refused are not asked. The exit status is 1 where anything is
-refused.
+or refused: with the reason, the offset from the start of the module, and the bytes around it. An
+accepted payload is `canonical already` where it equals its canonical form, and `not canonical`
+otherwise. The payloads of a module that is itself refused are not asked. The exit status is 1 where
+anything is refused; what is not canonical is not refused.
 
 Example: wakemiono judge app.wasm
   module accepted
-  name accepted
+  name accepted, canonical already
   hints none
 ";
 

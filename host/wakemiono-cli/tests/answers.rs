@@ -202,12 +202,26 @@ const SHORTEST: &[u8] = b"\x01\x04\x01\x00\x01a";
 #[test]
 fn canon_says_what_it_saves() {
     fed(&["canon", "-"], &named(PADDED)).prints("before 8\nafter 6\nsaves 2 (25.0 %)\n");
-    fed(&["canon", "-"], MODULE).prints("before 21\nafter 21\nsaves 0 (0.0 %)\n");
     fed(&["canon", "-"], &named(b"\x01\x01\x00")).prints("before 3\nafter 0\nsaves 3 (100.0 %)\n");
     fed(&["canon", "-", "--json"], &named(PADDED)).is_json(
         0,
-        "{\"file\":\"-\",\"section\":true,\"before\":8,\"after\":6,\"saves\":2,\
-         \"written_to\":null}",
+        "{\"file\":\"-\",\"section\":true,\"canonical\":false,\
+         \"before\":8,\"after\":6,\"saves\":2,\"written_to\":null}",
+    );
+}
+
+#[test]
+fn canon_says_that_nothing_can_be_saved() {
+    let already = "it is canonical already: nothing can be saved\n";
+    let saves_none =
+        |length: usize| format!("before {length}\nafter {length}\nsaves 0 (0.0 %)\n{already}");
+    fed(&["canon", "-"], MODULE).prints(&saves_none(21));
+    fed(&["canon", "-"], &named(SHORTEST)).prints(&saves_none(6));
+    fed(&["canon", "-"], &named(b"")).prints(&saves_none(0));
+    fed(&["canon", "-", "--json"], &named(SHORTEST)).is_json(
+        0,
+        "{\"file\":\"-\",\"section\":true,\"canonical\":true,\
+         \"before\":6,\"after\":6,\"saves\":0,\"written_to\":null}",
     );
 }
 
@@ -219,6 +233,7 @@ fn canon_writes_a_file() {
     let said = fed(&["canon", "-", "-o", &out, "--json"], MODULE);
     assert_eq!(said.status, 0);
     common::json::check(said.out().trim_end());
+    assert!(said.out().contains("\"canonical\":true,"));
     assert!(said.out().contains("\"written_to\":\""));
     assert_eq!(fs::read(&out).unwrap(), MODULE[15..]);
 }
@@ -242,6 +257,11 @@ fn canon_without_a_name_section() {
         assert_eq!(said.said, note);
     }
     assert_eq!(fs::read(&out).unwrap(), b"");
+    fed(&["canon", "-", "--json"], BARE).is_json(
+        0,
+        "{\"file\":\"-\",\"section\":false,\"canonical\":null,\
+         \"before\":0,\"after\":0,\"saves\":0,\"written_to\":null}",
+    );
 }
 
 #[test]
@@ -307,11 +327,30 @@ fn not_the_same_in_json() {
 
 #[test]
 fn judge_accepts() {
-    fed(&["judge", "-"], MODULE).prints("module accepted\nname accepted\nhints none\n");
-    fed(&["judge", "-"], &hinted(b"\x00")).prints("module accepted\nname none\nhints accepted\n");
+    fed(&["judge", "-"], MODULE)
+        .prints("module accepted\nname accepted, canonical already\nhints none\n");
+    fed(&["judge", "-"], &hinted(b"\x00"))
+        .prints("module accepted\nname none\nhints accepted, canonical already\n");
+    fed(&["judge", "-"], BARE).prints("module accepted\nname none\nhints none\n");
     fed(&["judge", "-", "--json"], MODULE).is_json(
         0,
         "{\"file\":\"-\",\"accepted\":true,\"module\":{\"verdict\":\"accepted\"},\
-         \"name\":{\"verdict\":\"accepted\"},\"hints\":{\"verdict\":\"none\"}}",
+         \"name\":{\"verdict\":\"accepted\",\"canonical\":true},\
+         \"hints\":{\"verdict\":\"none\"}}",
+    );
+}
+
+#[test]
+fn judge_accepts_what_is_not_canonical() {
+    fed(&["judge", "-"], &named(PADDED))
+        .prints("module accepted\nname accepted, not canonical\nhints none\n");
+    let function_without_hints = hinted(b"\x01\x02\x00");
+    fed(&["judge", "-"], &function_without_hints)
+        .prints("module accepted\nname none\nhints accepted, not canonical\n");
+    fed(&["judge", "-", "--json"], &function_without_hints).is_json(
+        0,
+        "{\"file\":\"-\",\"accepted\":true,\"module\":{\"verdict\":\"accepted\"},\
+         \"name\":{\"verdict\":\"none\"},\
+         \"hints\":{\"verdict\":\"accepted\",\"canonical\":false}}",
     );
 }

@@ -1,5 +1,7 @@
 //! What the answer of a C call means.
 
+use std::fmt;
+
 use crate::ffi::{Answer, FOUND, LIKELY, NONE, REFUSED, UNLIKELY};
 use crate::{Hint, Reason, Refusal, Section};
 
@@ -74,10 +76,26 @@ impl Answer {
         Refusal::in_bytes(reason, self.offset)
     }
 
-    /// No call of the archive that belongs to this crate answers so.
     fn misfit(self) -> ! {
-        panic!("libwakemiono.a gave {self:?}, against its header: is it of another version?")
+        misfit(self)
     }
+}
+
+const NO: u32 = 0;
+const YES: u32 = 1;
+
+/// What the answer to a yes or no says.
+pub(crate) fn is_yes(answer: u32) -> bool {
+    match answer {
+        NO => false,
+        YES => true,
+        _ => misfit(answer),
+    }
+}
+
+/// No call of the archive that belongs to this crate answers so.
+fn misfit(answer: impl fmt::Debug) -> ! {
+    panic!("libwakemiono.a gave {answer:?}, against its header: is it of another version?")
 }
 
 #[cfg(test)]
@@ -141,6 +159,18 @@ mod tests {
     #[should_panic(expected = "is it of another version?")]
     fn no_more_is_written_than_there_is_room() {
         let _ = answer(FOUND, 0, 0, 5).written(4);
+    }
+
+    #[test]
+    fn yes_is_1_and_no_is_0() {
+        assert!(is_yes(1));
+        assert!(!is_yes(0));
+    }
+
+    #[test]
+    #[should_panic(expected = "gave 2, against its header: is it of another version?")]
+    fn nothing_else_is_a_yes_or_no() {
+        let _ = is_yes(2);
     }
 
     #[test]

@@ -12,7 +12,7 @@
 
 use crate::FunctionIndex;
 
-/// The answer of every call, by value: `wm_answer` of the header.
+/// The answer of every call but those to a yes or no, by value: `wm_answer` of the header.
 #[repr(C)]
 #[derive(Clone, Copy, Debug, PartialEq, Eq)]
 pub(crate) struct Answer {
@@ -82,6 +82,10 @@ extern "C" {
         out: *mut u8,
         out_len: usize,
     ) -> Answer;
+
+    fn wm_names_is_canonical(payload: *const u8, payload_len: usize) -> u32;
+    fn wm_metadata_is_canonical(payload: *const u8, payload_len: usize) -> u32;
+    fn wm_hints_is_canonical(payload: *const u8, payload_len: usize) -> u32;
 
     fn wm_function_names_write(
         indices: *const u32,
@@ -239,6 +243,21 @@ pub(crate) fn metadata_canonical(payload: &[u8], out: &mut [u8]) -> Answer {
 pub(crate) fn hints_canonical(payload: &[u8], out: &mut [u8]) -> Answer {
     // SAFETY: pointers and lengths of one live slice, lent, and of one `&mut` slice, the output.
     unsafe { wm_hints_canonical(payload.as_ptr(), payload.len(), out.as_mut_ptr(), out.len()) }
+}
+
+pub(crate) fn names_is_canonical(payload: &[u8]) -> u32 {
+    // SAFETY: pointer and length of one live slice, lent.
+    unsafe { wm_names_is_canonical(payload.as_ptr(), payload.len()) }
+}
+
+pub(crate) fn metadata_is_canonical(payload: &[u8]) -> u32 {
+    // SAFETY: pointer and length of one live slice, lent.
+    unsafe { wm_metadata_is_canonical(payload.as_ptr(), payload.len()) }
+}
+
+pub(crate) fn hints_is_canonical(payload: &[u8]) -> u32 {
+    // SAFETY: pointer and length of one live slice, lent.
+    unsafe { wm_hints_is_canonical(payload.as_ptr(), payload.len()) }
 }
 
 pub(crate) fn function_names_write(

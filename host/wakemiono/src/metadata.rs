@@ -2,6 +2,7 @@
 
 use std::fmt;
 
+use crate::answer::is_yes;
 use crate::{ffi, CodeOffset, FunctionIndex, Refusal};
 
 /// What a branch hint says of the branch at its place.
@@ -151,6 +152,23 @@ impl<'a> Metadata<'a> {
     pub fn to_canonical(&self) -> Result<Vec<u8>, Refusal> {
         crate::to_vec(self.0.len(), |out| self.canonical_into(out))
     }
+
+    /// Whether the payload is accepted and equals its canonical form. It takes one pass, and no
+    /// output. A payload that is refused is not canonical; [`judge`](Self::judge) says why.
+    ///
+    /// ```
+    /// use wakemiono::Metadata;
+    ///
+    /// assert!(Metadata::new(&[0x01, 0x02, 0x01, 0x05, 0x00]).is_canonical());
+    /// let function_without_items = Metadata::new(&[0x01, 0x02, 0x00]);
+    /// assert!(!function_without_items.is_canonical());
+    /// let left_over = Metadata::new(&[0x00, 0x00]);
+    /// assert!(!left_over.is_canonical());
+    /// ```
+    #[must_use]
+    pub fn is_canonical(&self) -> bool {
+        is_yes(ffi::metadata_is_canonical(self.0))
+    }
 }
 
 impl fmt::Debug for Metadata<'_> {
@@ -274,6 +292,23 @@ impl<'a> Hints<'a> {
     /// As [`judge`](Self::judge).
     pub fn to_canonical(&self) -> Result<Vec<u8>, Refusal> {
         crate::to_vec(self.0.len(), |out| self.canonical_into(out))
+    }
+
+    /// Whether the payload is accepted and equals its canonical form. It takes one pass, and no
+    /// output. A payload that is refused is not canonical; [`judge`](Self::judge) says why.
+    ///
+    /// ```
+    /// use wakemiono::Hints;
+    ///
+    /// assert!(Hints::new(&[0x01, 0x02, 0x01, 0x05, 0x01, 0x01]).is_canonical());
+    /// let padded = Hints::new(&[0x81, 0x00, 0x02, 0x01, 0x05, 0x01, 0x01]);
+    /// assert!(!padded.is_canonical());
+    /// let no_hint = Hints::new(&[0x01, 0x02, 0x01, 0x05, 0x01, 0x02]);
+    /// assert!(!no_hint.is_canonical());
+    /// ```
+    #[must_use]
+    pub fn is_canonical(&self) -> bool {
+        is_yes(ffi::hints_is_canonical(self.0))
     }
 }
 

@@ -2,6 +2,7 @@
 
 use std::fmt;
 
+use crate::answer::is_yes;
 use crate::{ffi, FieldIndex, FunctionIndex, LocalIndex, Name, Refusal, TagIndex, TypeIndex};
 
 /// The payload of a `name` section, borrowed from the caller.
@@ -232,6 +233,23 @@ impl<'a> NamePayload<'a> {
     /// As [`judge`](Self::judge).
     pub fn to_canonical(&self) -> Result<Vec<u8>, Refusal> {
         crate::to_vec(self.0.len(), |out| self.canonical_into(out))
+    }
+
+    /// Whether the payload is accepted and equals its canonical form. It takes one pass, and no
+    /// output. A payload that is refused is not canonical; [`judge`](Self::judge) says why.
+    ///
+    /// ```
+    /// use wakemiono::NamePayload;
+    ///
+    /// assert!(NamePayload::new(&[0x01, 0x04, 0x01, 0x00, 0x01, 0x61]).is_canonical());
+    /// let padded = NamePayload::new(&[0x01, 0x85, 0x00, 0x01, 0x00, 0x81, 0x00, 0x61]);
+    /// assert!(!padded.is_canonical());
+    /// let left_over = NamePayload::new(&[0x01, 0x02, 0x00, 0x00]);
+    /// assert!(!left_over.is_canonical());
+    /// ```
+    #[must_use]
+    pub fn is_canonical(&self) -> bool {
+        is_yes(ffi::names_is_canonical(self.0))
     }
 
     fn name(&self, answer: ffi::Answer) -> Result<Option<Name<'a>>, Refusal> {

@@ -51,6 +51,8 @@ fn names_agree(bytes: &[u8]) {
     let asked = names_asked(bytes);
     let canonical = NamePayload::new(bytes).to_canonical();
     assert_eq!(canonical.as_ref().err(), asked.as_ref().err());
+    let unchanged = canonical.as_deref() == Ok(bytes);
+    assert_eq!(NamePayload::new(bytes).is_canonical(), unchanged);
     if let (Ok(answers), Ok(canonical)) = (asked, canonical) {
         assert!(canonical.len() <= bytes.len());
         assert_eq!(names_asked(&canonical), Ok(answers));
@@ -58,6 +60,7 @@ fn names_agree(bytes: &[u8]) {
             NamePayload::new(&canonical).to_canonical(),
             Ok(canonical.clone())
         );
+        assert!(NamePayload::new(&canonical).is_canonical());
     }
 }
 
@@ -71,6 +74,9 @@ fn metadata_agree(bytes: &[u8]) {
     if hints_judged.is_ok() {
         assert_eq!(hints_canonical, canonical);
     }
+    let unchanged = |canonical: &Result<Vec<u8>, Refusal>| canonical.as_deref() == Ok(bytes);
+    assert_eq!(metadata.is_canonical(), unchanged(&canonical));
+    assert_eq!(hints.is_canonical(), unchanged(&hints_canonical));
     for (function, at) in (0..4).flat_map(|function| (0..8).map(move |at| (function, at))) {
         let (function, at) = (FunctionIndex(function), CodeOffset(at));
         let (data, hint) = (metadata.data(function, at), hints.hint(function, at));

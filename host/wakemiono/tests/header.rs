@@ -37,16 +37,30 @@ fn parameter(c: &str) -> String {
     format!("{name}: {type_}")
 }
 
+/// The type of an answer of the header as Rust declares it.
+fn answer(c: &str) -> &'static str {
+    match c {
+        "wm_answer" => "Answer",
+        "uint32_t" => "u32",
+        other => panic!("the header has an answer that is not known here: {other}"),
+    }
+}
+
+/// A statement of the header as Rust declares it, or none where it has no parameters and so is no
+/// call.
+fn call(c: &str) -> Option<String> {
+    let (head, behind) = c.split_once('(')?;
+    let (type_, name) = head.trim().split_once(' ').expect("an answer and a name");
+    let parameters = behind.split_once(')').expect("they end").0.split(',');
+    let parameters: Vec<String> = parameters.map(|c| parameter(c.trim())).collect();
+    let parameters = parameters.join(", ");
+    Some(format!("fn {name}({parameters}) -> {}", answer(type_)))
+}
+
 fn in_header() -> Vec<String> {
-    let text = without_comments(HEADER);
-    let calls = text.split("wm_answer wm_").skip(1);
-    calls
-        .map(|call| {
-            let (name, behind) = call.split_once('(').expect("a call has parameters");
-            let parameters = behind.split_once(')').expect("they end").0.split(',');
-            let parameters: Vec<String> = parameters.map(|c| parameter(c.trim())).collect();
-            format!("fn wm_{name}({}) -> Answer", parameters.join(", "))
-        })
+    without_comments(HEADER)
+        .split(';')
+        .filter_map(call)
         .collect()
 }
 
@@ -65,7 +79,7 @@ fn in_crate() -> Vec<String> {
 #[test]
 fn every_call_is_declared_as_the_header_has_it() {
     assert_eq!(in_crate(), in_header());
-    assert_eq!(in_crate().len(), 28);
+    assert_eq!(in_crate().len(), 31);
 }
 
 #[test]

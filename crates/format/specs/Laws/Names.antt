@@ -69,7 +69,7 @@ module _ (kindOf : ℕ → Kind) where
     pub shorter : length (writeSubsections t) + length rest ≤ length bs
     pub tight : Tight (writeSubsections t) rest bs
 
-  subsections-sound : (most least o : ℕ) (bs : List ℕ) {t : Table (Content Part)} {o′ : ℕ} {rest : List ℕ} → subsections kindOf most least o bs ≡ got t o′ rest → SubsectionsRead least (mapTable bare t) rest bs
+  pub subsections-sound : (most least o : ℕ) (bs : List ℕ) {t : Table (Content Part)} {o′ : ℕ} {rest : List ℕ} → subsections kindOf most least o bs ≡ got t o′ rest → SubsectionsRead least (mapTable bare t) rest bs
   unfolding subsections mapTable writeSubsections
   subsections-sound zero least o bs e = rw (← got-value e, ← got-rest e) (record { sorted = end; shorter = omega arith; tight = tight-none _ })
   subsections-sound (suc most) least o [] e = rw (← got-value e, ← got-rest e) (record { sorted = end; shorter = omega arith; tight = tight-none _ })

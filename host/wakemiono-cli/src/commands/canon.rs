@@ -2,6 +2,8 @@
 
 use std::ffi::OsStr;
 
+use wakemiono::NamePayload;
+
 use crate::input::{Input, STANDARD_STREAM};
 use crate::json::Json;
 use crate::output;
@@ -15,9 +17,8 @@ pub fn run(file: &OsStr, out: Option<&OsStr>, json: bool) -> Result<Report, Fail
     }
     let input = &Input::read(file)?;
     let payload = input.accepted(payloads::names(input.module()))?;
-    let before = payload.map(|payload| payload.as_bytes().len());
     let canonical = payloads::canonical_names(payload)?;
-    let note = match before {
+    let note = match payload {
         Some(_) => "",
         None => "wakemiono: the module has no name section; its canonical payload is empty.\n",
     };
@@ -27,28 +28,36 @@ pub fn run(file: &OsStr, out: Option<&OsStr>, json: bool) -> Result<Report, Fail
     if let Some(out) = out {
         output::write(out, &canonical)?;
     }
-    let sizes = Sizes {
-        before: before.unwrap_or(0),
-        after: canonical.len(),
-    };
+    let saving = Saving::of(payload, &canonical);
     if json {
-        let document = document(input, before.is_some(), &sizes, out);
+        let document = document(input, &saving, out);
         return Ok(Report::json(Status::Good, &document));
     }
     let lines = if out.is_some() {
         String::new()
     } else {
-        sizes.lines()
+        saving.lines()
     };
     Ok(Report::good(lines).saying(note))
 }
 
-struct Sizes {
+/// What the canonical form saves, in bytes.
+struct Saving {
     before: usize,
     after: usize,
+    /// Whether the payload is canonical already; none without a section.
+    is_canonical: Option<bool>,
 }
 
-impl Sizes {
+impl Saving {
+    fn of(payload: Option<NamePayload<'_>>, canonical: &[u8]) -> Saving {
+        Saving {
+            before: payload.map_or(0, |payload| payload.as_bytes().len()),
+            after: canonical.len(),
+            is_canonical: payload.map(|payload| payload.is_canonical()),
+        }
+    }
+
     /// The canonical form is never the longer one.
     fn saved(&self) -> usize {
         self.before.saturating_sub(self.after)
@@ -56,8 +65,12 @@ impl Sizes {
 
     fn lines(&self) -> String {
         let tenths = self.tenths_of_a_percent();
+        let already = match self.is_canonical {
+            Some(true) => "it is canonical already: nothing can be saved\n",
+            Some(false) | None => "",
+        };
         format!(
-            "before {}\nafter {}\nsaves {} ({}.{} %)\n",
+            "before {}\nafter {}\nsaves {} ({}.{} %)\n{already}",
             self.before,
             self.after,
             self.saved(),
@@ -73,14 +86,18 @@ impl Sizes {
     }
 }
 
-fn document(input: &Input, has_section: bool, sizes: &Sizes, out: Option<&OsStr>) -> Json {
+fn document(input: &Input, saving: &Saving, out: Option<&OsStr>) -> Json {
     let written = out.map_or(Json::Null, |out| Json::text(out.to_string_lossy()));
     Json::Object(vec![
         ("file", input.file()),
-        ("section", Json::Bool(has_section)),
-        ("before", Json::size(sizes.before)),
-        ("after", Json::size(sizes.after)),
-        ("saves", Json::size(sizes.saved())),
+        ("section", Json::Bool(saving.is_canonical.is_some())),
+        (
+            "canonical",
+            saving.is_canonical.map_or(Json::Null, Json::Bool),
+        ),
+        ("before", Json::size(saving.before)),
+        ("after", Json::size(saving.after)),
+        ("saves", Json::size(saving.saved())),
         ("written_to", written),
     ])
 }

@@ -1,4 +1,4 @@
-//! `judge`: whether a module and its payloads are accepted.
+//! `judge`: whether a module and its payloads are accepted, and the payloads canonical.
 
 use wakemiono::Refusal;
 
@@ -10,7 +10,12 @@ use crate::report::{Report, Status};
 
 /// What there is to say of a module or of one of its payloads.
 enum Verdict {
+    /// The module is accepted.
     Accepted,
+    /// The payload is accepted, and is its own canonical form or not.
+    AcceptedPayload {
+        canonical: bool,
+    },
     /// There is no such section.
     None,
     Refused(Refused),
@@ -19,17 +24,21 @@ enum Verdict {
 }
 
 impl Verdict {
-    fn of(input: &Input, judged: Result<bool, Refusal>) -> Verdict {
-        match judged {
-            Ok(true) => Verdict::Accepted,
-            Ok(false) => Verdict::None,
-            Err(refusal) => Verdict::Refused(Refused::new(input, refusal)),
+    fn of(input: &Input, judged: Result<Verdict, Refusal>) -> Verdict {
+        judged.unwrap_or_else(|refusal| Verdict::Refused(Refused::new(input, refusal)))
+    }
+
+    /// By whether the accepted payload is canonical; none without the section.
+    fn of_payload(canonical: Option<bool>) -> Verdict {
+        match canonical {
+            Some(canonical) => Verdict::AcceptedPayload { canonical },
+            None => Verdict::None,
         }
     }
 
     fn word(&self) -> &'static str {
         match self {
-            Verdict::Accepted => "accepted",
+            Verdict::Accepted | Verdict::AcceptedPayload { .. } => "accepted",
             Verdict::None => "none",
             Verdict::Refused(_) => "refused",
             Verdict::NotAsked => "not asked",
@@ -39,14 +48,26 @@ impl Verdict {
     fn lines(&self) -> String {
         match self {
             Verdict::Refused(refused) => refused.verdict(),
-            _ => format!("{}\n", self.word()),
+            Verdict::AcceptedPayload { canonical } => {
+                let form = if *canonical {
+                    "canonical already"
+                } else {
+                    "not canonical"
+                };
+                format!("{}, {form}\n", self.word())
+            }
+            Verdict::Accepted | Verdict::None | Verdict::NotAsked => format!("{}\n", self.word()),
         }
     }
 
     fn json(&self) -> Json {
         let mut members = vec![("verdict", Json::text(self.word()))];
-        if let Verdict::Refused(refused) = self {
-            members.push(("refusal", refused.json()));
+        match self {
+            Verdict::AcceptedPayload { canonical } => {
+                members.push(("canonical", Json::Bool(*canonical)));
+            }
+            Verdict::Refused(refused) => members.push(("refusal", refused.json())),
+            Verdict::Accepted | Verdict::None | Verdict::NotAsked => {}
         }
         Json::Object(members)
     }
@@ -70,13 +91,15 @@ pub fn run(input: &Input, json: bool) -> Report {
 
 fn verdicts(input: &Input) -> [(&'static str, Verdict); 3] {
     let module = input.module();
-    let of_module = Verdict::of(input, module.section_count().map(|_| true));
+    let of_module = Verdict::of(input, module.section_count().map(|_| Verdict::Accepted));
     let (name, hints) = if of_module.is_refused() {
         (Verdict::NotAsked, Verdict::NotAsked)
     } else {
+        let names = payloads::names(module).map(|it| it.map(|names| names.is_canonical()));
+        let hints = payloads::hints(module).map(|it| it.map(|hints| hints.is_canonical()));
         (
-            Verdict::of(input, payloads::names(module).map(|it| it.is_some())),
-            Verdict::of(input, payloads::hints(module).map(|it| it.is_some())),
+            Verdict::of(input, names.map(Verdict::of_payload)),
+            Verdict::of(input, hints.map(Verdict::of_payload)),
         )
     };
     [("module", of_module), ("name", name), ("hints", hints)]

@@ -14,8 +14,8 @@ wide-requires c κs = search frame-steps
 returns-2 : tie.Need-returns-2
 returns-2 c = search frame-steps
 
-add-t18 : tie.Need-add-t18
-add-t18 c = search frame-steps
+add-t19 : tie.Need-add-t19
+add-t19 c = search frame-steps
 
 sized-requires : tie.Need-sized-requires
 sized-requires c κs = search frame-steps
@@ -33,4 +33,4 @@ returns-4 : tie.Need-returns-4
 returns-4 c = search frame-steps
 
 pub frame-spec : {M : Type 1} → statement M
-frame-spec = tie.close (tie.spec returns shared-slice-read-id wide-requires returns-2 add-t18 sized-requires enum-known-r enum-known-part returns-3 returns-4)
+frame-spec = tie.close (tie.spec returns shared-slice-read-id wide-requires returns-2 add-t19 sized-requires enum-known-r enum-known-part returns-3 returns-4)

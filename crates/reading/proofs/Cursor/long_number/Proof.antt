@@ -33,11 +33,11 @@ returns c = search number-turns
 returns-2 : tie.Need-returns-2 Inv-loop μ-loop
 returns-2 c = search number-turns
 
-mul-t21 : tie.Need-mul-t21 Inv-loop μ-loop
-mul-t21 c = search number-turns
+mul-t22 : tie.Need-mul-t22 Inv-loop μ-loop
+mul-t22 c = search number-turns
 
-add-t22 : tie.Need-add-t22 Inv-loop μ-loop
-add-t22 c = search number-turns
+add-t23 : tie.Need-add-t23 Inv-loop μ-loop
+add-t23 c = search number-turns
 
 returns-3 : tie.Need-returns-3 Inv-loop μ-loop
 returns-3 c = search number-turns
@@ -67,27 +67,4 @@ returns-4 : tie.Need-returns-4 Inv-loop μ-loop
 returns-4 c = search number-turns
 
 pub long-number-spec : {M : Type 1} → statement M
-long-number-spec =
-    tie.close
-    (tie.spec
-    Inv-loop
-    μ-loop
-    loop-holds
-    shared-slice-read-wide
-    wide-requires
-    add-t14
-    mul-t16
-    add-t17
-    returns
-    returns-2
-    mul-t21
-    add-t22
-    returns-3
-    mul-value
-    add-value
-    mul-weight
-    sub-more
-    add-i
-    loop-less
-    loop-again
-    returns-4)
+long-number-spec = tie.close (tie.spec Inv-loop μ-loop loop-holds shared-slice-read-wide wide-requires add-t14 mul-t16 add-t17 returns returns-2 mul-t22 add-t23 returns-3 mul-value add-value mul-weight sub-more add-i loop-less loop-again returns-4)

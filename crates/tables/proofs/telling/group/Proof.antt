@@ -1,0 +1,30 @@
+use Rattle.tables.proofs.TidySteps.{tidy-groups-one}
+use Rattle.tables.proofs.telling.group.Statement.{statement}
+use Rattle.tables.proofs.telling.group.Tie as tie
+
+index-requires : tie.Need-index-requires
+index-requires c κs = search tidy-groups-one
+
+enum-told : tie.Need-enum-told
+enum-told c = search tidy-groups-one
+
+enum-known-k : tie.Need-enum-known-k
+enum-known-k c = search tidy-groups-one
+
+tidy-table-requires : tie.Need-tidy-table-requires
+tidy-table-requires c κs = search tidy-groups-one
+
+with-number-requires : tie.Need-with-number-requires
+with-number-requires c κs = search tidy-groups-one
+
+returns : tie.Need-returns
+returns c = search tidy-groups-one
+
+returns-2 : tie.Need-returns-2
+returns-2 c = search tidy-groups-one
+
+returns-3 : tie.Need-returns-3
+returns-3 c = search tidy-groups-one
+
+pub group-spec : {M : Type 1} → statement M
+group-spec = tie.close (tie.spec index-requires enum-told enum-known-k tidy-table-requires with-number-requires returns returns-2 returns-3)

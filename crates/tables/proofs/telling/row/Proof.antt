@@ -1,0 +1,30 @@
+use Rattle.tables.proofs.TidySteps.{tidy-rows-one}
+use Rattle.tables.proofs.telling.row.Statement.{statement}
+use Rattle.tables.proofs.telling.row.Tie as tie
+
+index-requires : tie.Need-index-requires
+index-requires c κs = search tidy-rows-one
+
+enum-told : tie.Need-enum-told
+enum-told c = search tidy-rows-one
+
+enum-known-k : tie.Need-enum-known-k
+enum-known-k c = search tidy-rows-one
+
+tidy-item-requires : tie.Need-tidy-item-requires
+tidy-item-requires c κs = search tidy-rows-one
+
+with-number-requires : tie.Need-with-number-requires
+with-number-requires c κs = search tidy-rows-one
+
+returns : tie.Need-returns
+returns c = search tidy-rows-one
+
+returns-2 : tie.Need-returns-2
+returns-2 c = search tidy-rows-one
+
+returns-3 : tie.Need-returns-3
+returns-3 c = search tidy-rows-one
+
+pub row-spec : {M : Type 1} → statement M
+row-spec = tie.close (tie.spec index-requires enum-told enum-known-k tidy-item-requires with-number-requires returns returns-2 returns-3)

@@ -1,0 +1,213 @@
+//! Payloads as what they hold, so that one thing of them can be changed before they are spelled as bytes.
+
+use std::collections::BTreeMap;
+
+use crate::spelling::{number, sized, unpadded, Padding, LONGEST_NUMBER};
+use crate::tally::KEYS;
+
+/// Rising numbers, each with a sized part: a name map, or the items of a function.
+pub type Entries = BTreeMap<u32, Vec<u8>>;
+
+/// Rising numbers, each with such a list: an indirect name map, or a metadata payload.
+pub type Groups = BTreeMap<u32, Entries>;
+
+/// What a subsection of a name payload holds.
+#[derive(Clone)]
+pub enum Contents {
+    /// The module's name.
+    Name(Vec<u8>),
+    /// A name map.
+    Map(Entries),
+    /// An indirect name map.
+    Indirect(Groups),
+    /// Bytes that are not looked into.
+    Kept(Vec<u8>),
+}
+
+/// What a name payload holds, by the ids of its subsections.
+pub type Names = BTreeMap<u8, Contents>;
+
+/// The ids of subsections that hold a name map.
+pub const MAPS: [u8; 3] = [1, 4, 11];
+
+/// The ids of subsections that hold an indirect name map.
+pub const INDIRECT_MAPS: [u8; 2] = [2, 10];
+
+/// What a payload holds.
+pub trait Held: Sized {
+    /// The payload.
+    fn spelled(&self, padding: Padding<'_>) -> Vec<u8>;
+
+    /// The same without lists that are empty, or left empty by that.
+    fn without_empty_lists(self) -> Self;
+
+    /// The same with one list more, which is empty or has an empty one in it, at each place that there is for it.
+    fn with_an_empty_list(&self) -> Vec<Self>;
+
+    /// The canonical payload.
+    fn canonical(self) -> Vec<u8> {
+        self.without_empty_lists().spelled(&mut unpadded)
+    }
+
+    /// Every payload in which one number is padded, and every other is in its fewest bytes.
+    fn with_one_padded(&self) -> Vec<Vec<u8>> {
+        let mut numbers = vec![];
+        self.spelled(&mut |fewest| {
+            numbers.push(fewest);
+            0
+        });
+        let mut payloads = vec![];
+        for (place, fewest) in numbers.into_iter().enumerate() {
+            for more in 1..=LONGEST_NUMBER - fewest {
+                payloads.push(self.spelled(&mut padded_at(place, more)));
+            }
+        }
+        payloads
+    }
+}
+
+/// Pads the number at one place, counted from 0 as they are spelled.
+fn padded_at(place: usize, more: usize) -> impl FnMut(usize) -> usize {
+    let mut places = 0..;
+    move |_| match places.next() == Some(place) {
+        true => more,
+        false => 0,
+    }
+}
+
+/// A metadata payload, and the contents of an indirect map.
+impl Held for Groups {
+    fn spelled(&self, padding: Padding<'_>) -> Vec<u8> {
+        let mut bytes = number(self.len() as u32, padding);
+        for (key, entries) in self {
+            bytes.extend(number(*key, padding));
+            bytes.extend(spelled_entries(entries, padding));
+        }
+        bytes
+    }
+
+    fn without_empty_lists(mut self) -> Groups {
+        self.retain(|_, entries| !entries.is_empty());
+        self
+    }
+
+    fn with_an_empty_list(&self) -> Vec<Groups> {
+        let free = KEYS.into_iter().filter(|key| !self.contains_key(key));
+        free.map(|key| with(self, key, Entries::new())).collect()
+    }
+}
+
+fn spelled_entries(entries: &Entries, padding: Padding<'_>) -> Vec<u8> {
+    let mut bytes = number(entries.len() as u32, padding);
+    for (key, part) in entries {
+        bytes.extend(number(*key, padding));
+        bytes.extend(sized(part, padding));
+    }
+    bytes
+}
+
+impl Held for Names {
+    fn spelled(&self, padding: Padding<'_>) -> Vec<u8> {
+        let mut bytes = vec![];
+        for (id, contents) in self {
+            let contents = match contents {
+                Contents::Name(text) => sized(text, padding),
+                Contents::Map(entries) => spelled_entries(entries, padding),
+                Contents::Indirect(groups) => groups.spelled(padding),
+                Contents::Kept(contents) => contents.clone(),
+            };
+            bytes.push(*id);
+            bytes.extend(sized(&contents, padding));
+        }
+        bytes
+    }
+
+    fn without_empty_lists(self) -> Names {
+        let left = self.into_iter().filter_map(|(id, contents)| {
+            let left = match contents {
+                Contents::Map(entries) if entries.is_empty() => None,
+                Contents::Indirect(groups) => {
+                    let left = groups.without_empty_lists();
+                    (!left.is_empty()).then_some(Contents::Indirect(left))
+                }
+                other => Some(other),
+            };
+            Some((id, left?))
+        });
+        left.collect()
+    }
+
+    fn with_an_empty_list(&self) -> Vec<Names> {
+        let mut all = vec![];
+        for id in MAPS {
+            if !self.contains_key(&id) {
+                all.push(with(self, id, Contents::Map(Entries::new())));
+            }
+        }
+        for id in INDIRECT_MAPS {
+            let groups = match self.get(&id) {
+                Some(Contents::Indirect(groups)) => groups.with_an_empty_list(),
+                _ => [vec![Groups::new()], Groups::new().with_an_empty_list()].concat(),
+            };
+            let contents = groups.into_iter().map(Contents::Indirect);
+            all.extend(contents.map(|contents| with(self, id, contents)));
+        }
+        all
+    }
+}
+
+fn with<Key: Clone + Ord, Value: Clone>(
+    held: &BTreeMap<Key, Value>,
+    key: Key,
+    value: Value,
+) -> BTreeMap<Key, Value> {
+    let mut more = held.clone();
+    more.insert(key, value);
+    more
+}
+
+#[cfg(test)]
+mod tests {
+    use super::*;
+
+    /// Function 0 called `a`.
+    fn one_function() -> Names {
+        let entries = Entries::from([(0, b"a".to_vec())]);
+        Names::from([(1, Contents::Map(entries))])
+    }
+
+    #[test]
+    fn the_canonical_payload_of_one_function() {
+        let empty_group = Groups::from([(3, Entries::new())]);
+        let mut held = with(&one_function(), 2, Contents::Indirect(empty_group));
+        held.insert(4, Contents::Map(Entries::new()));
+        assert_eq!(held.canonical(), b"\x01\x04\x01\x00\x01a");
+        assert_eq!(Groups::from([(3, Entries::new())]).canonical(), [0]);
+    }
+
+    /// The size, the count, the index and the length, each in two to five bytes.
+    #[test]
+    fn each_number_is_padded_alone() {
+        let padded = one_function().with_one_padded();
+        assert_eq!(padded.len(), 4 * 4);
+        for payload in [
+            &b"\x01\x84\x00\x01\x00\x01a"[..],
+            b"\x01\x05\x81\x00\x00\x01a",
+            b"\x01\x06\x01\x80\x80\x00\x01a",
+            b"\x01\x08\x01\x00\x81\x80\x80\x80\x00a",
+        ] {
+            let times = padded.iter().filter(|padded| *padded == payload).count();
+            assert_eq!(times, 1, "{payload:02X?}");
+        }
+    }
+
+    /// Two maps, and two indirect ones: without groups, or with one that is empty.
+    #[test]
+    fn each_empty_list_is_added_alone() {
+        let more = one_function().with_an_empty_list();
+        assert_eq!(more.len(), 2 + 2 * (1 + KEYS.len()));
+        assert!(more.iter().all(|held| held.len() == 2));
+        let canonical = one_function().canonical();
+        assert!(more.into_iter().all(|held| held.canonical() == canonical));
+    }
+}

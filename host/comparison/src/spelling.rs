@@ -1,0 +1,41 @@
+//! Numbers and sized parts as bytes: in the fewest, or padded.
+
+/// The most bytes that a number takes.
+pub const LONGEST_NUMBER: usize = 5;
+
+/// How many bits of a number stand in each of its bytes.
+const BITS_IN_A_BYTE: u32 = 7;
+
+/// The bit that says that the number goes on in the next byte.
+const GOES_ON: u8 = 1 << BITS_IN_A_BYTE;
+
+/// Says of each number by how many bytes it is padded, given the fewest that it takes.
+pub type Padding<'a> = &'a mut dyn FnMut(usize) -> usize;
+
+/// The padding that leaves each number in its fewest bytes.
+pub fn unpadded(_fewest: usize) -> usize {
+    0
+}
+
+/// A number.
+pub fn number(value: u32, padding: Padding<'_>) -> Vec<u8> {
+    let mut bytes = vec![];
+    let mut rest = value;
+    while rest >= u32::from(GOES_ON) {
+        bytes.push(rest as u8 | GOES_ON);
+        rest >>= BITS_IN_A_BYTE;
+    }
+    bytes.push(rest as u8);
+    for _ in 0..padding(bytes.len()) {
+        *bytes.last_mut().expect("a number has bytes") |= GOES_ON;
+        bytes.push(0);
+    }
+    bytes
+}
+
+/// A part with its size before it.
+pub fn sized(contents: &[u8], padding: Padding<'_>) -> Vec<u8> {
+    let mut bytes = number(contents.len() as u32, padding);
+    bytes.extend(contents);
+    bytes
+}

@@ -1,0 +1,70 @@
+//! Canonical payloads, and what one padded number or one empty list makes of them.
+
+use comparison::held::Held;
+use comparison::made;
+use comparison::random::{seed, Random};
+use comparison::spelling::unpadded;
+use comparison::tally::{Said, Tally};
+
+/// How many canonical payloads are made of each kind; each gives many others.
+const PAYLOADS: usize = 40;
+
+/// Fewer others than these would show that some of them are no longer made.
+const FEWEST_OTHERS: usize = 150;
+
+/// What payloads hold that have no empty list.
+fn held<Of: Held>(make: fn(&mut Random) -> Of) -> Vec<Of> {
+    let mut r = Random::new(seed());
+    let made = std::iter::repeat_with(|| make(&mut r).without_empty_lists());
+    made.take(PAYLOADS).collect()
+}
+
+/// The payloads as they are, with one number padded, and with an empty list.
+fn payloads(held: &[impl Held]) -> [Vec<Vec<u8>>; 3] {
+    let canonical = held.iter().map(|held| held.spelled(&mut unpadded));
+    let padded = held.iter().flat_map(Held::with_one_padded);
+    let with_empty = held.iter().flat_map(Held::with_an_empty_list);
+    let with_empty = with_empty.map(|held| held.spelled(&mut unpadded));
+    [canonical.collect(), padded.collect(), with_empty.collect()]
+}
+
+/// Every call on payloads of one kind: all are accepted, and just those that were not changed are canonical.
+fn compare<Of: Held>(
+    make: fn(&mut Random) -> Of,
+    put: fn(&mut Tally, &[u8]),
+    said: fn(&Tally) -> Said,
+) {
+    let told = |payloads: &[Vec<u8>]| {
+        let mut tally = Tally::default();
+        payloads.iter().for_each(|payload| put(&mut tally, payload));
+        println!("compared {} calls", tally.calls);
+        let Said {
+            canonical,
+            not_canonical,
+        } = said(&tally);
+        (canonical as usize, not_canonical as usize)
+    };
+    let [canonical, padded, with_empty] = payloads(&held(make));
+    assert_eq!(told(&canonical), (PAYLOADS, 0));
+    for others in [padded, with_empty] {
+        assert!(others.len() >= FEWEST_OTHERS, "only {}", others.len());
+        assert_eq!(told(&others), (0, others.len()));
+    }
+}
+
+#[test]
+fn names() {
+    compare(made::held_names, Tally::names, |tally| tally.names_said);
+}
+
+#[test]
+fn metadata() {
+    let make = |r: &mut Random| made::held_metadata(r, false);
+    compare(make, Tally::metadata, |tally| tally.metadata_said);
+}
+
+#[test]
+fn hints() {
+    let make = |r: &mut Random| made::held_metadata(r, true);
+    compare(make, Tally::metadata, |tally| tally.hints_said);
+}
