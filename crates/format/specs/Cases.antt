@@ -1,10 +1,11 @@
 -- Further cases: what the rules say beside the sixteen examples, and where two careful readers could differ (docs/DECISIONS.md). Computed by the checker, as the examples are. Assumes nothing.
 use Prim.Native.Nat.{ℕ}
 use Prim.Native.String.{String}
+use mathlib.Core.Bool.{Bool, true, false}
 use mathlib.Core.List.{List, [], _∷_, _++_, map}
 use mathlib.Core.Option.{Option, none, some}
 use mathlib.Core.Path.{_≡_, refl}
-use lib.ListN.{length, replicate}
+use lib.ListN.{length, drop, replicate}
 use Rattle.format.specs.Bytes.{ascii, same}
 use Rattle.format.specs.Numbers.{number, groups, shortest, fewest}
 use Rattle.format.specs.Text.{utf8, characters, character, completes}
@@ -17,6 +18,7 @@ use Rattle.format.specs.declared.Question.{Question}
 use Rattle.format.specs.declared.Question.the-variants.{ModuleName, TagName, KeptContents}
 use Rattle.format.specs.Metadata.{hintOf, anyItem, hintItem, metadata, judgeMetadata, itemAt, askMetadata, hintIn, askHint}
 use Rattle.format.specs.Canonical.{writePart, writeRows, writeTable, unlessEmpty, keepRows, bare, writeContent, writeSubsections, rewriteNames, canonicalNames, rewriteMetadata, canonicalOf, canonicalMetadata, canonicalHints}
+use Rattle.format.specs.Telling.{asFew, isItsRewriting, namesAreCanonical, itemsAreCanonical}
 use Rattle.format.specs.Outputs.{fitting, writeAnswer, outputAfter}
 use Rattle.format.specs.Lists.{sum, listed, unsortedAt, badTextAt, subsection, functionNames}
 use Rattle.format.specs.Through.{through, askThrough, metadataSection, itemOf, askMetadataThrough, askHintThrough}
@@ -235,6 +237,86 @@ modules =
 pub modules-hold : map computed modules ≡ map stated modules
 unfolding modules computed stated ordinary customSection theHints walkIs sectionIs payloadUnder payloadIs answerThrough metadataThrough hintThrough function localIn tag P hex digit of place likelihood ascii same number groups shortest fewest utf8 characters character completes sized name remaining lookup rows table preamble begins greatestId isCustom isCode isData rank custom isCalled nameSection hintSection nothing seeing idRules nameRules section sections framing walk sectionCount sectionAt payloadOf payloadIn customPayload known knownKind contents subsections payload judgeNames answer asked askAt ask hintOf anyItem hintItem metadata judgeMetadata itemAt askMetadata hintIn askHint writePart through askThrough metadataSection itemOf askMetadataThrough askHintThrough
 modules-hold = refl
+
+-- K10: a number's fewest bytes, and payloads that are their own rewriting
+yesNo : Bool → Result
+yesNo true = value 1 0
+yesNo false = value 0 0
+
+yes : Result
+yes = value 1 0
+
+not : Result
+not = value 0 0
+
+numberTold : String → Result
+numberTold s = ofOutcome (λ v o. yesNo (asFew (shortest v) (drop o (hex s)) (hex s))) (number 0 (hex s))
+
+namesTold : String → Result
+namesTold s = yesNo (namesAreCanonical knownKind (hex s))
+
+metadataTold : String → Result
+metadataTold s = yesNo (itemsAreCanonical anyItem (hex s))
+
+hintsTold : String → Result
+hintsTold s = yesNo (itemsAreCanonical hintItem (hex s))
+
+pub tellings : List Example
+tellings =
+    -- a number is shortest with one byte, or with a last byte that is not 0
+    numberTold "00" gives yes ∷
+    numberTold "80 00" gives not ∷
+    numberTold "80 01" gives yes ∷
+    numberTold "80 80 80 80 00" gives not ∷
+    numberTold "FF FF FF FF 0F" gives yes ∷
+    -- the examples E7 to E11, and P
+    namesTold "01 85 00 01 00 81 00 61" gives not ∷
+    namesTold "01 04 01 00 01 61" gives yes ∷
+    namesTold "01 01 00" gives not ∷
+    namesTold "" gives yes ∷
+    namesTold "00 01 00" gives yes ∷
+    namesTold "03 01 FF" gives yes ∷
+    namesTold P gives yes ∷
+    -- one number padded: a subsection's size, a count, an index, a length; of a kept subsection its size, but nothing in it
+    namesTold "01 84 00 01 00 01 61" gives not ∷
+    namesTold "01 05 81 00 00 01 61" gives not ∷
+    namesTold "01 05 01 80 00 01 61" gives not ∷
+    namesTold "01 05 01 00 81 00 61" gives not ∷
+    namesTold "00 03 81 00 61" gives not ∷
+    namesTold "03 81 00 FF" gives not ∷
+    namesTold "03 02 80 00" gives yes ∷
+    -- an empty group beside another, and alone; an indirect map without groups
+    namesTold "02 08 02 00 00 03 01 00 01 78" gives not ∷
+    namesTold "02 06 01 03 01 00 01 78" gives yes ∷
+    namesTold "02 03 01 00 00" gives not ∷
+    namesTold "02 01 00" gives not ∷
+    -- a refused payload is no, also behind what is canonical
+    namesTold "01 00" gives not ∷
+    namesTold "01 07 02 03 01 62 03 01 61" gives not ∷
+    -- metadata with nothing left is the one byte 00
+    metadataTold "00" gives yes ∷
+    metadataTold "80 00" gives not ∷
+    metadataTold "" gives not ∷
+    metadataTold "01" gives not ∷
+    -- a function without items, alone and before another; an item of size 0 is an item
+    metadataTold "01 02 00" gives not ∷
+    metadataTold "02 02 00 03 01 05 01 01" gives not ∷
+    metadataTold "01 02 01 05 00" gives yes ∷
+    -- E15, and with one number padded: the count of functions, a function, its count, an offset, a size
+    hintsTold "01 02 01 05 01 01" gives yes ∷
+    hintsTold "81 00 02 01 05 01 01" gives not ∷
+    hintsTold "01 82 00 01 05 01 01" gives not ∷
+    hintsTold "01 02 81 00 05 01 01" gives not ∷
+    hintsTold "01 02 01 85 00 01 01" gives not ∷
+    hintsTold "01 02 01 05 81 00 01" gives not ∷
+    -- E16 is metadata and no hint
+    metadataTold "01 02 01 05 01 02" gives yes ∷
+    hintsTold "01 02 01 05 01 02" gives not ∷
+    []
+
+pub tellings-hold : map computed tellings ≡ map stated tellings
+unfolding tellings computed stated yesNo yes not numberTold namesTold metadataTold hintsTold P hex digit ofOutcome same number groups shortest fewest utf8 characters character completes sized name remaining lookup size mapTable rows table known knownKind contents subsections payload judgeNames hintOf anyItem hintItem metadata judgeMetadata writePart writeRows writeTable unlessEmpty keepRows bare writeContent writeSubsections rewriteNames canonicalNames rewriteMetadata canonicalOf isItsRewriting namesAreCanonical itemsAreCanonical
+tellings-hold = refl
 
 -- The listing
 pub listings : List Example

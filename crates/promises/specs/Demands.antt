@@ -47,7 +47,13 @@ use Rattle.format.specs.declared.Question.the-variants.{ModuleName, FunctionNam
 -- Of metadata and hints: `ItemQuestion` is a function and an offset, each a record of one number; `ItemInRange q` says that both are below 4,294,967,296.
 use Rattle.format.specs.Theorems.{ItemQuestion, ItemInRange}
 -- THE CALLS, each by its promise: `wm-walk bytes a` says that the answer a is one that the promise of wm_walk allows for these bytes. It is the promise itself, the one name that stands in the `ensures` of the call in crates/wakemiono/src/lib.rt. What the promises come to is said below, so that nothing has to be known of how they are put. `wm-name q` is the promise of the call that asks q: wm_module_name asks `ModuleName`, wm_function_name `FunctionName` of its function, wm_type_name `TypeName` of its index, wm_tag_name `TagName` of its tag, wm_local_name `LocalName` of its function and its local, wm_field_name `FieldName` of its index and its field, wm_kept `KeptContents` of its id; `wm-name-in q` is that of the same call with `_in`, which is lent a module. The calls that write are promised of the output before and after, too: `old` and `new`.
-use Rattle.wakemiono.specs.Calls.{wm-walk, wm-section, wm-custom, wm-names-judge, wm-name, wm-metadata-judge, wm-metadata, wm-hints-judge, wm-hint, wm-name-in, wm-metadata-in, wm-hint-in, wm-names-canonical, wm-metadata-canonical, wm-hints-canonical, wm-function-names-write}
+use Rattle.wakemiono.specs.Calls.{wm-walk, wm-section, wm-custom, wm-names-judge, wm-name, wm-metadata-judge, wm-metadata, wm-hints-judge, wm-hint, wm-name-in, wm-metadata-in, wm-hint-in, wm-names-canonical, wm-metadata-canonical, wm-hints-canonical, wm-function-names-write, wm-names-is-canonical, wm-metadata-is-canonical, wm-hints-is-canonical}
+-- THE NUMBER READER of the library, by its promise: from the cursor c over the bytes s it reads the number v, says `told`, and stands at `next`; `left s c` are the bytes from c to the end of the innermost part, and `shortest v` is the shortest form of v. `Inside s c`: the cursor lies in what was lent.
+use Rattle.format.specs.Numbers.{shortest}
+use Rattle.reading.specs.Cursors.{Inside, left}
+use Rattle.reading.specs.Promises.{reading-number}
+use Rattle.reading.specs.declared.Cursor.{Cursor}
+use Rattle.reading.specs.declared.NumberRead.the-variants.{Value}
 
 -- DEMAND 1. "Any bytes may be lent as a module, a section or a set of lists. Each public call ends, does nothing undefined and asks no prior check. Bad input gets a refusal number and the offset document 01 gives with it, and every lent buffer is unchanged." Proved as `demand-1` in Proved.antt.
 
@@ -368,3 +374,20 @@ pub record Demand3 : Type 0 where
   pub metadata : Rewrites wm-metadata-judge (λ q. wm-metadata (q .0 .0) (q .1 .0)) ItemInRange SameAnswer wm-metadata-canonical
   -- hints are the same where the whole answers are, none, likely or unlikely
   pub hints : Rewrites wm-hints-judge (λ q. wm-hint (q .0 .0) (q .1 .0)) ItemInRange (λ _ _ a b. a ≡ b) wm-hints-canonical
+
+-- K10. "The number reader should also say whether the number took its fewest bytes, and its promise and every caller's change with it. On top comes a yes or no for a payload: yes exactly when it is accepted and equals its canonical rewriting." Proved as `k10` in Proved.antt.
+
+-- A call that tells: yes is 1 and no is 0
+module _ (judging : List ℕ → WmAnswer → Type 0) (rewriting : (payload old new : List ℕ) → WmAnswer → Type 0) (telling : List ℕ → ℕ → Type 0) where
+  pub record TellsCanonical : Type 0 where
+    -- yes exactly when the judging call accepts the payload, and what the rewriting call writes of it, wherever there is room, is the payload
+    pub yes-exactly : (p : List ℕ) (y : ℕ) → telling p y → (y ≡ 1) ↔ (((j : WmAnswer) → judging p j → j .kind ≡ 1) × ((old new : List ℕ) (a : WmAnswer) → length p ≤ length old → rewriting p old new a → take (a .length) new ≡ p))
+    -- and no otherwise
+    pub no-else : (p : List ℕ) (y : ℕ) → telling p y → (y ≡ 1 → ⊥) → y ≡ 0
+
+pub record K10 : Type 0 where
+  -- a number took its fewest bytes exactly when the bytes read are its shortest form
+  pub numbers : (s : List ℕ) (c next : Cursor) (v : ℕ) (told : Bool) → Bytes s → Inside s c → reading-number c s (Value v next told) → (told ≡ true) ↔ (left s c ≡ shortest v ++ left s next)
+  pub names : TellsCanonical wm-names-judge wm-names-canonical wm-names-is-canonical
+  pub metadata : TellsCanonical wm-metadata-judge wm-metadata-canonical wm-metadata-is-canonical
+  pub hints : TellsCanonical wm-hints-judge wm-hints-canonical wm-hints-is-canonical

@@ -23,6 +23,9 @@ use Rattle.format.specs.declared.Verdict.the-variants.{Accepted, Refused}
 use Rattle.names.specs.declared.judging.Judged.{Judged as Judgement}
 use Rattle.names.specs.declared.judging.Judged.the-variants.{Accepted as AcceptedAt, Refused as NotAccepted}
 use Rattle.names.specs.declared.places.Places.{Places}
+use Rattle.tables.specs.Telling.{isFilled}
+use Rattle.tables.specs.declared.telling.Tidy.{Tidy}
+use Rattle.tables.specs.declared.telling.Tidy.the-variants.{Behind}
 use Rattle.tables.specs.declared.Held.{Held}
 use Rattle.tables.specs.declared.Held.the-variants.{Nothing as Absent, Part as At}
 use Rattle.reading.specs.Cursors.{overAll}
@@ -104,6 +107,10 @@ isAccepted (Refused r) = false
 pub place-of : (place : Held) → RuledOut (λ (x : Places × ℕ) r. r ≡ placedAt (x .0) (x .1)) (λ _ r. r ≡ place)
 unfolding placedAt placesOf lookup
 place-of place = by-two-inputs {says = λ r. r} (λ x r meets. meets) (λ r. some r) isAt (record { «module» = At front; functions = Absent; locals = Absent; types = Absent; fields = Absent; tags = Absent }, 0) (nowhere, 0) {k = At front} {l = Absent} refl refl refl refl place
+
+-- tables: always filled, or never
+pub is-filled : (wrong : Bool) → RuledOut (λ (read : Tidy) r. r ≡ isFilled read) (λ _ r. r ≡ wrong)
+is-filled wrong = by-two-inputs {says = λ r. r} (λ read r meets. meets) (λ b. some b) (λ b. b) (Behind (record { at = 1; end = 1 })) (Behind front) refl refl refl refl wrong
 
 -- names: a verdict is always accepted, or always refused
 pub judged-verdict : (wrong : Bool) → RuledOut (λ (j : Judgement) r. r ≡ verdictIn j) (λ _ r. isAccepted r ≡ wrong)

@@ -12,3 +12,4 @@ pub mod Exactly
 pub mod Walking
 pub mod Moving
 pub mod Through
+pub mod Telling

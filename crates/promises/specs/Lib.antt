@@ -9,6 +9,7 @@ pub mod Asking
 pub mod Handing
 pub mod Walking
 pub mod Writing
+pub mod Telling
 pub mod Demands
 pub mod Laws
 pub mod Proved

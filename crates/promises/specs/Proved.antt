@@ -22,9 +22,10 @@ use Rattle.format.specs.Questions.{asPlace, ask}
 use Rattle.format.specs.Lists.{functionNames}
 use Rattle.format.specs.Options.{mapSome}
 use Rattle.format.specs.Reading.{mapJudged, verdict}
+use Rattle.format.specs.Telling.{isItsRewriting, namesAreCanonical, itemsAreCanonical}
 use Rattle.format.specs.Through.{askThrough, askMetadataThrough, askHintThrough}
 use Rattle.format.specs.Walk.{sectionCount, sectionAt, customPayload}
-use Rattle.wakemiono.specs.Boundary.{wmCount, wmSection, wmPlace, wmJudged, wmHint, WmWrites}
+use Rattle.wakemiono.specs.Boundary.{wmCount, wmSection, wmPlace, wmJudged, wmHint, wmYes, WmWrites}
 use Rattle.walk.specs.Surveys.{sectionPlace}
 use Rattle.format.specs.Theorems.{Rewrites as AnyRewrites, questions-answered, known-answered, hints-answered as all-hints-answered, any-metadata-answered, known-rewritten, any-metadata-rewritten, hints-rewritten}
 use Rattle.format.specs.Canonical.{bare, bareItems}
@@ -51,10 +52,11 @@ use Rattle.promises.specs.Laws.ListsRefused.{lists-refused}
 use Rattle.promises.specs.Laws.Refusing.{Numbered, FairlyJudged, names-fair, any-fair, hint-fair, item-of-fair, items-fair, walk-fair}
 use Rattle.promises.specs.Laws.Rewriting.{hints-same, names-first-judged, metadata-first-judged, hints-first-judged, names-compared, metadata-compared, rewritten-same, rewritten-accepted, rewritten-alike, rewritten-shorter, rewritten-rests, rewritten-fits, rewriting-refused, names-refuse, metadata-refuse, hints-refuse}
 use Rattle.promises.specs.Laws.Saying.{Verdict as Says, judged-said, judged-whole, refused-said, hint-refused-said}
+use Rattle.promises.specs.Laws.Telling.{number-told, else-zero, yes-told}
 use Rattle.promises.specs.Laws.Through.{name-through, hint-through, metadata-through, hint-data-through}
 use Rattle.promises.specs.Laws.Walking.{walked, walk-counts, section-found, section-first, section-none, section-refused, custom-tells, custom-refused}
 use Rattle.wakemiono.specs.Calls.{wm-walk, wm-names-judge, wm-name, wm-metadata-judge, wm-metadata, wm-hints-judge, wm-hint, wm-names-canonical, wm-metadata-canonical, wm-hints-canonical, wm-function-names-write}
-use Rattle.promises.specs.Demands.{Verdict, Reply, SectionReply, HintReply, Answers, RefusedBy, RefusedThrough, RefusedOrShort, ListsRefused, Leaves, NeedsRoom, Writing, Demand1, HoldsName, HoldsData, JudgesExactly, AnswersNames, AnswersMetadata, AnswersHints, Walks, Demand2, SameAnswer, Rewrites, Demand3, yes, no, replyNone, replyFound, replyRefused, sectionNone, sectionFound, sectionRefused, hintNone, hintUnlikely, hintLikely, hintRefused, byTheWalk, byItsPayload, asJudged, tooShort, listsDisagree, notAbove, notText, subsectionTooLarge, outputTooShort}
+use Rattle.promises.specs.Demands.{Verdict, Reply, SectionReply, HintReply, Answers, RefusedBy, RefusedThrough, RefusedOrShort, ListsRefused, Leaves, NeedsRoom, Writing, Demand1, HoldsName, HoldsData, JudgesExactly, AnswersNames, AnswersMetadata, AnswersHints, Walks, Demand2, SameAnswer, Rewrites, Demand3, yes, no, replyNone, replyFound, replyRefused, sectionNone, sectionFound, sectionRefused, hintNone, hintUnlikely, hintLikely, hintRefused, byTheWalk, byItsPayload, asJudged, tooShort, listsDisagree, notAbove, notText, subsectionTooLarge, outputTooShort, TellsCanonical, K10}
 
 -- Demand 1
 judged-verdict : (n : ℕ) (j : Judged (Unit {0})) → Verdict (wmJudged n j)
@@ -280,4 +282,23 @@ demand-3 = record {
   names = rewritten known-rewritten names-first-judged names-refuse wm-name (λ q x. (_, refl)) SameAnswer names-compared;
   metadata = rewritten any-metadata-rewritten metadata-first-judged metadata-refuse (λ q. wm-metadata (q .0 .0) (q .1 .0)) (λ q x. (_, refl)) SameAnswer metadata-compared;
   hints = rewritten hints-rewritten hints-first-judged hints-refuse (λ q. wm-hint (q .0 .0) (q .1 .0)) (λ q x. (_, refl)) (λ _ _ a b. a ≡ b) (λ q x y a b _ _. hints-same (askHint (q .0) (q .1) 0 x) (askHint (q .0) (q .1) 0 y));
+}
+
+-- K10
+module _ {A Q R : Type 0} {judgement : List ℕ → Judged A} {rewriting : List ℕ → Judged (List ℕ)} {answer : Q → List ℕ → R} {Allowed : Q → Type 0} (rewrites : AnyRewrites judgement rewriting answer Allowed)
+    (first-judged : (p bytes : List ℕ) → rewriting p ≡ accepted bytes → Accepted judgement p)
+    (rewritten-of : (p : List ℕ) → Accepted judgement p → (bytes : List ℕ) × (rewriting p ≡ accepted bytes)) where
+  told : TellsCanonical (λ p j. j ≡ wmJudged (length p) (verdict (judgement p))) (λ p old new a. WmWrites (rewriting p) old new a) (λ p y. y ≡ wmYes (isItsRewriting (rewriting p) p))
+  told = record {
+    yes-exactly = yes-told judgement rewriting first-judged (λ p a. let (bytes, wants) = rewritten-of p a in (bytes, wants, rewrites .rewritten a bytes wants .never-longer));
+    no-else = λ p y. else-zero (isItsRewriting (rewriting p) p);
+  }
+
+pub k10 : K10
+unfolding namesAreCanonical itemsAreCanonical canonicalNames canonicalMetadata canonicalHints canonicalOf
+k10 = record {
+  numbers = number-told;
+  names = told known-rewritten names-first-judged (λ p a. (rewriteNames (a .value), rw (a .judged)));
+  metadata = told any-metadata-rewritten metadata-first-judged (λ p a. (rewriteMetadata (a .value), rw (a .judged)));
+  hints = told hints-rewritten hints-first-judged (λ p a. (rewriteMetadata (a .value), rw (a .judged)));
 }

@@ -38,6 +38,9 @@ const MOST_FOLLOWING: u32 = 4;
 // The fifth byte has the last four of 32 bits.
 const GREATEST_FIFTH: u32 = 0x0F;
 
+// A last byte that adds nothing to those before it.
+const PADDING: u32 = 0;
+
 // A byte as a number: where a byte is read for its value, nothing is left to show of its range.
 pub fn wide(x: u8) -> u32
     ensures { λ r. ⌜ reading-wide x r ⌝ }
@@ -88,9 +91,10 @@ impl Cursor {
         while i < end {
             let b = wide(s[i]);
             let next = Cursor { at: i + 1, end };
+            let shortest = b != PADDING;
             if more == 0 {
                 if b <= GREATEST_FIFTH {
-                    return NumberRead::Value(value + weight * b, next, b != 0);
+                    return NumberRead::Value(value + weight * b, next, shortest);
                 }
                 return NumberRead::Refused(Refusal {
                     reason: Reason::NumberTooLarge,
@@ -98,7 +102,7 @@ impl Cursor {
                 });
             }
             if b < FOLLOWED {
-                return NumberRead::Value(value + weight * b, next, b != 0);
+                return NumberRead::Value(value + weight * b, next, shortest);
             }
             value = value + weight * (b % FOLLOWED);
             weight = weight * FOLLOWED;

@@ -14,7 +14,7 @@ use Rattle.copying.proofs.Laws.{cut-left, part-length}
 use Rattle.rewrite.specs.Whole.{FitsWhole, PutsWhole}
 
 -- a part of bytes is bytes
-bytes-left : (s : List ℕ) (c : Cursor) → Bytes s → Bytes (left s c)
+pub bytes-left : (s : List ℕ) (c : Cursor) → Bytes s → Bytes (left s c)
 bytes-left s c h =
     let front = bytes-before (take (c .end) s) (drop (c .end) s) (rw (take-append-drop (c .end) s) h) in
     bytes-after (take (c .at) (take (c .end) s)) (left s c) (rw (take-append-drop (c .at) (take (c .end) s)) front)

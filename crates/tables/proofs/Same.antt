@@ -1,4 +1,4 @@
--- Two results that meet one promise about an accepted table are equal.
+-- Two results that meet one promise about a table are equal.
 use Prim.Native.Nat.{ℕ}
 use mathlib.Core.List.{List}
 use mathlib.Core.Option.{Option}
@@ -8,13 +8,15 @@ use Rattle.format.specs.Reading.{Reader}
 use Rattle.format.specs.Numbers.{number}
 use Rattle.format.specs.Parts.{Part}
 use Rattle.format.specs.Laws.Options.{not-some, some-is}
+use Rattle.format.specs.Laws.Telling.{not-behind, behind-at}
 use Rattle.reading.specs.Standing.{Stands}
 use Rattle.reading.specs.declared.Cursor.{Cursor}
-use Rattle.reading.proofs.Same.{same-part}
+use Rattle.reading.proofs.Same.{same-cursor, same-part}
 use Rattle.reading.proofs.Standing.{one-value, one-end}
 use Rattle.tables.specs.Stepping.{Splits, RowSteps, GroupSteps}
 use Rattle.tables.specs.Finding.{Finds, Skips}
 use Rattle.tables.specs.Steps.{heldOf}
+use Rattle.tables.specs.Telling.{Tells}
 use Rattle.tables.specs.declared.Held.{Held}
 use Rattle.tables.specs.declared.Held.the-variants.{Nothing, Part as APart}
 use Rattle.tables.specs.declared.stepping.Rows.{Rows}
@@ -22,6 +24,8 @@ use Rattle.tables.specs.declared.stepping.RowStep.{RowStep}
 use Rattle.tables.specs.declared.stepping.RowStep.the-variants.{End as NoRow, Row}
 use Rattle.tables.specs.declared.stepping.GroupStep.{GroupStep}
 use Rattle.tables.specs.declared.stepping.GroupStep.the-variants.{End as NoGroup, Group}
+use Rattle.tables.specs.declared.telling.Tidy.{Tidy}
+use Rattle.tables.specs.declared.telling.Tidy.the-variants.{Behind, Not}
 
 pub rows-here-same : {s : List ℕ} {c : Cursor} (r r′ : Rows) → Stands number s c (r .more) (r .next) → Stands number s c (r′ .more) (r′ .next) → r ≡ r′
 rows-here-same r r′ p q = let more = one-value p q in let next = one-end p q in λ i. record { next = next i; more = more i }
@@ -75,3 +79,10 @@ module _ {A : Type 0} (read : Reader A) (answer : A → Option Part) {s : List �
 
 pub skips-same : {s : List ℕ} {c : Cursor} (next next′ : Cursor) → Skips s c next → Skips s c next′ → next ≡ next′
 skips-same next next′ p q = one-end (p .stands) (q .stands)
+
+-- what a list is told to be
+pub tells-same : {A : Type 0} {read : Reader A} {formOf : A → Option (List ℕ)} {s : List ℕ} {c : Cursor} (r r′ : Tidy) → Tells read formOf s c r → Tells read formOf s c r′ → r ≡ r′
+tells-same (Behind d) (Behind e) p q = ap Behind (same-cursor d e (behind-at (p .means ∙ sym (q .means))) (p .same-part .1 ∙ sym (q .same-part .1)))
+tells-same (Behind d) Not p q = absurd (not-behind (sym (p .means ∙ sym (q .means))))
+tells-same Not (Behind e) p q = absurd (not-behind (p .means ∙ sym (q .means)))
+tells-same Not Not p q = refl

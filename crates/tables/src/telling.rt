@@ -175,10 +175,10 @@ pub fn tidy_tables(c: Cursor, s: &[u8], item: Item) -> Tidy
 {
     match c.number(s) {
         NumberRead::Refused(_) => Tidy::Not,
-        NumberRead::Value(n, d, shortest) => {
+        NumberRead::Value(groups, d, shortest) => {
             if shortest {
-                if 0 < n {
-                    return tidy_groups(d, s, item, n);
+                if 0 < groups {
+                    return tidy_groups(d, s, item, groups);
                 }
             }
             Tidy::Not

@@ -14,7 +14,7 @@ use Rattle.names.specs.Frames.{judgeFrames}
 use Rattle.names.specs.declared.kinds.Kind.{Kind}
 use Rattle.reading.specs.Cursors.{left}
 use Rattle.reading.specs.declared.Cursor.{Cursor}
-use Rattle.names.specs.Promises.{names-ask, names-ask-bytes, names-the-name, names-named, names-named-within, names-all-kept, names-one-name, names-content, names-frame, names-subsection, names-judged-verdict, names-judge-in, names-judge, names-find, names-kind-of, names-placed, names-place-of, names-ask-in}
+use Rattle.names.specs.Promises.{names-ask, names-ask-bytes, names-the-name, names-named, names-named-within, names-all-kept, names-one-name, names-content, names-frame, names-subsection, names-judged-verdict, names-judge-in, names-judge, names-find, names-kind-of, names-placed, names-place-of, names-is-canonical, names-ask-in}
 
 pub record Names : Type 0 where
   -- names
@@ -39,6 +39,8 @@ pub record Names : Type 0 where
   -- names::places
   names-placed : Determines3 names-placed
   names-place-of : Determines2 names-place-of
+  -- names::telling
+  names-is-canonical : Determines1 names-is-canonical
   -- names::within
   names-ask-in : Determines3 names-ask-in
 
@@ -60,6 +62,7 @@ determined =
       names-kind-of = λ id. meaning-determined kind-same _;
       names-placed = λ places id part. placed-same;
       names-place-of = λ places id. equal-determined _;
+      names-is-canonical = λ p. equal-determined _;
       names-ask-in = λ s c q. answer-determined _;
     }
 

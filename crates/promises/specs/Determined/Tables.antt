@@ -6,10 +6,10 @@ use Rattle.reading.proofs.Same.{part-same}
 use Rattle.reading.specs.Cursors.{Inside}
 use Rattle.reading.specs.declared.Cursor.{Cursor}
 use Rattle.tables.proofs.Laws.{seeks-same}
-use Rattle.tables.proofs.Same.{rows-here-same, row-step-same, group-step-same, finds-same, skips-same}
+use Rattle.tables.proofs.Same.{rows-here-same, row-step-same, group-step-same, finds-same, skips-same, tells-same}
 use Rattle.tables.specs.declared.Item.{Item}
 use Rattle.tables.specs.declared.Wanted.{Wanted}
-use Rattle.tables.specs.Promises.{tables-value, tables-table, tables-tables, tables-answer-of, tables-find-row, tables-behind-table, tables-find-group, tables-rows-here, tables-behind, tables-row-step, tables-group-step}
+use Rattle.tables.specs.Promises.{tables-value, tables-table, tables-tables, tables-answer-of, tables-find-row, tables-behind-table, tables-find-group, tables-is-filled, tables-tidy-table, tables-tidy-tables, tables-rows-here, tables-behind, tables-row-step, tables-group-step}
 
 pub record Tables : Type 0 where
   -- tables
@@ -19,6 +19,10 @@ pub record Tables : Type 0 where
   tables-find-row : Determines3 tables-find-row
   tables-behind-table : Determines2 tables-behind-table
   tables-find-group : Determines4 tables-find-group
+  -- tables::telling
+  tables-is-filled : Determines1 tables-is-filled
+  tables-tidy-table : Determines3 tables-tidy-table
+  tables-tidy-tables : Determines3 tables-tidy-tables
   -- tables::stepping
   tables-rows-here : Determines2 tables-rows-here
   tables-behind : Determines2 tables-behind
@@ -33,6 +37,9 @@ determined =
       tables-find-row = λ c s key. finds-same _ _;
       tables-behind-table = λ c s. skips-same;
       tables-find-group = λ c s key inner. finds-same _ _;
+      tables-is-filled = λ read. equal-determined _;
+      tables-tidy-table = λ c s item. tells-same;
+      tables-tidy-tables = λ c s item. tells-same;
       tables-rows-here = λ c s. rows-here-same;
       tables-behind = λ left next. equal-determined _;
       tables-row-step = λ left s. row-step-same;

@@ -5,7 +5,7 @@ use Rattle.format.specs.Determined.{Determines, Determines1, Determines2, Deter
 use Rattle.format.specs.Reading.{Judged}
 use Rattle.wakemiono.proofs.Same.{wm-writes-same}
 use Rattle.wakemiono.specs.Boundary.{WmWrites}
-use Rattle.wakemiono.specs.Calls.{wm-walk, wm-section, wm-custom, wm-names-judge, wm-name, wm-metadata-judge, wm-metadata, wm-hints-judge, wm-hint, wm-name-in, wm-metadata-in, wm-hint-in, wm-names-canonical, wm-metadata-canonical, wm-hints-canonical, wm-function-names-write}
+use Rattle.wakemiono.specs.Calls.{wm-walk, wm-section, wm-custom, wm-names-judge, wm-name, wm-metadata-judge, wm-metadata, wm-hints-judge, wm-hint, wm-name-in, wm-metadata-in, wm-hint-in, wm-names-canonical, wm-metadata-canonical, wm-hints-canonical, wm-names-is-canonical, wm-metadata-is-canonical, wm-hints-is-canonical, wm-function-names-write}
 use Rattle.wakemiono.specs.declared.WmAnswer.{WmAnswer}
 
 -- One answer and one end state alone meet the promise of a write
@@ -28,6 +28,9 @@ pub record Wakemiono : Type 0 where
   wm-names-canonical : DeterminesBoth2 wm-names-canonical
   wm-metadata-canonical : DeterminesBoth2 wm-metadata-canonical
   wm-hints-canonical : DeterminesBoth2 wm-hints-canonical
+  wm-names-is-canonical : Determines1 wm-names-is-canonical
+  wm-metadata-is-canonical : Determines1 wm-metadata-is-canonical
+  wm-hints-is-canonical : Determines1 wm-hints-is-canonical
   wm-function-names-write : DeterminesBoth4 wm-function-names-write
 
 pub determined : Wakemiono
@@ -48,5 +51,8 @@ determined =
       wm-names-canonical = λ payload old. wm-writes-determined _ _;
       wm-metadata-canonical = λ payload old. wm-writes-determined _ _;
       wm-hints-canonical = λ payload old. wm-writes-determined _ _;
+      wm-names-is-canonical = λ payload. equal-determined _;
+      wm-metadata-is-canonical = λ payload. equal-determined _;
+      wm-hints-is-canonical = λ payload. equal-determined _;
       wm-function-names-write = λ indices lengths text old. wm-writes-determined _ _;
     }

@@ -18,14 +18,14 @@ shared-slice-read-wide c = search number-turns
 wide-requires : tie.Need-wide-requires Inv-loop μ-loop
 wide-requires c κs = search number-turns
 
-add-t14 : tie.Need-add-t14 Inv-loop μ-loop
-add-t14 c = search number-turns
+add-t15 : tie.Need-add-t15 Inv-loop μ-loop
+add-t15 c = search number-turns
 
-mul-t16 : tie.Need-mul-t16 Inv-loop μ-loop
-mul-t16 c = search number-turns
+mul-t17 : tie.Need-mul-t17 Inv-loop μ-loop
+mul-t17 c = search number-turns
 
-add-t17 : tie.Need-add-t17 Inv-loop μ-loop
-add-t17 c = search number-turns
+add-t18 : tie.Need-add-t18 Inv-loop μ-loop
+add-t18 c = search number-turns
 
 returns : tie.Need-returns Inv-loop μ-loop
 returns c = search number-turns
@@ -67,4 +67,4 @@ returns-4 : tie.Need-returns-4 Inv-loop μ-loop
 returns-4 c = search number-turns
 
 pub long-number-spec : {M : Type 1} → statement M
-long-number-spec = tie.close (tie.spec Inv-loop μ-loop loop-holds shared-slice-read-wide wide-requires add-t14 mul-t16 add-t17 returns returns-2 mul-t22 add-t23 returns-3 mul-value add-value mul-weight sub-more add-i loop-less loop-again returns-4)
+long-number-spec = tie.close (tie.spec Inv-loop μ-loop loop-holds shared-slice-read-wide wide-requires add-t15 mul-t17 add-t18 returns returns-2 mul-t22 add-t23 returns-3 mul-value add-value mul-weight sub-more add-i loop-less loop-again returns-4)

@@ -8,8 +8,8 @@ number-requires c κs = search tidy-lists-list
 enum-told : tie.Need-enum-told
 enum-told c = search tidy-lists-list
 
-enum-known-n : tie.Need-enum-known-n
-enum-known-n c = search tidy-lists-list
+enum-known-groups : tie.Need-enum-known-groups
+enum-known-groups c = search tidy-lists-list
 
 tidy-groups-requires : tie.Need-tidy-groups-requires
 tidy-groups-requires c κs = search tidy-lists-list
@@ -27,4 +27,4 @@ returns-4 : tie.Need-returns-4
 returns-4 c = search tidy-lists-list
 
 pub tidy-tables-spec : {M : Type 1} → statement M
-tidy-tables-spec = tie.close (tie.spec number-requires enum-told enum-known-n tidy-groups-requires returns returns-2 returns-3 returns-4)
+tidy-tables-spec = tie.close (tie.spec number-requires enum-told enum-known-groups tidy-groups-requires returns returns-2 returns-3 returns-4)
