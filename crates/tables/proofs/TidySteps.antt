@@ -32,7 +32,7 @@ use Rattle.reading.specs.declared.PartRead.the-variants.{Part as APart, Refused
 use Rattle.reading.proofs.Laws.{number-means, number-tells, number-end, number-inside}
 use Rattle.tables.specs.Seeking.{readerOf, isItem, notItem}
 use Rattle.tables.specs.Steps.{isShort, indexFrom, IndexReads}
-use Rattle.tables.specs.Telling.{Tells, isFilled, TellsRows, rowBehind, rowsAt, RowTells}
+use Rattle.tables.specs.Telling.{Tells, isFilled, TellsRows, rowsAt, RowTells}
 use Rattle.tables.specs.declared.Item.{Item}
 use Rattle.tables.specs.declared.Item.the-variants.{Name, Data, Hint}
 use Rattle.tables.proofs.telling.Tidy as tidy-type
@@ -102,16 +102,6 @@ module _ (item : Item) {s : List ℕ} {c : Cursor} where
 
 pub ruleset tidy-items = (item-short, item-refused, item-padded, item-other, item-tidy, part-inside, needs)
 
--- A row with its number
-module _ (k : ℕ) (x : Tidy) where
-  pub number-not : tagOf tidy-type.the-type x ≡ 1 → NoRow ≡ rowBehind k x
-  number-not h = rw (not-tidy x h)
-
-  pub number-behind : {next : Cursor} → x ≡ Behind next → Row k next ≡ rowBehind k x
-  number-behind e = rw e
-
-pub ruleset tidy-numbers = (number-not, number-behind, needs)
-
 -- A row
 module _ {A : Type 0} (read : Reader A) (formOf : A → Option (List ℕ)) where
   -- where its number stops, the rows do
@@ -135,30 +125,38 @@ module _ {A : Type 0} {read : Reader A} {formOf : A → Option (List ℕ)} (shor
   row-padded : t ≡ false → RowTells read formOf least s c NoRow
   row-padded f = record { means = λ m. rows-told-padded short m least (c .at) (left s c) is-number (sym told-so ∙ f); same-part = tt }
 
-  row-with : t ≡ true → (y : Tidy) → Tells read formOf s d y → RowTells read formOf least s c (rowBehind k y)
-  row-with f (Behind next) v =
+  row-tidy : {next : Cursor} → t ≡ true → Tells read formOf s d (Behind next) → RowTells read formOf least s c (Row k next)
+  row-tidy f v =
       let end = index-end n e in
       let far = v .same-part in
       record { means = λ m. rows-told-on short m least (c .at) (left s c) is-number (sym told-so ∙ f) (index-above n e) (sym (v .means)); same-part = (omega (arith, far .0), far .1 ∙ end) }
-  row-with f Not v = record { means = λ m. rows-told-no short m least (c .at) (left s c) is-number (sym (v .means)); same-part = tt }
+
+  row-not : Tells read formOf s d Not → RowTells read formOf least s c NoRow
+  row-not v = record { means = λ m. rows-told-no short m least (c .at) (left s c) is-number (sym (v .means)); same-part = tt }
 
 -- whose value is an item, or a list
 module _ (item : Item) {least k : ℕ} {s : List ℕ} {c d : Cursor} {x : NumberRead} {t : Bool} (n : IndexReads least s c x) (e : x ≡ Value k d t) where
   pub item-row-padded : t ≡ false → RowTells (readerOf item) partForm least s c NoRow
   item-row-padded f = row-padded (items-shorter item) n e f
 
-  pub item-row : {y : Tidy} {z : TidyRow} → t ≡ true → Tells (readerOf item) partForm s d y → z ≡ rowBehind k y → RowTells (readerOf item) partForm least s c z
-  item-row {y} f v q = rw q (row-with (items-shorter item) n e f y v)
+  pub item-row : {y : Tidy} {next : Cursor} → t ≡ true → Tells (readerOf item) partForm s d y → y ≡ Behind next → RowTells (readerOf item) partForm least s c (Row k next)
+  item-row f v q = row-tidy (items-shorter item) n e f (rw q at v)
+
+  pub item-row-not : {y : Tidy} → Tells (readerOf item) partForm s d y → tagOf tidy-type.the-type y ≡ 1 → RowTells (readerOf item) partForm least s c NoRow
+  item-row-not {y} v h = row-not (items-shorter item) n e (rw (not-tidy y h) at v)
 
   pub list-row-padded : t ≡ false → RowTells (table (readerOf item)) (tableForm partForm) least s c NoRow
   list-row-padded f = row-padded (table-shorter (items-shorter item)) n e f
 
-  pub list-row : {y : Tidy} {z : TidyRow} → t ≡ true → Tells (table (readerOf item)) (tableForm partForm) s d y → z ≡ rowBehind k y → RowTells (table (readerOf item)) (tableForm partForm) least s c z
-  list-row {y} f v q = rw q (row-with (table-shorter (items-shorter item)) n e f y v)
+  pub list-row : {y : Tidy} {next : Cursor} → t ≡ true → Tells (table (readerOf item)) (tableForm partForm) s d y → y ≡ Behind next → RowTells (table (readerOf item)) (tableForm partForm) least s c (Row k next)
+  list-row f v q = row-tidy (table-shorter (items-shorter item)) n e f (rw q at v)
 
-pub ruleset tidy-rows-one = (row-no-number, item-row-padded, item-row, index-inside, needs)
+  pub list-row-not : {y : Tidy} → Tells (table (readerOf item)) (tableForm partForm) s d y → tagOf tidy-type.the-type y ≡ 1 → RowTells (table (readerOf item)) (tableForm partForm) least s c NoRow
+  list-row-not {y} v h = row-not (table-shorter (items-shorter item)) n e (rw (not-tidy y h) at v)
 
-pub ruleset tidy-groups-one = (row-no-number, list-row-padded, list-row, index-inside, needs)
+pub ruleset tidy-rows-one = (row-no-number, item-row-padded, item-row, item-row-not, index-inside, needs)
+
+pub ruleset tidy-groups-one = (row-no-number, list-row-padded, list-row, list-row-not, index-inside, needs)
 
 -- Rows, one after the other: whenever the loop is reached
 pub record Turn {A : Type 0} (read : Reader A) (formOf : A → Option (List ℕ)) (n : ℕ) (s : List ℕ) (c next : Cursor) (least more : ℕ) : Type 0 where

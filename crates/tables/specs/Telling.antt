@@ -38,11 +38,6 @@ isFilled Not = false
 abbrev pub TellsRows : {A : Type 0} (read : Reader A) (formOf : A → Option (List ℕ)) (n : ℕ) (s : List ℕ) (c : Cursor) (r : Tidy) → Type 0
 TellsRows read formOf n s c r = Tells (rows read n 0) (rowsForm formOf) s c r
 
--- a row with its number
-abbrev pub rowBehind : ℕ → Tidy → TidyRow
-rowBehind k (Behind next) = Row k next
-rowBehind k Not = NoRow
-
 -- one row, as it is passed: what is told of rows that begin with it is told of those behind it
 module _ {A : Type 0} (read : Reader A) (formOf : A → Option (List ℕ)) where
   abbrev pub rowsAt : (n least : ℕ) → List ℕ → Cursor → Told

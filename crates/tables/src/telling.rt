@@ -1,10 +1,9 @@
 // Judges lists and tells, in the same pass, whether they stand as their canonical rewriting would: each number in its fewest bytes, and no list without rows. The first fault ends it, and is not told apart from padding.
-ghost use mathlib.Core.Path.{_≡_};
 ghost use Rattle.format.specs.Tables.{table};
 ghost use Rattle.format.specs.Telling.{partForm, rowsForm, tableForm};
 ghost use Rattle.reading.specs.Cursors.{Inside};
 ghost use Rattle.tables.specs.Seeking.{readerOf};
-ghost use Rattle.tables.specs.Telling.{Tells, TellsRows, RowTells, rowBehind};
+ghost use Rattle.tables.specs.Telling.{Tells, TellsRows, RowTells};
 ghost use Rattle.tables.specs.Promises.{tables-is-filled, tables-tidy-table, tables-tidy-tables};
 use crate::Item;
 use crate::SHORT_HINT;
@@ -62,16 +61,6 @@ fn tidy_item(c: Cursor, s: &[u8], item: Item) -> Tidy
     }
 }
 
-// A row with this number, whose value is told so.
-fn with_number(k: u32, value: Tidy) -> TidyRow
-    ensures { λ r. ⌜ r ≡ rowBehind k value ⌝ }
-{
-    match value {
-        Tidy::Not => TidyRow::Not,
-        Tidy::Behind(next) => TidyRow::Row(k, next),
-    }
-}
-
 // A row whose value is an item.
 fn row(c: Cursor, s: &[u8], item: Item, least: u64) -> TidyRow
     requires { ⌜ Inside (now s) c ⌝ }
@@ -81,9 +70,13 @@ fn row(c: Cursor, s: &[u8], item: Item, least: u64) -> TidyRow
         NumberRead::Refused(_) => TidyRow::Not,
         NumberRead::Value(k, d, shortest) => {
             if shortest {
-                return with_number(k, tidy_item(d, s, item));
+                match tidy_item(d, s, item) {
+                    Tidy::Not => TidyRow::Not,
+                    Tidy::Behind(next) => TidyRow::Row(k, next),
+                }
+            } else {
+                TidyRow::Not
             }
-            TidyRow::Not
         }
     }
 }
@@ -95,11 +88,15 @@ fn group(c: Cursor, s: &[u8], item: Item, least: u64) -> TidyRow
 {
     match index(c, s, least) {
         NumberRead::Refused(_) => TidyRow::Not,
-        NumberRead::Value(k, d, shortest) => {
+        NumberRead::Value(outer, d, shortest) => {
             if shortest {
-                return with_number(k, tidy_table(d, s, item));
+                match tidy_table(d, s, item) {
+                    Tidy::Not => TidyRow::Not,
+                    Tidy::Behind(next) => TidyRow::Row(outer, next),
+                }
+            } else {
+                TidyRow::Not
             }
-            TidyRow::Not
         }
     }
 }
