@@ -36,4 +36,17 @@ returns-4 : tie.Need-returns-4
 returns-4 c = search group-steps
 
 pub group-spec : {M : Type 1} → statement M
-group-spec = tie.close (tie.spec index-requires enum-known-r enum-known-k table-requires enum-known-r-2 enum-known-next enum-known-part returns returns-2 returns-3 returns-4)
+group-spec =
+    tie.close
+    (tie.spec
+    index-requires
+    enum-known-r
+    enum-known-k
+    table-requires
+    enum-known-r-2
+    enum-known-next
+    enum-known-part
+    returns
+    returns-2
+    returns-3
+    returns-4)

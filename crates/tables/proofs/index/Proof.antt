@@ -24,4 +24,6 @@ returns-3 : tie.Need-returns-3
 returns-3 c = search index-steps
 
 pub index-spec : {M : Type 1} → statement M
-index-spec = tie.close (tie.spec number-requires enum-known-r enum-known-k cast-if1 returns returns-2 returns-3)
+index-spec =
+    tie.close
+    (tie.spec number-requires enum-known-r enum-known-k cast-if1 returns returns-2 returns-3)

@@ -27,4 +27,14 @@ returns-3 : tie.Need-returns-3
 returns-3 c = search item-steps
 
 pub is-item-spec : {M : Type 1} → statement M
-is-item-spec = tie.close (tie.spec enum-told is-name-requires enum-told-2 enum-told-3 is-hint-requires returns returns-2 returns-3)
+is-item-spec =
+    tie.close
+    (tie.spec
+    enum-told
+    is-name-requires
+    enum-told-2
+    enum-told-3
+    is-hint-requires
+    returns
+    returns-2
+    returns-3)

@@ -24,4 +24,6 @@ returns-3 : tie.Need-returns-3
 returns-3 c = search short-steps
 
 pub is-short-spec : {M : Type 1} → statement M
-is-short-spec = tie.close (tie.spec enum-told enum-told-2 enum-told-3 is-short-hint-requires returns returns-2 returns-3)
+is-short-spec =
+    tie.close
+    (tie.spec enum-told enum-told-2 enum-told-3 is-short-hint-requires returns returns-2 returns-3)

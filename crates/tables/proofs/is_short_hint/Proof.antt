@@ -24,4 +24,13 @@ returns-3 : tie.Need-returns-3
 returns-3 c = search short-hint-steps
 
 pub is-short-hint-spec : {M : Type 1} → statement M
-is-short-hint-spec = tie.close (tie.spec sub-if1 returns shared-slice-read-if2 add-result shared-slice-read-result returns-2 returns-3)
+is-short-hint-spec =
+    tie.close
+    (tie.spec
+    sub-if1
+    returns
+    shared-slice-read-if2
+    add-result
+    shared-slice-read-result
+    returns-2
+    returns-3)

@@ -30,4 +30,15 @@ returns-3 : tie.Need-returns-3
 returns-3 c = search row-steps
 
 pub row-spec : {M : Type 1} → statement M
-row-spec = tie.close (tie.spec index-requires enum-known-r enum-known-k value-requires enum-known-r-2 enum-known-part returns returns-2 returns-3)
+row-spec =
+    tie.close
+    (tie.spec
+    index-requires
+    enum-known-r
+    enum-known-k
+    value-requires
+    enum-known-r-2
+    enum-known-part
+    returns
+    returns-2
+    returns-3)

@@ -21,4 +21,6 @@ returns-2 : tie.Need-returns-2
 returns-2 c = search table-steps
 
 pub table-spec : {M : Type 1} → statement M
-table-spec = tie.close (tie.spec number-requires enum-known-r enum-known-n table-rows-requires returns returns-2)
+table-spec =
+    tie.close
+    (tie.spec number-requires enum-known-r enum-known-n table-rows-requires returns returns-2)

@@ -21,4 +21,6 @@ returns-2 : tie.Need-returns-2
 returns-2 c = search table-steps
 
 pub tables-spec : {M : Type 1} → statement M
-tables-spec = tie.close (tie.spec number-requires enum-known-r enum-known-n tables-rows-requires returns returns-2)
+tables-spec =
+    tie.close
+    (tie.spec number-requires enum-known-r enum-known-n tables-rows-requires returns returns-2)

@@ -50,4 +50,21 @@ returns-2 : tie.Need-returns-2 Inv-loop μ-loop
 returns-2 c = search turns
 
 pub tables-rows-spec : {M : Type 1} → statement M
-tables-rows-spec = tie.close (tie.spec Inv-loop μ-loop loop-holds group-requires enum-known-r returns enum-known-outer kept-requires cast-least add-least sub-more loop-less loop-again ended-requires returns-2)
+tables-rows-spec =
+    tie.close
+    (tie.spec
+    Inv-loop
+    μ-loop
+    loop-holds
+    group-requires
+    enum-known-r
+    returns
+    enum-known-outer
+    kept-requires
+    cast-least
+    add-least
+    sub-more
+    loop-less
+    loop-again
+    ended-requires
+    returns-2)

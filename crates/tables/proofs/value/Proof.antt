@@ -39,4 +39,18 @@ returns-4 : tie.Need-returns-4
 returns-4 c = search value-steps
 
 pub value-spec : {M : Type 1} → statement M
-value-spec = tie.close (tie.spec is-short-requires add-data add-behind returns sized-requires enum-known-r enum-known-part is-item-requires returns-2 not-item-requires returns-3 returns-4)
+value-spec =
+    tie.close
+    (tie.spec
+    is-short-requires
+    add-data
+    add-behind
+    returns
+    sized-requires
+    enum-known-r
+    enum-known-part
+    is-item-requires
+    returns-2
+    not-item-requires
+    returns-3
+    returns-4)

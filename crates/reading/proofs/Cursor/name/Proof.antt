@@ -24,4 +24,13 @@ returns-3 : tie.Need-returns-3
 returns-3 c = search name-steps
 
 pub name-spec : {M : Type 1} → statement M
-name-spec = tie.close (tie.spec sized-requires enum-known-r enum-known-part is-text-requires returns returns-2 returns-3)
+name-spec =
+    tie.close
+    (tie.spec
+    sized-requires
+    enum-known-r
+    enum-known-part
+    is-text-requires
+    returns
+    returns-2
+    returns-3)

@@ -28,4 +28,14 @@ returns-3 : tie.Need-returns-3
 returns-3 c = search first-byte
 
 pub number-spec : {M : Type 1} → statement M
-number-spec = tie.close (tie.spec long-number-requires returns shared-slice-read-wide wide-requires long-number-requires-2 returns-2 add-t9 returns-3)
+number-spec =
+    tie.close
+    (tie.spec
+    long-number-requires
+    returns
+    shared-slice-read-wide
+    wide-requires
+    long-number-requires-2
+    returns-2
+    add-t9
+    returns-3)

@@ -30,4 +30,15 @@ returns-3 : tie.Need-returns-3
 returns-3 c = search sized-steps
 
 pub sized-spec : {M : Type 1} → statement M
-sized-spec = tie.close (tie.spec number-requires enum-known-r enum-known-n cast-size sub-if1 returns add-next returns-2 returns-3)
+sized-spec =
+    tie.close
+    (tie.spec
+    number-requires
+    enum-known-r
+    enum-known-n
+    cast-size
+    sub-if1
+    returns
+    add-next
+    returns-2
+    returns-3)

@@ -55,4 +55,23 @@ returns : tie.Need-returns Inv-loop μ-loop
 returns c = search number-steps
 
 pub number-here-spec : {M : Type 1} → statement M
-number-here-spec = tie.close (tie.spec Inv-loop μ-loop shared-slice-read-wide wide-requires loop-holds mul-value add-value mul-weight add-i shared-slice-read-wide-2 wide-requires-2 loop-less loop-again mul-value-2 add-value-2 add-t18 returns)
+number-here-spec =
+    tie.close
+    (tie.spec
+    Inv-loop
+    μ-loop
+    shared-slice-read-wide
+    wide-requires
+    loop-holds
+    mul-value
+    add-value
+    mul-weight
+    add-i
+    shared-slice-read-wide-2
+    wide-requires-2
+    loop-less
+    loop-again
+    mul-value-2
+    add-value-2
+    add-t18
+    returns)

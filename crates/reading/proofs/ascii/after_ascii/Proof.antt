@@ -39,4 +39,18 @@ returns-5 : tie.Need-returns-5
 returns-5 c = search runs
 
 pub after-ascii-spec : {M : Type 1} → statement M
-after-ascii-spec = tie.close (tie.spec sub-if1 are-few-ascii-requires returns returns-2 after-blocks-requires after-each-block-requires sub-is-block-ascii is-block-ascii-requires sub-if4 returns-3 returns-4 returns-5)
+after-ascii-spec =
+    tie.close
+    (tie.spec
+    sub-if1
+    are-few-ascii-requires
+    returns
+    returns-2
+    after-blocks-requires
+    after-each-block-requires
+    sub-is-block-ascii
+    is-block-ascii-requires
+    sub-if4
+    returns-3
+    returns-4
+    returns-5)

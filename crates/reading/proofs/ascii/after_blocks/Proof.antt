@@ -35,4 +35,16 @@ returns-2 : tie.Need-returns-2 Inv-loop μ-loop
 returns-2 c = search runs
 
 pub after-blocks-spec : {M : Type 1} → statement M
-after-blocks-spec = tie.close (tie.spec Inv-loop μ-loop loop-holds sub-loop are-blocks-ascii-requires returns add-i loop-less loop-again returns-2)
+after-blocks-spec =
+    tie.close
+    (tie.spec
+    Inv-loop
+    μ-loop
+    loop-holds
+    sub-loop
+    are-blocks-ascii-requires
+    returns
+    add-i
+    loop-less
+    loop-again
+    returns-2)

@@ -35,4 +35,16 @@ returns-2 : tie.Need-returns-2 Inv-loop μ-loop
 returns-2 c = search runs
 
 pub after-each-block-spec : {M : Type 1} → statement M
-after-each-block-spec = tie.close (tie.spec Inv-loop μ-loop loop-holds sub-loop is-block-ascii-requires returns add-i loop-less loop-again returns-2)
+after-each-block-spec =
+    tie.close
+    (tie.spec
+    Inv-loop
+    μ-loop
+    loop-holds
+    sub-loop
+    is-block-ascii-requires
+    returns
+    add-i
+    loop-less
+    loop-again
+    returns-2)

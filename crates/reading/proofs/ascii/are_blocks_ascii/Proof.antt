@@ -15,4 +15,10 @@ returns : tie.Need-returns
 returns c = search blocks
 
 pub are-blocks-ascii-spec : {M : Type 1} → statement M
-are-blocks-ascii-spec = tie.close (tie.spec are-two-blocks-ascii-requires add-are-two-blocks-ascii are-two-blocks-ascii-requires-2 returns)
+are-blocks-ascii-spec =
+    tie.close
+    (tie.spec
+    are-two-blocks-ascii-requires
+    add-are-two-blocks-ascii
+    are-two-blocks-ascii-requires-2
+    returns)

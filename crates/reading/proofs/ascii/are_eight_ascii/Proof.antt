@@ -15,4 +15,6 @@ returns : tie.Need-returns
 returns c = search blocks
 
 pub are-eight-ascii-spec : {M : Type 1} → statement M
-are-eight-ascii-spec = tie.close (tie.spec are-four-ascii-requires add-are-four-ascii are-four-ascii-requires-2 returns)
+are-eight-ascii-spec =
+    tie.close
+    (tie.spec are-four-ascii-requires add-are-four-ascii are-four-ascii-requires-2 returns)

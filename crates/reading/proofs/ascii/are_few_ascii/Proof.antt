@@ -51,4 +51,22 @@ returns-4 : tie.Need-returns-4
 returns-4 c = search few
 
 pub are-few-ascii-spec : {M : Type 1} → statement M
-are-few-ascii-spec = tie.close (tie.spec sub-n are-eight-ascii-requires sub-are-eight-ascii are-eight-ascii-requires-2 returns are-four-ascii-requires sub-are-four-ascii are-four-ascii-requires-2 returns-2 returns-3 shared-slice-read-result add-result shared-slice-read-result-2 sub-result shared-slice-read-result-3 returns-4)
+are-few-ascii-spec =
+    tie.close
+    (tie.spec
+    sub-n
+    are-eight-ascii-requires
+    sub-are-eight-ascii
+    are-eight-ascii-requires-2
+    returns
+    are-four-ascii-requires
+    sub-are-four-ascii
+    are-four-ascii-requires-2
+    returns-2
+    returns-3
+    shared-slice-read-result
+    add-result
+    shared-slice-read-result-2
+    sub-result
+    shared-slice-read-result-3
+    returns-4)

@@ -27,4 +27,14 @@ returns : tie.Need-returns
 returns c = search blocks
 
 pub are-four-ascii-spec : {M : Type 1} → statement M
-are-four-ascii-spec = tie.close (tie.spec shared-slice-read-result add-result shared-slice-read-result-2 add-result-2 shared-slice-read-result-3 add-result-3 shared-slice-read-result-4 returns)
+are-four-ascii-spec =
+    tie.close
+    (tie.spec
+    shared-slice-read-result
+    add-result
+    shared-slice-read-result-2
+    add-result-2
+    shared-slice-read-result-3
+    add-result-3
+    shared-slice-read-result-4
+    returns)

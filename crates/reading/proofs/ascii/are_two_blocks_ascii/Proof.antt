@@ -15,4 +15,6 @@ returns : tie.Need-returns
 returns c = search blocks
 
 pub are-two-blocks-ascii-spec : {M : Type 1} → statement M
-are-two-blocks-ascii-spec = tie.close (tie.spec is-block-ascii-requires add-is-block-ascii is-block-ascii-requires-2 returns)
+are-two-blocks-ascii-spec =
+    tie.close
+    (tie.spec is-block-ascii-requires add-is-block-ascii is-block-ascii-requires-2 returns)

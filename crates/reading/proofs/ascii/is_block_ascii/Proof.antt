@@ -15,4 +15,6 @@ returns : tie.Need-returns
 returns c = search blocks
 
 pub is-block-ascii-spec : {M : Type 1} → statement M
-is-block-ascii-spec = tie.close (tie.spec are-eight-ascii-requires add-are-eight-ascii are-eight-ascii-requires-2 returns)
+is-block-ascii-spec =
+    tie.close
+    (tie.spec are-eight-ascii-requires add-are-eight-ascii are-eight-ascii-requires-2 returns)

@@ -42,4 +42,19 @@ returns-4 : tie.Need-returns-4
 returns-4 c = search taken-steps
 
 pub taken-spec : {M : Type 1} → statement M
-taken-spec = tie.close (tie.spec enum-known-answer slice-aggregate-result returns sub-if2 slice-aggregate-result-2 returns-2 add-result sub-result part-result-start part-result-end slice-aggregate-result-3 returns-3 returns-4)
+taken-spec =
+    tie.close
+    (tie.spec
+    enum-known-answer
+    slice-aggregate-result
+    returns
+    sub-if2
+    slice-aggregate-result-2
+    returns-2
+    add-result
+    sub-result
+    part-result-start
+    part-result-end
+    slice-aggregate-result-3
+    returns-3
+    returns-4)

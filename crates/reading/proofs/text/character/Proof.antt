@@ -33,4 +33,16 @@ returns-6 : tie.Need-returns-6
 returns-6 c = search firsts
 
 pub character-spec : {M : Type 1} → statement M
-character-spec = tie.close (tie.spec shared-slice-read-first returns returns-2 two-requires returns-3 three-requires returns-4 four-requires returns-5 returns-6)
+character-spec =
+    tie.close
+    (tie.spec
+    shared-slice-read-first
+    returns
+    returns-2
+    two-requires
+    returns-3
+    three-requires
+    returns-4
+    four-requires
+    returns-5
+    returns-6)

@@ -41,4 +41,18 @@ returns-3 : tie.Need-returns-3 Inv-loop μ-loop
 returns-3 c = search turns
 
 pub is-text-spec : {M : Type 1} → statement M
-is-text-spec = tie.close (tie.spec Inv-loop μ-loop after-ascii-requires returns after-characters-requires loop-holds character-requires returns-2 add-i loop-less loop-again returns-3)
+is-text-spec =
+    tie.close
+    (tie.spec
+    Inv-loop
+    μ-loop
+    after-ascii-requires
+    returns
+    after-characters-requires
+    loop-holds
+    character-requires
+    returns-2
+    add-i
+    loop-less
+    loop-again
+    returns-3)

@@ -38,4 +38,17 @@ loop-again : tie.Need-loop-again Inv-loop μ-loop
 loop-again c = search skipping
 
 pub behind-table-spec : {M : Type 1} → statement M
-behind-table-spec = tie.close (tie.spec Inv-loop μ-loop rows-here-requires loop-holds row-step-requires enum-told returns enum-known-next behind-requires loop-less loop-again)
+behind-table-spec =
+    tie.close
+    (tie.spec
+    Inv-loop
+    μ-loop
+    rows-here-requires
+    loop-holds
+    row-step-requires
+    enum-told
+    returns
+    enum-known-next
+    behind-requires
+    loop-less
+    loop-again)

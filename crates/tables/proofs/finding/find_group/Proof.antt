@@ -50,4 +50,21 @@ loop-again : tie.Need-loop-again Inv-loop μ-loop
 loop-again c = search group-seeking
 
 pub find-group-spec : {M : Type 1} → statement M
-find-group-spec = tie.close (tie.spec Inv-loop μ-loop rows-here-requires loop-holds group-step-requires enum-told returns enum-known-k find-row-requires returns-2 returns-3 behind-table-requires behind-requires loop-less loop-again)
+find-group-spec =
+    tie.close
+    (tie.spec
+    Inv-loop
+    μ-loop
+    rows-here-requires
+    loop-holds
+    group-step-requires
+    enum-told
+    returns
+    enum-known-k
+    find-row-requires
+    returns-2
+    returns-3
+    behind-table-requires
+    behind-requires
+    loop-less
+    loop-again)

@@ -43,4 +43,19 @@ loop-again : tie.Need-loop-again Inv-loop μ-loop
 loop-again c = search row-seeking
 
 pub find-row-spec : {M : Type 1} → statement M
-find-row-spec = tie.close (tie.spec Inv-loop μ-loop rows-here-requires loop-holds row-step-requires enum-told returns enum-known-k returns-2 returns-3 behind-requires loop-less loop-again)
+find-row-spec =
+    tie.close
+    (tie.spec
+    Inv-loop
+    μ-loop
+    rows-here-requires
+    loop-holds
+    row-step-requires
+    enum-told
+    returns
+    enum-known-k
+    returns-2
+    returns-3
+    behind-requires
+    loop-less
+    loop-again)
