@@ -102,7 +102,7 @@ Rewrites the name payload of a module in its canonical form: the same names in t
 Usage: wakemiono canon FILE [-o OUT] [--json]
 
 Without -o it prints how many bytes the payload has before and after, and what that saves; where the
-payload is canonical already, it says that nothing can be saved. A module without a name section has
+payload is canonical already, it says so. A module without a name section has
 an empty canonical payload.
 
   -o OUT   write the canonical payload to the file OUT, over what is there; - is standard output

@@ -212,7 +212,7 @@ fn canon_says_what_it_saves() {
 
 #[test]
 fn canon_says_that_nothing_can_be_saved() {
-    let already = "it is canonical already: nothing can be saved\n";
+    let already = "it is canonical already: the rewriting saves nothing\n";
     let saves_none =
         |length: usize| format!("before {length}\nafter {length}\nsaves 0 (0.0 %)\n{already}");
     fed(&["canon", "-"], MODULE).prints(&saves_none(21));

@@ -66,7 +66,7 @@ impl Saving {
     fn lines(&self) -> String {
         let tenths = self.tenths_of_a_percent();
         let already = match self.is_canonical {
-            Some(true) => "it is canonical already: nothing can be saved\n",
+            Some(true) => "it is canonical already: the rewriting saves nothing\n",
             Some(false) | None => "",
         };
         format!(
