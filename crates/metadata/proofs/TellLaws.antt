@@ -1,15 +1,16 @@
 -- Telling whether a payload of items is canonical: of one byte, and of others.
-use Prim.Native.Nat.{ℕ, _≤_}
+use Prim.Native.Nat.{ℕ}
 use mathlib.Core.Bool.{Bool}
 use mathlib.Core.List.{List, [], _∷_}
-use mathlib.Core.Path.{_≡_, refl, sym, ap, _∙_}
+use mathlib.Core.Path.{_≡_, sym, _∙_}
 use native.Mathlib.Omega.{arith}
 use borrow.Author.Needs.{needs}
 use lib.Dec.{eqb}
 use lib.ListN.{length, getD}
 use Rattle.format.specs.Bytes.{Bytes}
 use Rattle.format.specs.Tables.{table}
-use Rattle.format.specs.Telling.{itemsAreCanonical, told, toldEnd, isYes, partForm, tableForm}
+use Rattle.format.specs.Forms.{told, toldEnd, isYes, partForm, tableForm}
+use Rattle.format.specs.Telling.{itemsAreCanonical}
 use Rattle.format.specs.Laws.Codecs.{name-codec, any-codec, hint-codec}
 use Rattle.format.specs.Laws.TellingItems.{one-byte-told, lists-told}
 use Rattle.reading.specs.Cursors.{overAll}

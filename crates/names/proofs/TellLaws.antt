@@ -1,8 +1,8 @@
 -- Telling whether a payload is canonical: contents by their kind, and the loop over subsections.
-use Prim.Native.Nat.{ℕ, zero, suc, _+_, _-_, _≤_, _<_}
+use Prim.Native.Nat.{ℕ, suc, _+_, _-_, _≤_, _<_}
 use mathlib.Core.Bool.{Bool, true, false}
 use mathlib.Core.List.{List, [], _∷_}
-use mathlib.Core.Option.{Option, none, some}
+use mathlib.Core.Option.{none, some}
 use mathlib.Core.Path.{_≡_, refl, sym, ap, _∙_}
 use native.Mathlib.Numerals.{add-one}
 use native.Mathlib.Omega.{arith}
@@ -13,17 +13,17 @@ use lib.Dec.{leb}
 use lib.ListN.{length}
 use lib.Seq.{slice-cons, length-slice}
 use Rattle.format.specs.Bytes.{Bytes}
-use Rattle.format.specs.Reading.{got, stop, Reader, Outcome}
+use Rattle.format.specs.Reading.{got, stop}
 use Rattle.format.specs.Parts.{Part, sized, name}
 use Rattle.format.specs.Tables.{table}
-use Rattle.format.specs.Names.{Kind as AnyKind, oneName, nameMap, indirectMap, kept, contents, subsections, payload}
+use Rattle.format.specs.Names.{Kind as AnyKind, contents, subsections, payload}
 use Rattle.format.specs.Canonical.{writePart}
-use Rattle.format.specs.Telling.{asFew, namesAreCanonical, Told, behind, no, told, toldEnd, isYes, partForm, tableForm, contentForm, payloadForm}
+use Rattle.format.specs.Forms.{Told, behind, no, told, isYes, partForm, tableForm, contentForm, payloadForm}
+use Rattle.format.specs.Telling.{asFew, namesAreCanonical}
 use Rattle.format.specs.Laws.Outcomes.{not-got, got-value, got-next, got-rest, byTest, byOutcome, false-true, inTurn, passed}
 use Rattle.format.specs.Laws.Options.{not-some, some-is}
 use Rattle.format.specs.Laws.Telling.{inTold}
 use Rattle.format.specs.Laws.TellingNames.{one-name-told, map-told, indirect-told, kept-told, contents-end, payload-told-end, payload-told-low, payload-told-none, payload-told-padded, payload-told-no, payload-told-on, payload-told}
-use Rattle.format.specs.declared.Refusal.{Refusal}
 use Rattle.reading.specs.Cursors.{Inside, overAll, left, partOf, PartReads}
 use Rattle.reading.specs.declared.Cursor.{Cursor}
 use Rattle.reading.specs.declared.PartRead.{PartRead}
@@ -36,10 +36,10 @@ use Rattle.tables.specs.declared.telling.Tidy.{Tidy}
 use Rattle.tables.specs.declared.telling.Tidy.the-variants.{Behind, Not}
 use Rattle.tables.proofs.TidySteps.{no-part, part-refused, part-padded, part-tidy, at-end}
 use Rattle.names.specs.Contents.{kindMeant}
-use Rattle.names.specs.Frames.{Headed, frame, Forward, FrameReads, behindId}
+use Rattle.names.specs.Frames.{Headed, frame, FrameReads, behindId}
 use Rattle.names.specs.Telling.{TellsContent}
 use Rattle.names.specs.declared.frames.FrameRead.{FrameRead}
-use Rattle.names.specs.declared.frames.FrameRead.the-variants.{Frame, End, Refused as NoFrame}
+use Rattle.names.specs.declared.frames.FrameRead.the-variants.{Frame}
 use Rattle.names.specs.declared.kinds.Kind.{Kind}
 use Rattle.names.specs.declared.kinds.Kind.the-variants.{OneName, NameMap, IndirectMap, Kept}
 use Rattle.names.proofs.frames.FrameRead as frame-type

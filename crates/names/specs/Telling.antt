@@ -4,7 +4,7 @@ use mathlib.Core.Bool.{Bool}
 use mathlib.Core.List.{List}
 use mathlib.Core.Path.{_≡_}
 use Rattle.format.specs.Names.{Kind, contents}
-use Rattle.format.specs.Telling.{isYes, told, contentForm}
+use Rattle.format.specs.Forms.{isYes, told, contentForm}
 use Rattle.reading.specs.Cursors.{left}
 use Rattle.reading.specs.declared.Cursor.{Cursor}
 

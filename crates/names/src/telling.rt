@@ -2,7 +2,7 @@
 ghost use mathlib.Core.Path.{_≡_};
 ghost use Rattle.format.specs.Names.{knownKind, payload};
 ghost use Rattle.format.specs.Parts.{name};
-ghost use Rattle.format.specs.Telling.{isYes, told, partForm, payloadForm};
+ghost use Rattle.format.specs.Forms.{isYes, told, partForm, payloadForm};
 ghost use Rattle.reading.specs.Cursors.{Inside, left};
 ghost use Rattle.tables.specs.Telling.{Tells};
 ghost use Rattle.names.specs.Contents.{kindMeant};

@@ -1,8 +1,8 @@
 -- A program that tells the same of every payload, or of every payload that it accepts, or that overlooks what is padded or empty at one place: ruled out by tables of inputs, each with the answer that every result must be which meets the promise (K10).
 use Prim.Native.Nat.{ℕ}
-use mathlib.Core.Bool.{Bool, true, false}
+use mathlib.Core.Bool.{true, false}
 use mathlib.Core.List.{List, [], _∷_}
-use mathlib.Core.Path.{_≡_, refl}
+use mathlib.Core.Path.{refl}
 use Rattle.format.specs.Bytes.{same}
 use Rattle.format.specs.Examples.{digit, hex}
 use Rattle.format.specs.Numbers.{number, groups, shortest, fewest}
@@ -15,7 +15,6 @@ use Rattle.format.specs.Canonical.{writePart, writeRows, writeTable, unlessEmpt
 use Rattle.format.specs.Telling.{isItsRewriting, namesAreCanonical, itemsAreCanonical}
 use Rattle.names.specs.Promises.{names-is-canonical}
 use Rattle.metadata.specs.Promises.{metadata-is-canonical, metadata-are-hints-canonical}
-use Rattle.wakemiono.specs.Boundary.{wmYes}
 use Rattle.wakemiono.specs.Calls as call
 use Rattle.promises.specs.RuledOut.{Row, _demands_, Demanded, by-table}
 

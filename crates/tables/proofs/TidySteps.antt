@@ -1,5 +1,5 @@
 -- Telling whether lists are canonical, step by step: an item, a row, the rows one after the other, and a list.
-use Prim.Native.Nat.{ℕ, zero, suc, _+_, _-_, _≤_, _<_}
+use Prim.Native.Nat.{ℕ, suc, _+_, _-_, _≤_, _<_}
 use mathlib.Core.Bool.{Bool, true, false}
 use mathlib.Core.List.{List, []}
 use mathlib.Core.Option.{Option}
@@ -13,10 +13,10 @@ use lib.Dec.{leb, eqb}
 use lib.Seq.{slice-empty, slice-cons}
 use Rattle.format.specs.Reading.{got, stop, Reader}
 use Rattle.format.specs.Numbers.{number, shortest}
-use Rattle.format.specs.Parts.{Part, sized}
+use Rattle.format.specs.Parts.{sized}
 use Rattle.format.specs.Tables.{rows, table}
-use Rattle.format.specs.Metadata.{anyItem, hintItem}
-use Rattle.format.specs.Telling.{asFew, behind, no, told, toldEnd, isYes, partForm, rowsForm, tableForm}
+use Rattle.format.specs.Forms.{behind, no, told, toldEnd, isYes, partForm, rowsForm, tableForm}
+use Rattle.format.specs.Telling.{asFew}
 use Rattle.format.specs.Laws.Outcomes.{not-got, byTest, byOutcome}
 use Rattle.format.specs.Laws.Codecs.{name-codec, any-codec, hint-codec}
 use Rattle.format.specs.Laws.Telling.{Shorter, part-shorter, rows-told-end, rows-told-padded, rows-told-no, rows-told-on, table-shorter, table-told-none, table-told-empty, table-told-padded, table-told-rows}
@@ -30,7 +30,7 @@ use Rattle.reading.proofs.PartRead as part-type
 use Rattle.reading.specs.declared.PartRead.{PartRead}
 use Rattle.reading.specs.declared.PartRead.the-variants.{Part as APart, Refused as NoPart}
 use Rattle.reading.proofs.Laws.{number-means, number-tells, number-end, number-inside}
-use Rattle.tables.specs.Seeking.{readerOf, isItem, notItem}
+use Rattle.tables.specs.Seeking.{readerOf, isItem}
 use Rattle.tables.specs.Steps.{isShort, indexFrom, IndexReads}
 use Rattle.tables.specs.Telling.{Tells, isFilled, TellsRows, rowsAt, RowTells}
 use Rattle.tables.specs.declared.Item.{Item}
@@ -42,7 +42,7 @@ use Rattle.tables.proofs.telling.TidyRow as row-type
 use Rattle.tables.specs.declared.telling.TidyRow.{TidyRow}
 use Rattle.tables.specs.declared.telling.TidyRow.the-variants.{Row, Not as NoRow}
 use Rattle.tables.proofs.Hints.{value-short}
-use Rattle.tables.proofs.Laws.{item-means, item-behind}
+use Rattle.tables.proofs.Laws.{item-behind}
 use Rattle.tables.proofs.RowSteps.{value-refused, value-taken, value-not, part-inside, index-number, index-above, index-end, index-inside}
 
 -- what a case without its values is

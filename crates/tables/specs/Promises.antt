@@ -6,7 +6,7 @@ use mathlib.Core.Path.{_≡_}
 use Rattle.format.specs.Numbers.{number}
 use Rattle.format.specs.Parts.{sized}
 use Rattle.format.specs.Tables.{lookup, table}
-use Rattle.format.specs.Telling.{partForm, tableForm}
+use Rattle.format.specs.Forms.{partForm, tableForm}
 use Rattle.format.specs.declared.Answer.{Answer}
 use Rattle.reading.specs.Cursors.{PartReads}
 use Rattle.reading.specs.Standing.{Stands}

@@ -7,7 +7,7 @@ use mathlib.Core.Path.{_≡_}
 use lib.Dec.{eqb}
 use Rattle.format.specs.Reading.{Reader}
 use Rattle.format.specs.Tables.{rows}
-use Rattle.format.specs.Telling.{Told, behind, no, told, rowsForm}
+use Rattle.format.specs.Forms.{Told, behind, no, told, rowsForm}
 use Rattle.reading.specs.Cursors.{left}
 use Rattle.reading.specs.declared.Cursor.{Cursor}
 use Rattle.tables.specs.declared.telling.Tidy.{Tidy}

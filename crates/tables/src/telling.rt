@@ -1,6 +1,6 @@
 // Judges lists and tells, in the same pass, whether they stand as their canonical rewriting would: each number in its fewest bytes, and no list without rows. The first fault ends it, and is not told apart from padding.
 ghost use Rattle.format.specs.Tables.{table};
-ghost use Rattle.format.specs.Telling.{partForm, rowsForm, tableForm};
+ghost use Rattle.format.specs.Forms.{partForm, tableForm};
 ghost use Rattle.reading.specs.Cursors.{Inside};
 ghost use Rattle.tables.specs.Seeking.{readerOf};
 ghost use Rattle.tables.specs.Telling.{Tells, TellsRows, RowTells};

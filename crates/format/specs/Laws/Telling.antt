@@ -1,21 +1,22 @@
 -- What a reading is told to be, step by step: rows one after the other, and a list of them. A form is never longer than what was read, so the whole is as few bytes as can be exactly where each step is.
 use Prim.Native.Nat.{ℕ, zero, suc, _+_, _≤_, _<_}
-use mathlib.Core.Bool.{Bool, true, false, cond}
-use mathlib.Core.List.{List, [], _∷_, _++_}
+use mathlib.Core.Bool.{true, false}
+use mathlib.Core.List.{List, []}
 use mathlib.Core.Option.{Option, none, some}
 use mathlib.Core.Path.{_≡_, refl, sym, ap, _∙_}
 use native.Mathlib.Omega.{arith}
-use borrow.Author.Tests.{eqb-true, eqb-false, eq-eqb, le-leb, lt-leb, leb-true, leb-false}
-use lib.Dec.{eqb, leb}
+use borrow.Author.Tests.{eqb-true, eqb-false, le-leb, lt-leb}
+use lib.Dec.{leb}
 use lib.ListN.{length, length-append}
-use Rattle.format.specs.Reading.{Outcome, got, stop, Reader, andThen, return}
+use Rattle.format.specs.Reading.{Outcome, got, stop, Reader}
 use Rattle.format.specs.Numbers.{number, shortest}
 use Rattle.format.specs.Parts.{Part}
 use Rattle.format.specs.Options.{mapSome}
 use Rattle.format.specs.Tables.{Table, nil, row, size, rows, table}
 use Rattle.format.specs.Canonical.{writePart, writeRows, writeTable, unlessEmpty, keepRows}
-use Rattle.format.specs.Telling.{asFew, Told, behind, no, toldBy, told, partForm, rowsForm, tableForm}
-use Rattle.format.specs.Laws.Outcomes.{not-got, got-value, got-next, got-rest, byTest, byOutcome, false-true, inTurn}
+use Rattle.format.specs.Forms.{behind, no, toldBy, told, partForm, rowsForm, tableForm}
+use Rattle.format.specs.Telling.{asFew}
+use Rattle.format.specs.Laws.Outcomes.{got-value, got-rest, byTest, byOutcome}
 use Rattle.format.specs.Laws.Options.{not-some, some-is, byOption}
 use Rattle.format.specs.Laws.Numbers.{shortest-mono, shortest-positive}
 use Rattle.format.specs.Laws.Padding.{as-few, not-as-few}

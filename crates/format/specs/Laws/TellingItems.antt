@@ -1,8 +1,7 @@
 -- What a metadata payload is told to be, over any item.
-use Prim.Native.Nat.{ℕ, zero, suc, _+_, _≤_, _<_}
-use mathlib.Core.Bool.{Bool, true, false}
+use Prim.Native.Nat.{ℕ, zero, suc, _+_}
+use mathlib.Core.Bool.{false}
 use mathlib.Core.List.{List, [], _∷_}
-use mathlib.Core.Option.{none, some}
 use mathlib.Core.Path.{_≡_, refl, sym, ap, _∙_}
 use native.Mathlib.Omega.{arith}
 use borrow.Author.Tests.{eqb-true, eqb-false, ne-eqb}
@@ -16,7 +15,8 @@ use Rattle.format.specs.Parts.{Part}
 use Rattle.format.specs.Tables.{Table, nil, row, size, mapTable, rows, table}
 use Rattle.format.specs.Metadata.{metadata, judgeMetadata}
 use Rattle.format.specs.Canonical.{writePart, writeRows, writeTable, unlessEmpty, keepRows, bareItems, rewriteMetadata, canonicalOf}
-use Rattle.format.specs.Telling.{asFew, isItsRewriting, itemsAreCanonical, no, toldBy, told, toldEnd, isYes, partForm, tableForm}
+use Rattle.format.specs.Forms.{toldBy, told, toldEnd, isYes, partForm, tableForm}
+use Rattle.format.specs.Telling.{asFew, isItsRewriting, itemsAreCanonical}
 use Rattle.format.specs.Laws.Bytes.{same-true, same-self}
 use Rattle.format.specs.Laws.Outcomes.{byTest, byOutcome}
 use Rattle.format.specs.Laws.Codecs.{Codec}

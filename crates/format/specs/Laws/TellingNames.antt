@@ -1,24 +1,25 @@
 -- What a name payload is told to be: the forms of its contents, subsection by subsection, and the whole.
 use Prim.Native.Nat.{ℕ, zero, suc, _+_, _≤_, _<_}
-use mathlib.Core.Bool.{Bool, true, false, cond}
+use mathlib.Core.Bool.{true, false}
 use mathlib.Core.List.{List, [], _∷_, _++_}
 use mathlib.Core.Option.{Option, none, some}
 use mathlib.Core.Path.{_≡_, refl, sym, ap, ap₂, _∙_}
 use native.Mathlib.Omega.{arith}
 use borrow.Author.Tests.{eqb-true, eqb-false, le-leb, lt-leb}
-use lib.Dec.{eqb, leb}
+use lib.Dec.{leb}
 use lib.ListN.{length, length-append}
 use Rattle.format.specs.Bytes.{Bytes, same}
-use Rattle.format.specs.Reading.{Outcome, got, stop, andThen, return, atEnd, judge}
+use Rattle.format.specs.Reading.{Outcome, got, stop, andThen, return, atEnd}
 use Rattle.format.specs.Numbers.{shortest}
 use Rattle.format.specs.Options.{mapSome, thenSome}
 use Rattle.format.specs.Parts.{Part, sized, name, remaining}
 use Rattle.format.specs.Tables.{Table, nil, row, size, mapTable, table}
-use Rattle.format.specs.Names.{Kind, oneName, nameMap, indirectMap, kept, Content, single, names, namesBy, whole, contents, subsections, payload, judgeNames}
+use Rattle.format.specs.Names.{Kind, oneName, nameMap, indirectMap, kept, Content, single, names, namesBy, contents, subsections, payload, judgeNames}
 use Rattle.format.specs.Canonical.{writePart, writeRows, writeTable, unlessEmpty, keepRows, trim, bare, writeContent, writeSubsections, rewriteNames, canonicalNames}
-use Rattle.format.specs.Telling.{asFew, isItsRewriting, namesAreCanonical, Told, behind, no, toldBy, told, toldEnd, isYes, partForm, tableForm, contentForm, payloadForm}
+use Rattle.format.specs.Forms.{behind, no, toldBy, told, toldEnd, isYes, partForm, tableForm, contentForm, payloadForm}
+use Rattle.format.specs.Telling.{asFew, isItsRewriting, namesAreCanonical}
 use Rattle.format.specs.Laws.Bytes.{same-true, same-self}
-use Rattle.format.specs.Laws.Outcomes.{not-got, got-value, got-rest, byTest, byOutcome, inTurn, ended}
+use Rattle.format.specs.Laws.Outcomes.{not-got, got-rest, byTest, byOutcome, inTurn}
 use Rattle.format.specs.Laws.Options.{not-some, some-is, byOption}
 use Rattle.format.specs.Laws.Numbers.{shortest-mono}
 use Rattle.format.specs.Laws.Codecs.{sized-codec, writePart-mono}
@@ -26,7 +27,7 @@ use Rattle.format.specs.Laws.Names.{contents-sound, subsections-sound, p
 use Rattle.format.specs.Laws.Trimming.{trim-shorter}
 use Rattle.format.specs.Laws.CanonicalNames.{subsections-shorter}
 use Rattle.format.specs.Laws.Unchanged.{payload-tight}
-use Rattle.format.specs.Laws.Telling.{not-behind, behind-rest, told-few, told-more, told-none, inTold, byNo}
+use Rattle.format.specs.Laws.Telling.{told-few, told-more, inTold, byNo}
 
 -- The forms of tables are the canonical writings: what is left of each row, written in its place
 module _ {A : Type 0} (f : A → List ℕ) where

@@ -14,7 +14,7 @@ use Rattle.format.specs.Outputs.{writeAnswer, outputAfter}
 use Rattle.format.specs.Telling.{isItsRewriting}
 use Rattle.format.specs.Laws.Bytes.{same-true, same-self}
 use Rattle.format.specs.Laws.Codecs.{number-sound}
-use Rattle.format.specs.Laws.Outcomes.{byTest, accepted-is, not-accepted}
+use Rattle.format.specs.Laws.Outcomes.{accepted-is, not-accepted}
 use Rattle.format.specs.Laws.Padding.{as-few}
 use Rattle.reading.specs.Cursors.{Inside, left}
 use Rattle.reading.specs.Promises.{reading-number}

@@ -1,5 +1,5 @@
 use Rattle.format.specs.Tables.{table}
-use Rattle.format.specs.Telling.{partForm, tableForm}
+use Rattle.format.specs.Forms.{partForm, tableForm}
 use Rattle.tables.specs.Seeking.{readerOf}
 use Rattle.tables.proofs.TidySteps.{Turn, tidy-turns}
 use Rattle.tables.proofs.telling.tidy_groups.Statement.{statement}

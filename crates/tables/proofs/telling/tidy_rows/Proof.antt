@@ -1,4 +1,4 @@
-use Rattle.format.specs.Telling.{partForm}
+use Rattle.format.specs.Forms.{partForm}
 use Rattle.tables.specs.Seeking.{readerOf}
 use Rattle.tables.proofs.TidySteps.{Turn, tidy-turns}
 use Rattle.tables.proofs.telling.tidy_rows.Statement.{statement}
