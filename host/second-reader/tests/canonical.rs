@@ -6,31 +6,36 @@ mod support;
 use second_reader::*;
 use support::*;
 
-/// What accepted name payloads say, so that a no is never for a refusal.
-fn names_say(expected: bool, payloads: &[&[u8]]) {
+/// What accepted payloads say, so that a no is never for a refusal: `told` judges and tells one.
+#[track_caller]
+fn all_say(expected: bool, payloads: &[&[u8]], told: fn(&[u8]) -> (Answer, bool)) {
     for payload in payloads {
-        let length = payload.len() as u64;
-        assert_eq!(names_judge(payload), found(0, length), "{payload:02X?}");
-        assert_eq!(names_is_canonical(payload), expected, "{payload:02X?}");
+        let accepted = found(0, payload.len() as u64);
+        assert_eq!(told(payload), (accepted, expected), "{payload:02X?}");
     }
 }
 
+#[track_caller]
+fn names_say(expected: bool, payloads: &[&[u8]]) {
+    all_say(expected, payloads, |p| {
+        (names_judge(p), names_is_canonical(p))
+    });
+}
+
+#[track_caller]
 fn metadata_says(expected: bool, payloads: &[&[u8]]) {
-    for payload in payloads {
-        let length = payload.len() as u64;
-        assert_eq!(metadata_judge(payload), found(0, length), "{payload:02X?}");
-        assert_eq!(metadata_is_canonical(payload), expected, "{payload:02X?}");
-    }
+    all_say(expected, payloads, |p| {
+        (metadata_judge(p), metadata_is_canonical(p))
+    });
 }
 
 /// What hints say, which are metadata as well.
+#[track_caller]
 fn hints_say(expected: bool, payloads: &[&[u8]]) {
     metadata_says(expected, payloads);
-    for payload in payloads {
-        let length = payload.len() as u64;
-        assert_eq!(hints_judge(payload), found(0, length), "{payload:02X?}");
-        assert_eq!(hints_is_canonical(payload), expected, "{payload:02X?}");
-    }
+    all_say(expected, payloads, |p| {
+        (hints_judge(p), hints_is_canonical(p))
+    });
 }
 
 #[test]

@@ -3,7 +3,7 @@
 mod common;
 
 use common::P;
-use wakemiono::{function_names, FunctionIndex, Hints, Metadata, NamePayload};
+use wakemiono::{function_names, FunctionIndex, Hints, Metadata, NamePayload, Refusal};
 
 /// A payload as text, two digits for each byte.
 fn bytes(hex: &str) -> Vec<u8> {
@@ -11,37 +11,38 @@ fn bytes(hex: &str) -> Vec<u8> {
     hex.split_whitespace().map(byte).collect()
 }
 
-/// What accepted name payloads say, so that a no is never for a refusal.
+/// What accepted payloads say, so that a no is never for a refusal: `told` judges and tells one.
 #[track_caller]
-fn names_say(expected: bool, rows: &[&str]) {
+fn all_say(expected: bool, rows: &[&str], told: fn(&[u8]) -> (Result<(), Refusal>, bool)) {
     for row in rows {
-        let payload = bytes(row);
-        let payload = NamePayload::new(&payload);
-        assert_eq!(payload.judge(), Ok(()), "{row}");
-        assert_eq!(payload.is_canonical(), expected, "{row}");
+        assert_eq!(told(&bytes(row)), (Ok(()), expected), "{row}");
     }
 }
 
 #[track_caller]
+fn names_say(expected: bool, rows: &[&str]) {
+    all_say(expected, rows, |payload| {
+        let names = NamePayload::new(payload);
+        (names.judge(), names.is_canonical())
+    });
+}
+
+#[track_caller]
 fn metadata_says(expected: bool, rows: &[&str]) {
-    for row in rows {
-        let payload = bytes(row);
-        let payload = Metadata::new(&payload);
-        assert_eq!(payload.judge(), Ok(()), "{row}");
-        assert_eq!(payload.is_canonical(), expected, "{row}");
-    }
+    all_say(expected, rows, |payload| {
+        let metadata = Metadata::new(payload);
+        (metadata.judge(), metadata.is_canonical())
+    });
 }
 
 /// What hints say, which are metadata as well.
 #[track_caller]
 fn hints_say(expected: bool, rows: &[&str]) {
     metadata_says(expected, rows);
-    for row in rows {
-        let payload = bytes(row);
-        let payload = Hints::new(&payload);
-        assert_eq!(payload.judge(), Ok(()), "{row}");
-        assert_eq!(payload.is_canonical(), expected, "{row}");
-    }
+    all_say(expected, rows, |payload| {
+        let hints = Hints::new(payload);
+        (hints.judge(), hints.is_canonical())
+    });
 }
 
 #[test]
