@@ -12,10 +12,10 @@ use Rattle.format.specs.Text.{utf8, characters, character, completes}
 use Rattle.format.specs.Parts.{sized, name, remaining}
 use Rattle.format.specs.Tables.{lookup, size, mapTable, rows, table}
 use Rattle.format.specs.Walk.{Section, preamble, begins, greatestId, isCustom, isCode, isData, rank, custom, isCalled, nameSection, hintSection, nothing, seeing, idRules, nameRules, section, sections, framing, walk, sectionCount, sectionAt, payloadOf, payloadIn, customPayload}
-use Rattle.format.specs.Names.{known, knownKind, contents, subsections, payload, judgeNames}
+use Rattle.format.specs.Names.{known, knownKind, wider, widerKind, contents, subsections, payload, judgeNames}
 use Rattle.format.specs.Questions.{answer, asked, idOf, queryOf, askAt, ask}
 use Rattle.format.specs.declared.Question.{Question}
-use Rattle.format.specs.declared.Question.the-variants.{ModuleName, TagName, KeptContents}
+use Rattle.format.specs.declared.Question.the-variants.{ModuleName, LabelName, TypeName, TableName, MemoryName, GlobalName, ElementName, DataName, FieldName, TagName, KeptContents}
 use Rattle.format.specs.Metadata.{hintOf, anyItem, hintItem, metadata, judgeMetadata, itemAt, askMetadata, hintIn, askHint}
 use Rattle.format.specs.Canonical.{writePart, writeRows, writeTable, unlessEmpty, keepRows, bare, writeContent, writeSubsections, rewriteNames, canonicalNames, rewriteMetadata, canonicalOf, canonicalMetadata, canonicalHints}
 use Rattle.format.specs.Telling.{asFew, isItsRewriting, namesAreCanonical, itemsAreCanonical}
@@ -23,7 +23,7 @@ use Rattle.format.specs.Outputs.{fitting, writeAnswer, outputAfter}
 use Rattle.format.specs.Lists.{sum, listed, unsortedAt, badTextAt, subsection, functionNames}
 use Rattle.format.specs.Through.{through, askThrough, metadataSection, itemOf, askMetadataThrough, askHintThrough}
 use Rattle.format.specs.Listing.{digits, decimal, piece, line, sectionLines, payloadLine, printed, greatestInput, listing}
-use Rattle.format.specs.Examples.{digit, hex, Result, value, isNone, isLikely, isUnlikely, found, bytes, refusal, ofOutcome, of, place, likelihood, numberIs, namesAre, answerIs, canonicalIs, hintIs, function, localIn, P, Example, _gives_, computed, stated}
+use Rattle.format.specs.Examples.{digit, hex, Result, isAccepted, value, isNone, isLikely, isUnlikely, found, bytes, refusal, ofOutcome, of, place, likelihood, numberIs, namesAre, answerIs, canonicalIs, hintIs, function, localIn, P, Example, _gives_, computed, stated}
 
 nameIs : String → Result
 nameIs s = ofOutcome (λ p _. place (some p)) (name 0 (hex s))
@@ -317,6 +317,93 @@ tellings =
 pub tellings-hold : map computed tellings ≡ map stated tellings
 unfolding tellings computed stated yesNo yes not numberTold namesTold metadataTold hintsTold P hex digit ofOutcome same number groups shortest fewest utf8 characters character completes sized name remaining lookup size mapTable rows table known knownKind contents subsections payload judgeNames hintOf anyItem hintItem metadata judgeMetadata writePart writeRows writeTable unlessEmpty keepRows bare writeContent writeSubsections rewriteNames canonicalNames rewriteMetadata canonicalOf isItsRewriting namesAreCanonical itemsAreCanonical
 tellings-hold = refl
+
+-- K9: the wider edition, and beside it the first
+wideAre : String → Result
+wideAre s = of (λ _. isAccepted) (judgeNames widerKind 0 (hex s))
+
+wideIs : Question → String → Result
+wideIs q s = of place (ask widerKind q (hex s))
+
+wideCanonicalIs : String → Result
+wideCanonicalIs s = of bytes (canonicalNames widerKind (hex s))
+
+wideTold : String → Result
+wideTold s = yesNo (namesAreCanonical widerKind (hex s))
+
+label : (function label : ℕ) → Question
+label f k = LabelName (record { 0 = f }) (record { 0 = k })
+
+global : ℕ → Question
+global k = GlobalName (record { 0 = k })
+
+dataSegment : ℕ → Question
+dataSegment k = DataName (record { 0 = k })
+
+-- a name under each of the twelve ids, and id 12
+twelve : String
+twelve = "00 02 01 6D 01 04 01 00 01 66 02 06 01 00 01 00 01 6C 03 06 01 00 01 02 01 62 04 04 01 01 01 74 05 04 01 00 01 54 06 04 01 00 01 4D 07 04 01 07 01 67 08 04 01 01 01 65 09 04 01 02 01 64 0A 06 01 01 01 03 01 78 0B 04 01 00 01 65 0C 01 FF"
+
+pub editions : List Example
+editions =
+    -- the six questions, by index; none where the index has no name
+    wideAre twelve gives isAccepted ∷
+    wideIs (label 0 2) twelve gives found 25 1 ∷
+    wideIs (label 0 3) twelve gives isNone ∷
+    wideIs (label 1 2) twelve gives isNone ∷
+    wideIs (TableName (record { 0 = 0 })) twelve gives found 37 1 ∷
+    wideIs (MemoryName (record { 0 = 0 })) twelve gives found 43 1 ∷
+    wideIs (global 7) twelve gives found 49 1 ∷
+    wideIs (global 0) twelve gives isNone ∷
+    wideIs (ElementName (record { 0 = 1 })) twelve gives found 55 1 ∷
+    wideIs (dataSegment 2) twelve gives found 61 1 ∷
+    -- the others as in the first edition
+    wideIs ModuleName twelve gives found 3 1 ∷
+    wideIs (function 0) twelve gives found 9 1 ∷
+    wideIs (localIn 0 0) twelve gives found 17 1 ∷
+    wideIs (TypeName (record { 0 = 1 })) twelve gives found 31 1 ∷
+    wideIs (FieldName (record { 0 = 1 }) (record { 0 = 3 })) twelve gives found 69 1 ∷
+    wideIs (tag 0) twelve gives found 75 1 ∷
+    -- as kept the twelve are none, and the next is not; the first edition keeps six of them
+    wideIs (KeptContents 0) twelve gives isNone ∷
+    wideIs (KeptContents 3) twelve gives isNone ∷
+    wideIs (KeptContents 7) twelve gives isNone ∷
+    wideIs (KeptContents 9) twelve gives isNone ∷
+    wideIs (KeptContents 12) twelve gives found 78 1 ∷
+    answerIs (KeptContents 3) twelve gives found 20 6 ∷
+    answerIs (KeptContents 7) twelve gives found 46 4 ∷
+    answerIs (global 7) twelve gives isNone ∷
+    -- an empty map of id 7 is dropped by the one and kept by the other
+    wideCanonicalIs "07 01 00" gives bytes [] ∷
+    canonicalIs "07 01 00" gives bytes (hex "07 01 00") ∷
+    wideTold "07 01 00" gives not ∷
+    namesTold "07 01 00" gives yes ∷
+    -- and so are padding, a group without labels, an empty map of groups
+    wideCanonicalIs "09 86 00 01 80 00 81 00 64" gives bytes (hex "09 04 01 00 01 64") ∷
+    wideCanonicalIs "03 08 02 00 00 03 01 00 01 62" gives bytes (hex "03 06 01 03 01 00 01 62") ∷
+    wideCanonicalIs "03 01 00" gives bytes [] ∷
+    wideTold twelve gives yes ∷
+    wideCanonicalIs twelve gives bytes (hex twelve) ∷
+    -- an empty name is found
+    wideIs (global 0) "07 03 01 00 00" gives found 5 0 ∷
+    -- where both refuse, number and place may differ; what the wider edition refuses the first may keep
+    namesAre "07 01 FF 07 00" gives refusal 9 3 ∷
+    wideAre "07 01 FF 07 00" gives refusal 2 2 ∷
+    namesAre "07 01 FF" gives isAccepted ∷
+    -- refusals as for the known ids: past its part, a number too large, no text, left over, not above
+    wideAre "05 01 01" gives refusal 2 3 ∷
+    wideAre "06 06 01 80 80 80 80 10" gives refusal 3 3 ∷
+    wideAre "08 04 01 00 01 FF" gives refusal 4 5 ∷
+    wideAre "09 02 00 00" gives refusal 10 3 ∷
+    wideAre "07 07 02 03 01 62 03 01 61" gives refusal 11 6 ∷
+    wideAre "03 05 02 01 00 01 00" gives refusal 11 5 ∷
+    -- labels are no plain map
+    wideAre "03 04 01 00 01 62" gives refusal 2 6 ∷
+    []
+
+pub editions-hold : map computed editions ≡ map stated editions
+unfolding editions computed stated yesNo yes not wideAre wideIs wideCanonicalIs wideTold namesAre answerIs canonicalIs namesTold label global dataSegment twelve tag function localIn hex digit of place same number groups shortest fewest utf8 characters character completes sized name remaining lookup size mapTable rows table known knownKind wider widerKind contents subsections payload judgeNames answer asked askAt ask writePart writeRows writeTable unlessEmpty keepRows bare writeContent writeSubsections rewriteNames canonicalNames isItsRewriting namesAreCanonical
+editions-hold = refl
 
 -- The listing
 pub listings : List Example

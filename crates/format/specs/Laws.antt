@@ -25,6 +25,7 @@ pub mod Places
 pub mod Found
 pub mod Holding
 pub mod Lists
+pub mod Editions
 pub mod Questions
 pub mod Walk
 pub mod Listing

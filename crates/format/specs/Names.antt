@@ -7,6 +7,8 @@ use lib.ListN.{length}
 use Rattle.format.specs.Reading.{got, Reader, _>>=_, _>>_, return, checked, filling, Judged, judge}
 use Rattle.format.specs.Parts.{Part, sized, name, remaining, inside}
 use Rattle.format.specs.Tables.{Table, nil, row, lookup, table}
+use Rattle.format.specs.declared.Edition.{Edition}
+use Rattle.format.specs.declared.Edition.the-variants.{First, Wider}
 use Rattle.format.specs.declared.Reason.the-variants.{SubsectionOrder}
 
 -- what a subsection can hold: one name, a name map, an indirect name map, or contents that are not looked into
@@ -29,6 +31,30 @@ orKept (some k) = k
 
 unfoldable pub knownKind : ℕ → Kind
 knownKind id = orKept (lookup id known)
+
+-- K9. "Ids 3 labels (indirect, by function), 5 tables, 6 memories, 7 globals, 8 element segments, 9 data segments (name maps). We want it as a second edition, the caller choosing, the first unchanged"
+unfoldable pub wider : Table Kind
+wider =
+    row 0 oneName
+    (row 1 nameMap
+    (row 2 indirectMap
+    (row 3 indirectMap
+    (row 4 nameMap
+    (row 5 nameMap
+    (row 6 nameMap
+    (row 7 nameMap
+    (row 8 nameMap
+    (row 9 nameMap
+    (row 10 indirectMap
+    (row 11 nameMap nil)))))))))))
+
+unfoldable pub widerKind : ℕ → Kind
+widerKind id = orKept (lookup id wider)
+
+-- the table of ids of an edition
+abbrev pub kindIn : Edition → ℕ → Kind
+kindIn First = knownKind
+kindIn Wider = widerKind
 
 -- what was found there, its texts as parts of what was lent or as bare bytes
 pub data Content (X : Type 0) : Type 0 where

@@ -14,7 +14,7 @@ use Rattle.format.specs.declared.Answer.{Answer}
 use Rattle.format.specs.declared.Answer.the-variants.{None, Found, Refused}
 use Rattle.format.specs.declared.Place.{Place}
 use Rattle.format.specs.declared.Question.{Question}
-use Rattle.format.specs.declared.Question.the-variants.{ModuleName, FunctionName, LocalName, TypeName, FieldName, TagName, KeptContents}
+use Rattle.format.specs.declared.Question.the-variants.{ModuleName, FunctionName, LocalName, LabelName, TypeName, TableName, MemoryName, GlobalName, ElementName, DataName, FieldName, TagName, KeptContents}
 use Rattle.format.specs.declared.Query.{Query}
 use Rattle.format.specs.declared.Query.the-variants.{ItsName, NameOf, NameWithin, ItsContents}
 
@@ -58,7 +58,13 @@ abbrev pub idOf : Question → ℕ
 idOf ModuleName = 0
 idOf (FunctionName k) = 1
 idOf (LocalName k j) = 2
+idOf (LabelName k j) = 3
 idOf (TypeName k) = 4
+idOf (TableName k) = 5
+idOf (MemoryName k) = 6
+idOf (GlobalName k) = 7
+idOf (ElementName k) = 8
+idOf (DataName k) = 9
 idOf (FieldName k j) = 10
 idOf (TagName k) = 11
 idOf (KeptContents id) = id
@@ -67,20 +73,20 @@ abbrev pub queryOf : Question → Query
 queryOf ModuleName = ItsName
 queryOf (FunctionName k) = NameOf (k .0)
 queryOf (LocalName k j) = NameWithin (k .0) (j .0)
+queryOf (LabelName k j) = NameWithin (k .0) (j .0)
 queryOf (TypeName k) = NameOf (k .0)
+queryOf (TableName k) = NameOf (k .0)
+queryOf (MemoryName k) = NameOf (k .0)
+queryOf (GlobalName k) = NameOf (k .0)
+queryOf (ElementName k) = NameOf (k .0)
+queryOf (DataName k) = NameOf (k .0)
 queryOf (FieldName k j) = NameWithin (k .0) (j .0)
 queryOf (TagName k) = NameOf (k .0)
 queryOf (KeptContents id) = ItsContents
 
--- an index has 32 bits, an id is a byte
-unfoldable pub InRange : Question → Type 0
-InRange ModuleName = Unit {0}
-InRange (FunctionName k) = k .0 < limit32
-InRange (LocalName k j) = (k .0 < limit32) × (j .0 < limit32)
-InRange (TypeName k) = k .0 < limit32
-InRange (FieldName k j) = (k .0 < limit32) × (j .0 < limit32)
-InRange (TagName k) = k .0 < limit32
-InRange (KeptContents id) = id < 256
+-- a question that a table of ids allows: an edition has no other
+abbrev pub AllowedBy : (ℕ → Kind) → Question → Type 0
+AllowedBy kindOf q = Allowed kindOf (idOf q) (queryOf q)
 
 -- asked over a table of ids, of a payload that begins at an offset of what was lent
 unfoldable pub askAt : (ℕ → Kind) → Question → ℕ → List ℕ → Judged (Option Part)

@@ -11,8 +11,9 @@ use Rattle.format.specs.Reading.{got, Reader, Judged, accepted, refused,
 use Rattle.format.specs.Numbers.{number, shortest, limit32}
 use Rattle.format.specs.Parts.{Part}
 use Rattle.format.specs.Tables.{mapTable}
-use Rattle.format.specs.Names.{Kind, nameMap, knownKind, judgeNames}
-use Rattle.format.specs.Questions.{answer, Allowed, asked, idOf, queryOf, InRange, askAt, ask, asTold}
+use Rattle.format.specs.Names.{Kind, nameMap, kindIn, judgeNames}
+use Rattle.format.specs.declared.Edition.{Edition}
+use Rattle.format.specs.Questions.{answer, Allowed, asked, idOf, queryOf, AllowedBy, askAt, ask, asTold}
 use Rattle.format.specs.declared.Question.{Question}
 use Rattle.format.specs.declared.Question.the-variants.{FunctionName}
 use Rattle.format.specs.declared.Query.{Query}
@@ -30,7 +31,7 @@ use Rattle.format.specs.Laws.Places.{PartIn, Located, any-located, hint-
 use Rattle.format.specs.Laws.Found.{name-lies, item-lies, name-lies-through, item-lies-through, through-map}
 use Rattle.format.specs.Laws.Holding.{none-exactly, within-exactly, answer-exactly}
 use Rattle.format.specs.Laws.Answers.{told-none}
-use Rattle.format.specs.Laws.Questions.{AllPosed, allowed-posed, posed-told}
+use Rattle.format.specs.Laws.Questions.{AllPosed, all-posed, posed-told}
 use Rattle.format.specs.Laws.CanonicalNames.{told-is, canonical-is, canonical-accepted, canonical-stays, rewriting-canonical, rewriting-told, rewriting-shorter, same-answers, same-rewriting}
 use Rattle.format.specs.Laws.CanonicalMetadata.{items-whole, item-told, items-canonical-is, items-accepted, items-told, items-again, items-shorter, same-items}
 use Rattle.format.specs.Laws.Hints.{hint-exactly, no-hint-exactly, same-hints, hints-told}
@@ -152,12 +153,12 @@ module _ (kindOf : ℕ → Kind) where
     refuses = λ q p n at. names-answered .refuses (idOf q, queryOf q) p n at;
   }
 
-  pub questions-rewritten : AllPosed kindOf → Rewrites (judgeNames kindOf 0) (canonicalNames kindOf) (λ q p. asTold (ask kindOf q p)) InRange
+  pub questions-rewritten : AllPosed kindOf → Rewrites (judgeNames kindOf 0) (canonicalNames kindOf) (λ q p. asTold (ask kindOf q p)) (AllowedBy kindOf)
   unfolding ask askAt
   questions-rewritten posed = record {
     same-exactly = λ {x} {y} bx by a b. (
       λ e q l. same-answers kindOf a b e (idOf q) (queryOf q),
-      λ k. names-rewritten .same-exactly bx by a b .1 (λ q l. posed-told kindOf (posed (q .0) (q .1) l) x y k),
+      λ k. names-rewritten .same-exactly bx by a b .1 (λ q l. posed-told kindOf (posed (q .0) (q .1) l) l x y k),
     );
     accepts = λ a. names-rewritten .accepts a;
     rewritten = λ a x e. let r = names-rewritten .rewritten a x e in record {
@@ -168,12 +169,9 @@ module _ (kindOf : ℕ → Kind) where
     };
   }
 
--- the document's own table
-pub known-answered : Answers (judgeNames knownKind 0) (ask knownKind) (λ t q x. Holds (idOf q) (queryOf q) (mapTable bare t) x)
-known-answered = questions-answered knownKind
-
-pub known-rewritten : Rewrites (judgeNames knownKind 0) (canonicalNames knownKind) (λ q p. asTold (ask knownKind q p)) InRange
-known-rewritten = questions-rewritten knownKind allowed-posed
+-- of an edition
+pub edition-rewritten : (edition : Edition) → Rewrites (judgeNames (kindIn edition) 0) (canonicalNames (kindIn edition)) (λ q p. asTold (ask (kindIn edition) q p)) (AllowedBy (kindIn edition))
+edition-rewritten edition = questions-rewritten (kindIn edition) (all-posed edition)
 
 -- Code metadata, over any item; what is asked is a function and an offset
 abbrev pub ItemQuestion : Type 0

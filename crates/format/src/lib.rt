@@ -15,15 +15,40 @@ pub struct FieldIndex(pub u32);
 
 pub struct TagIndex(pub u32);
 
+// K9: the index spaces that the wider edition names as well. A label is counted within its function.
+pub struct LabelIndex(pub u32);
+
+pub struct TableIndex(pub u32);
+
+pub struct MemoryIndex(pub u32);
+
+pub struct GlobalIndex(pub u32);
+
+pub struct ElementIndex(pub u32);
+
+pub struct DataIndex(pub u32);
+
 // Where in a function a piece of code metadata belongs: a byte offset within that function.
 pub struct CodeOffset(pub u32);
+
+// By which table of ids a name payload is read: the specification's, or the extended name section's as well (K9).
+pub enum Edition {
+    First,
+    Wider,
+}
 
 // The questions to a name payload, each index in a space of its own.
 pub enum Question {
     ModuleName,
     FunctionName(FunctionIndex),
     LocalName(FunctionIndex, LocalIndex),
+    LabelName(FunctionIndex, LabelIndex),
     TypeName(TypeIndex),
+    TableName(TableIndex),
+    MemoryName(MemoryIndex),
+    GlobalName(GlobalIndex),
+    ElementName(ElementIndex),
+    DataName(DataIndex),
     FieldName(TypeIndex, FieldIndex),
     TagName(TagIndex),
     KeptContents(u8),
@@ -38,14 +63,26 @@ pub enum Query {
     ItsContents,
 }
 
-// The ids of the name payload's subsections that have a meaning.
+// The ids of the name payload's subsections that have a meaning, 3 and 5 to 9 in the wider edition alone.
 pub const MODULE_NAME: u8 = 0;
 
 pub const FUNCTION_NAMES: u8 = 1;
 
 pub const LOCAL_NAMES: u8 = 2;
 
+pub const LABEL_NAMES: u8 = 3;
+
 pub const TYPE_NAMES: u8 = 4;
+
+pub const TABLE_NAMES: u8 = 5;
+
+pub const MEMORY_NAMES: u8 = 6;
+
+pub const GLOBAL_NAMES: u8 = 7;
+
+pub const ELEMENT_NAMES: u8 = 8;
+
+pub const DATA_NAMES: u8 = 9;
 
 pub const FIELD_NAMES: u8 = 10;
 
@@ -162,7 +199,13 @@ impl Question {
             Question::ModuleName => MODULE_NAME,
             Question::FunctionName(_) => FUNCTION_NAMES,
             Question::LocalName(_, _) => LOCAL_NAMES,
+            Question::LabelName(_, _) => LABEL_NAMES,
             Question::TypeName(_) => TYPE_NAMES,
+            Question::TableName(_) => TABLE_NAMES,
+            Question::MemoryName(_) => MEMORY_NAMES,
+            Question::GlobalName(_) => GLOBAL_NAMES,
+            Question::ElementName(_) => ELEMENT_NAMES,
+            Question::DataName(_) => DATA_NAMES,
             Question::FieldName(_, _) => FIELD_NAMES,
             Question::TagName(_) => TAG_NAMES,
             Question::KeptContents(id) => id,
@@ -177,7 +220,13 @@ impl Question {
             Question::ModuleName => Query::ItsName,
             Question::FunctionName(f) => Query::NameOf(f.0),
             Question::LocalName(f, k) => Query::NameWithin(f.0, k.0),
+            Question::LabelName(f, k) => Query::NameWithin(f.0, k.0),
             Question::TypeName(t) => Query::NameOf(t.0),
+            Question::TableName(t) => Query::NameOf(t.0),
+            Question::MemoryName(m) => Query::NameOf(m.0),
+            Question::GlobalName(g) => Query::NameOf(g.0),
+            Question::ElementName(e) => Query::NameOf(e.0),
+            Question::DataName(d) => Query::NameOf(d.0),
             Question::FieldName(t, k) => Query::NameWithin(t.0, k.0),
             Question::TagName(t) => Query::NameOf(t.0),
             Question::KeptContents(_) => Query::ItsContents,

@@ -8,12 +8,12 @@ use lib.ListN.{length}
 use Rattle.format.specs.Bytes.{Bytes}
 use Rattle.format.specs.Reading.{got, Judged, accepted, refused, mapJudged}
 use Rattle.format.specs.Numbers.{number}
-use Rattle.format.specs.Names.{Kind, knownKind}
+use Rattle.format.specs.Names.{Kind, knownKind, widerKind}
 use Rattle.format.specs.Text.{utf8}
 use Rattle.format.specs.Metadata.{anyItem, hintItem}
 use Rattle.grammar.specs.Numbers.{Grammar, U32}
 use Rattle.grammar.specs.Texts.{Text}
-use Rattle.grammar.specs.Names.{SourceIds, NamePayload}
+use Rattle.grammar.specs.Names.{SourceIds, WiderIds, NamePayload}
 use Rattle.grammar.specs.Metadata.{CodeMetadata, Unknown, BranchHint}
 use Rattle.grammar.specs.Modules.{Module}
 use Rattle.grammar.specs.Forgetting.{namesRead, metadataRead, sectionsRead}
@@ -24,7 +24,7 @@ use Rattle.grammar.specs.Laws.Ranges.{text-ranges}
 use Rattle.grammar.specs.Laws.Texts.{ranges-text}
 use Rattle.grammar.specs.Ranges.{byRanges}
 use Rattle.grammar.specs.Laws.Encodings.{text-one-reading}
-use Rattle.grammar.specs.Laws.Names.{SameIds, source-ids, names-sound, names-complete}
+use Rattle.grammar.specs.Laws.Names.{SameIds, source-ids, wider-ids, names-sound, names-complete}
 use Rattle.grammar.specs.Laws.Metadata.{any-exact, hint-exact, metadata-sound, metadata-complete}
 use Rattle.grammar.specs.Laws.Modules.{walk-sound, walk-complete}
 
@@ -67,6 +67,10 @@ ids-exact ids at = exact (names-sound ids at) (names-complete ids at)
 
 pub names-exact : (at : ℕ) → Accepts (namesRead knownKind at) (NamePayload SourceIds)
 names-exact at = ids-exact source-ids at
+
+-- K9: and the wider edition exactly the proposal's
+pub wider-names-exact : (at : ℕ) → Accepts (namesRead widerKind at) (NamePayload WiderIds)
+wider-names-exact at = ids-exact wider-ids at
 
 -- code metadata of any format, and branch hints
 pub metadata-exact : (at : ℕ) → Accepts (metadataRead anyItem at) (CodeMetadata Unknown)

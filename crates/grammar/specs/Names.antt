@@ -1,5 +1,5 @@
 -- The name payload (WebAssembly specification, appendix on custom sections, Name Section). What is said of a text is its bytes. Assumes nothing.
-use Prim.Native.Nat.{ℕ}
+use Prim.Native.Nat.{ℕ, _≤_}
 use mathlib.Core.List.{List, [], _∷_, _++_}
 use mathlib.Core.Logic.{_≢_}
 use Rattle.format.specs.Tables.{Table, nil, row}
@@ -29,6 +29,17 @@ pub data SourceIds : ℕ → Kind → Type 0 where
   fieldNames : SourceIds 10 indirectMap
   tagNames : SourceIds 11 nameMap
   anyOther : {id : ℕ} → id ≢ 0 → id ≢ 1 → id ≢ 2 → id ≢ 4 → id ≢ 10 → id ≢ 11 → SourceIds id kept
+
+-- K9. The source's ids and the proposal's, as the request gives them: "ids 3 labels (indirect, by function), 5 tables, 6 memories, 7 globals, 8 element segments, 9 data segments (name maps)". Any other is kept
+pub data WiderIds : ℕ → Kind → Type 0 where
+  ofTheSource : {id : ℕ} {kind : Kind} → SourceIds id kind → kind ≢ kept → WiderIds id kind
+  labelNames : WiderIds 3 indirectMap
+  tableNames : WiderIds 5 nameMap
+  memoryNames : WiderIds 6 nameMap
+  globalNames : WiderIds 7 nameMap
+  elementNames : WiderIds 8 nameMap
+  dataNames : WiderIds 9 nameMap
+  anyOtherStill : {id : ℕ} → 12 ≤ id → WiderIds id kept
 
 -- the contents B of the subsection namesubsection_N(B), by what the table says of N
 pub data Contents : Kind → List ℕ → Content (List ℕ) → Type 0 where

@@ -13,13 +13,16 @@ use Rattle.format.specs.Reading.{filling, accepted, refused, judge, mapJudged}
 use Rattle.format.specs.Refusals.{numberOf}
 use Rattle.format.specs.Parts.{Part, name, remaining}
 use Rattle.format.specs.Tables.{lookup, table}
-use Rattle.format.specs.Names.{Kind as AnyKind, oneName, nameMap, indirectMap, kept, known, knownKind, contents, judgeNames}
+use Rattle.format.specs.Names.{Kind as AnyKind, oneName, nameMap, indirectMap, kept, wider, widerKind, kindIn, contents, judgeNames}
 use Rattle.format.specs.Questions.{answerIn, answer, asked, askAt, ask, asPlace, answered, idOf, queryOf}
+use Rattle.format.specs.declared.Edition.{Edition}
+use Rattle.format.specs.declared.Edition.the-variants.{First, Wider}
 use Rattle.format.specs.declared.Question.{Question}
-use Rattle.format.specs.declared.Question.the-variants.{ModuleName, FunctionName, TypeName, TagName, LocalName, FieldName, KeptContents}
+use Rattle.format.specs.declared.Question.the-variants.{ModuleName, FunctionName, LocalName, LabelName, TypeName, TableName, MemoryName, GlobalName, ElementName, DataName, FieldName, TagName, KeptContents}
 use Rattle.format.specs.declared.Query.{Query}
 use Rattle.format.specs.declared.Query.the-variants.{ItsName, ItsContents, NameOf, NameWithin}
 use Rattle.format.specs.Verdicts.{refusalIn}
+use Rattle.format.specs.Laws.Editions.{name-known, map-known as map-is-known, indirect-known as indirect-is-known, by-kind, same-known}
 use Rattle.format.specs.Laws.Options.{not-some}
 use Rattle.format.specs.Laws.Outcomes.{not-accepted, accepted-is, byOutcome, mapped}
 use Rattle.format.specs.declared.Answer.{Answer}
@@ -30,21 +33,20 @@ use Rattle.reading.proofs.Laws.{left-all, over-inside}
 use Rattle.reading.specs.Cursors.{Inside, left, overAll}
 use Rattle.reading.specs.declared.Cursor.{Cursor}
 use Rattle.names.specs.Contents.{kindMeant, asksIn, Asks, placeAt}
-use Rattle.names.specs.Places.{subOf, subInside, placedAt, KnownAt, Stands, Accepts, judgesTo, Judges, verdictIn, Finds, AsksAt}
+use Rattle.names.specs.Places.{subOf, subInside, placedAt, KnownAt, Stands, Accepts, Judges, Finds, AsksAt}
 use Rattle.names.specs.declared.kinds.Kind.{Kind}
 use Rattle.names.specs.declared.kinds.Kind.the-variants.{OneName, NameMap, IndirectMap, Kept}
 use Rattle.tables.specs.declared.Held.{Held}
 use Rattle.tables.specs.declared.Held.the-variants.{Nothing as Absent, Part as At}
-use Rattle.names.specs.declared.places.Places.{Places}
-use Rattle.names.specs.declared.judging.Judged.{Judged}
-use Rattle.names.specs.declared.judging.Judged.the-variants.{Accepted, Refused}
-use Rattle.names.proofs.judging.Judged as judged-type
+use Rattle.format.proofs.Tags.{as-accepted}
+use Rattle.format.proofs.Verdict as verdict-type
 use Rattle.format.proofs.Query as query-type
 use Rattle.names.proofs.kinds.Kind as kind-type
 use Rattle.tables.proofs.Held as held-type
 use Rattle.names.proofs.ContentLaws.{map-known, map-asked, indirect-known, indirect-asked, found-ordered}
 use Rattle.names.proofs.FrameLaws.{asked-lies}
-use Rattle.names.proofs.PlaceLaws.{name-known, map-known as map-is-known, indirect-known as indirect-is-known, by-kind, unless-known}
+use Rattle.names.proofs.PlaceLaws.{not-kept, unless-known}
+use Rattle.names.proofs.Verdicts.{refused-so}
 
 -- The contents at a place
 as-absent : (x : Held) → tagOf held-type.the-type x ≡ 0 → x ≡ Absent
@@ -75,7 +77,7 @@ pub ruleset place-steps = (nothing-asked, place-asked, place-inside, place-ahead
 pub ruleset map-steps = (nothing-asked, map-known, map-asked, indirect-known, indirect-asked, found-ordered, needs)
 
 -- One law for all questions: the place that the id has, asked
-module _ {kindOf : ℕ → AnyKind} {s : List ℕ} {at : ℕ} {bs : List ℕ} {p : Places} where
+module _ {kindOf : ℕ → AnyKind} {s : List ℕ} {at : ℕ} {bs : List ℕ} {p : List ℕ} where
   place-answers : (id : ℕ) (q : Query) (place : Held) {y : Answer} (a : Accepts kindOf s at bs p) → Stands s place (lookup id (a .lying)) → AsksAt (kindOf id) q s place y → answered y ≡ asPlace (asked kindOf id q at bs)
   place-answers id q place a st asks = asks .says ∙ ap asPlace (rw (st .is) (sym (asked-lies kindOf id q at bs (a .judged) (a .framed))))
 
@@ -98,15 +100,25 @@ kindFor ItsContents = kept
 abbrev pub Suits : (ℕ → AnyKind) → Type 0
 Suits kindOf = (q : Question) → (kindFor (queryOf q) ≡ kept → ⊥) → (kindOf (idOf q) ≡ kept → ⊥) → kindFor (queryOf q) ≡ kindOf (idOf q)
 
-pub known-suits : Suits knownKind
-unfolding knownKind known lookup
-known-suits ModuleName n m = refl
-known-suits (FunctionName k) n m = refl
-known-suits (LocalName k j) n m = refl
-known-suits (TypeName k) n m = refl
-known-suits (FieldName k j) n m = refl
-known-suits (TagName k) n m = refl
-known-suits (KeptContents id) n m = absurd (n refl)
+wider-suits : Suits widerKind
+unfolding widerKind wider lookup
+wider-suits ModuleName n m = refl
+wider-suits (FunctionName k) n m = refl
+wider-suits (LocalName k j) n m = refl
+wider-suits (LabelName k j) n m = refl
+wider-suits (TypeName k) n m = refl
+wider-suits (TableName k) n m = refl
+wider-suits (MemoryName k) n m = refl
+wider-suits (GlobalName k) n m = refl
+wider-suits (ElementName k) n m = refl
+wider-suits (DataName k) n m = refl
+wider-suits (FieldName k j) n m = refl
+wider-suits (TagName k) n m = refl
+wider-suits (KeptContents id) n m = absurd (n refl)
+
+pub edition-suits : (edition : Edition) → Suits (kindIn edition)
+edition-suits First q n m = let same = same-known (idOf q) m in wider-suits q n (λ e. m (sym same ∙ e)) ∙ same
+edition-suits Wider q n m = wider-suits q n m
 
 -- An arm that binds nothing gives the tag alone
 as-name : (x : Query) → tagOf query-type.the-type x ≡ 0 → x ≡ ItsName
@@ -138,7 +150,7 @@ kept-silent (NameWithin k j) (some p) n e = accepted-is e
 kept-silent ItsContents found n e = absurd (n refl)
 
 -- What an accepted payload answers
-module _ {kindOf : ℕ → AnyKind} {s : List ℕ} {at : ℕ} {bs : List ℕ} {p : Places} (a : Accepts kindOf s at bs p) (suits : Suits kindOf) (q : Question) {x : Query} {id : ℕ} {place : Held} (asks : x ≡ queryOf q) (of : id ≡ idOf q) (there : place ≡ placedAt p id) where
+module _ {kindOf : ℕ → AnyKind} {s : List ℕ} {at : ℕ} {bs : List ℕ} {p : List ℕ} (a : Accepts kindOf s at bs p) (suits : Suits kindOf) (q : Question) {x : Query} {id : ℕ} {place : Held} (asks : x ≡ queryOf q) (of : id ≡ idOf q) (there : place ≡ placedAt p id) where
   -- a question for an id that is kept: there is no place, and none is the answer
   module _ (k : kindOf id ≡ kept) where
     no-place : subOf s place ≡ none
@@ -199,20 +211,16 @@ pub kept-answers : (kindOf : ℕ → AnyKind) (at : ℕ) (bs : List ℕ) (q : Qu
 unfolding askAt
 kept-answers kindOf at bs q x id y asks of h e = let is = as-contents x h in rw (← asks, ← of, is) e
 
-pub ruleset answers = (name-inside, name-answers, map-there, map-answers, indirect-there, indirect-answers, kept-answers, known-suits, needs)
+pub ruleset answers = (name-inside, name-answers, map-there, map-answers, indirect-there, indirect-answers, kept-answers, edition-suits, needs)
 
 -- A payload that is not accepted, and one that is
-refused-so : (kindOf : ℕ → AnyKind) (s : List ℕ) (at : ℕ) (bs : List ℕ) (j : Judged) → judgesTo kindOf s at bs j → tagOf judged-type.the-type j ≡ 1 → judgeNames kindOf at bs ≡ refused (numberOf (refusalIn (verdictIn j) .reason)) (refusalIn (verdictIn j) .offset .0)
-refused-so kindOf s at bs (Accepted p) says h = absurd (omega arith)
-refused-so kindOf s at bs (Refused r) says h = says
-
-module _ {kindOf : ℕ → AnyKind} {s : List ℕ} {at : ℕ} {bs : List ℕ} {j : Judged} (judged : Judges kindOf s at bs j) where
-  pub question-refused : (q : Question) (r : Refusal) {v : Verdict} → tagOf judged-type.the-type j ≡ 1 → v ≡ verdictIn j → r ≡ refusalIn v → answered (NotAnswered r) ≡ asPlace (askAt kindOf q at bs)
+module _ {kindOf : ℕ → AnyKind} {s : List ℕ} {at : ℕ} {bs p : List ℕ} (v : Verdict) (judges : Judges kindOf s at bs v p) where
+  pub question-refused : (q : Question) (r : Refusal) → tagOf verdict-type.the-type v ≡ 1 → r ≡ refusalIn v → answered (NotAnswered r) ≡ asPlace (askAt kindOf q at bs)
   unfolding askAt asked asPlace
-  question-refused q r h of is = rw (is, of, refused-so kindOf s at bs j (judged .says) h)
+  question-refused q r h is = rw (is, refused-so v judges h)
 
-  pub accepts : {p : Places} → j ≡ Accepted p → Accepts kindOf s at bs p
-  accepts e = rw e at (judged .says)
+  pub accepts : tagOf verdict-type.the-type v ≡ 0 → Accepts kindOf s at bs p
+  accepts h = rw (as-accepted v h) at (judges .says)
 
 pub ruleset questions = (question-refused, accepts, needs)
 
@@ -228,13 +236,7 @@ silent-in : (kind : AnyKind) (found : Option Part) {x : Option Part} → (kind �
 silent-in kind none n e = accepted-is e
 silent-in kind (some p) n e = known-silent kind (p .at) (p .bytes) n e
 
-not-kept : (k : Kind) → (tagOf kind-type.the-type k ≡ 0) ⊎ ((tagOf kind-type.the-type k ≡ 1) ⊎ (tagOf kind-type.the-type k ≡ 2)) → kindMeant k ≡ kept → ⊥
-not-kept OneName h e = let z : _≡_ {A = ℕ} 0 1 = cc in omega arith
-not-kept NameMap h e = let z : _≡_ {A = ℕ} 0 1 = cc in omega arith
-not-kept IndirectMap h e = let z : _≡_ {A = ℕ} 0 1 = cc in omega arith
-not-kept Kept h e = ⊎-elim (λ t. omega arith) (λ h′. ⊎-elim (λ t. omega arith) (λ t. omega arith) h′) h
-
-module _ {kindOf : ℕ → AnyKind} {s : List ℕ} {at : ℕ} {bs : List ℕ} {p : Places} (a : Accepts kindOf s at bs p) {id : ℕ} where
+module _ {kindOf : ℕ → AnyKind} {s : List ℕ} {at : ℕ} {bs : List ℕ} {p : List ℕ} (a : Accepts kindOf s at bs p) {id : ℕ} where
   pub kept-known : (k : Kind) → kindMeant k ≡ kindOf id → (tagOf kind-type.the-type k ≡ 0) ⊎ ((tagOf kind-type.the-type k ≡ 1) ⊎ (tagOf kind-type.the-type k ≡ 2)) → answered NoAnswer ≡ asPlace (asked kindOf id ItsContents at bs)
   unfolding asPlace asked
   kept-known k is n =

@@ -1,26 +1,29 @@
 -- A subsection's contents: its kind by its id, and what a search over them answers.
 use Prim.Native.Nat.{ℕ, _≤_, _<_}
-use mathlib.Core.Bool.{Bool}
+use mathlib.Core.Bool.{Bool, false}
 use mathlib.Core.List.{List, [], _∷_}
-use mathlib.Core.Logic.{_⊎_, inl, inr}
+use mathlib.Core.Logic.{_⊎_, inl, inr, ⊎-elim}
 use mathlib.Core.Option.{Option, none, some}
-use mathlib.Core.Path.{_≡_, refl, ap, _∙_}
+use mathlib.Core.Path.{_≡_, refl, sym, ap, _∙_}
 use native.Mathlib.Omega.{arith}
 use borrow.Author.Needs.{needs}
-use borrow.Author.Tests.{lt-ltb, le-ltb, ltb-true, ltb-false, ne-eqb}
-use lib.Dec.{ltb}
+use borrow.Author.Tests.{lt-ltb, le-ltb, ltb-true, ltb-false, eqb-true, eqb-false, ne-eqb}
+use denote.Enum.Declared.{tagOf}
+use lib.Dec.{ltb, eqb}
 use lib.Seq.{slice-empty, slice-cons, length-slice}
 use Rattle.format.specs.Reading.{Outcome, got, stop, Reader, andThen, return, atEnd, filling, Judged, accepted, refused, judge, mapJudged, verdict}
 use Rattle.format.specs.Options.{thenSome}
 use Rattle.format.specs.Parts.{Part, sized, name, remaining}
 use Rattle.format.specs.Tables.{lookup, table}
-use Rattle.format.specs.Names.{Kind as AnyKind, oneName, nameMap, indirectMap, known, knownKind, Content, single, names, namesBy, contents}
+use Rattle.format.specs.Names.{Kind as AnyKind, oneName, nameMap, indirectMap, known, knownKind, wider, widerKind, kindIn, Content, single, names, namesBy, contents}
 use Rattle.format.specs.Questions.{answerIn, answered, asPlace}
 use Rattle.format.specs.declared.Query.{Query}
 use Rattle.format.specs.declared.Query.the-variants.{ItsName, NameOf, NameWithin}
 use Rattle.format.specs.Laws.Outcomes.{byTest, byOutcome, accepted-is, not-accepted}
 use Rattle.format.specs.Laws.Laxer.{Laxer, name-laxer, table-laxer, filled-laxer}
 use Rattle.format.specs.Laws.Passing.{sized-passes}
+use Rattle.format.specs.declared.Edition.{Edition}
+use Rattle.format.specs.declared.Edition.the-variants.{First, Wider}
 use Rattle.format.specs.declared.Answer.{Answer}
 use Rattle.format.specs.declared.Answer.the-variants.{None as NoAnswer, Refused as NotAnswered}
 use Rattle.format.specs.declared.Refusal.{Refusal}
@@ -46,9 +49,15 @@ use Rattle.names.specs.Places.{KnownAt, AsksAt}
 use Rattle.tables.specs.declared.Held.the-variants.{Part as At}
 use Rattle.names.specs.declared.kinds.Kind.{Kind}
 use Rattle.names.specs.declared.kinds.Kind.the-variants.{OneName, NameMap, IndirectMap, Kept}
+use Rattle.format.proofs.Edition as edition-type
 use Rattle.names.proofs.kinds.Kind as kind-type
 
--- The table of ids
+-- what is none of the wider edition's six is in it what it is in the first
+same-else : (id : ℕ) → eqb id 3 ≡ false → eqb id 5 ≡ false → eqb id 6 ≡ false → eqb id 7 ≡ false → eqb id 8 ≡ false → eqb id 9 ≡ false → widerKind id ≡ knownKind id
+unfolding knownKind known widerKind wider lookup
+same-else id n3 n5 n6 n7 n8 n9 = rw (n3, n5, n6, n7, n8, n9)
+
+-- The first edition's table of ids
 module _ {id : ℕ} where
   pub kind-one : id ≡ 0 → kindMeant OneName ≡ knownKind id
   unfolding knownKind known lookup
@@ -69,7 +78,47 @@ module _ {id : ℕ} where
   unfolding knownKind known lookup
   kind-kept n m i = rw (ne-eqb id 0 n, ne-eqb id 1 (λ e. m (inl e)), ne-eqb id 2 (λ e. i (inl e)), ne-eqb id 4 (λ e. m (inr (inl e))), ne-eqb id 10 (λ e. i (inr e)), ne-eqb id 11 (λ e. m (inr (inr e))))
 
-pub ruleset kind-steps = (kind-one, kind-map, kind-indirect, kind-kept, needs)
+  -- the wider one's six: numbers that follow one another come as a range
+  pub kind-labels : id ≡ 3 → kindMeant IndirectMap ≡ widerKind id
+  unfolding widerKind wider lookup
+  kind-labels e = rw e
+
+  pub kind-wider-map : 5 ≤ id → id < 10 → kindMeant NameMap ≡ widerKind id
+  unfolding widerKind wider lookup
+  kind-wider-map l h =
+      byTest (eqb id 5) (λ t. rw (eqb-true id 5 t)) λ n5.
+      byTest (eqb id 6) (λ t. rw (eqb-true id 6 t)) λ n6.
+      byTest (eqb id 7) (λ t. rw (eqb-true id 7 t)) λ n7.
+      byTest (eqb id 8) (λ t. rw (eqb-true id 8 t)) λ n8.
+      byTest (eqb id 9) (λ t. rw (eqb-true id 9 t)) λ n9.
+      absurd (omega (arith, l, h, eqb-false id 5 n5, eqb-false id 6 n6, eqb-false id 7 n7, eqb-false id 8 n8, eqb-false id 9 n9))
+
+  -- and else what the first one has
+  pub kind-else : (k : Kind) → kindMeant k ≡ knownKind id → (id ≡ 3 → ⊥) → (id < 5) ⊎ (10 ≤ id) → kindMeant k ≡ widerKind id
+  kind-else k e n far = e ∙ sym (same-else id (ne-eqb id 3 n) (apart 5 (omega arith) (omega arith)) (apart 6 (omega arith) (omega arith)) (apart 7 (omega arith) (omega arith)) (apart 8 (omega arith) (omega arith)) (apart 9 (omega arith) (omega arith)))
+    where
+      apart : (j : ℕ) → 5 ≤ j → j < 10 → eqb id j ≡ false
+      apart j l h = ne-eqb id j (λ q. ⊎-elim (λ below. omega (arith, below, q, l)) (λ above. omega (arith, above, q, h)) far)
+
+pub ruleset kind-steps = (kind-one, kind-map, kind-indirect, kind-kept, kind-labels, kind-wider-map, kind-else, needs)
+
+-- The table of an edition. An arm that binds nothing gives the tag alone
+as-first : (x : Edition) → tagOf edition-type.the-type x ≡ 0 → x ≡ First
+as-first First h = refl
+as-first Wider h = absurd (omega arith)
+
+as-wider : (x : Edition) → tagOf edition-type.the-type x ≡ 1 → x ≡ Wider
+as-wider First h = absurd (omega arith)
+as-wider Wider h = refl
+
+module _ (edition : Edition) (id : ℕ) (k : Kind) where
+  pub kind-first : tagOf edition-type.the-type edition ≡ 0 → kindMeant k ≡ knownKind id → kindMeant k ≡ kindIn edition id
+  kind-first h e = rw (as-first edition h) e
+
+  pub kind-wider : tagOf edition-type.the-type edition ≡ 1 → kindMeant k ≡ widerKind id → kindMeant k ≡ kindIn edition id
+  kind-wider h e = rw (as-wider edition h) e
+
+pub ruleset kinds-in = (kind-first, kind-wider, needs)
 
 -- The end of a search, as the code makes it
 module _ {next : Cursor} (answer : Answer) where

@@ -62,7 +62,7 @@ module _ {least : ℕ} {s : List ℕ} {c : Cursor} (i : Inside s c) where
           let far = part-behind behind p e in
           record {
             means = rw (slice-cons (c .at) (c .end) s 0 h (i .within), ← w, le-leb least b l, sized-there, sized-means p e);
-            forward = record { above = omega arith; in-part = far .in-part; in-rest = far .in-rest; moves = omega (arith, far .forward, far .in-part .ahead, far .ends); same-end = far .same-end };
+            forward = record { above = omega arith; behind = omega (arith, far .forward); in-part = far .in-part; in-rest = far .in-rest; moves = omega (arith, far .forward, far .in-part .ahead, far .ends); same-end = far .same-end };
             tells = rw e at (p .tells);
           }
 

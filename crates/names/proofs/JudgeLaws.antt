@@ -14,10 +14,12 @@ use lib.ListN.{length}
 use lib.Seq.{length-slice}
 use Rattle.format.specs.Refusals.{numberOf}
 use Rattle.format.specs.Options.{mapSome}
-use Rattle.format.specs.Reading.{Outcome, got, stop, Reader, andThen}
+use Rattle.format.specs.Reading.{Outcome, got, stop, Reader, andThen, verdict}
+use Rattle.format.specs.Verdicts.{verdictOf}
 use Rattle.format.specs.Parts.{Part}
 use Rattle.format.specs.Tables.{Table, lookup, mapTable}
 use Rattle.format.specs.Names.{Kind, kept, payload, judgeNames}
+use Rattle.format.specs.Laws.Editions.{by-kind}
 use Rattle.format.specs.Laws.Outcomes.{not-got, got-value, byTest, inTurn, judged}
 use Rattle.format.specs.Laws.Tables.{lookup-map}
 use Rattle.format.specs.declared.Refusal.{Refusal}
@@ -25,19 +27,17 @@ use Rattle.reading.proofs.Laws.{left-all, over-inside}
 use Rattle.reading.specs.Cursors.{Inside, left, partOf, overAll}
 use Rattle.reading.specs.declared.Cursor.{Cursor}
 use Rattle.names.specs.Frames.{Headed, frame, frames, judgeFrames, subsection, Forward, FrameReads}
-use Rattle.names.specs.Places.{subOf, subInside, Stands, placedAt, verdictIn, Judges, Puts, Finds}
+use Rattle.names.specs.Places.{subOf, subInside, Stands, placedAt, nowhere, Judges, Puts, Finds}
 use Rattle.names.specs.declared.frames.FrameRead.{FrameRead}
 use Rattle.names.specs.declared.frames.FrameRead.the-variants.{Frame, End, Refused as NoFrame}
 use Rattle.tables.specs.declared.Held.{Held}
 use Rattle.tables.specs.declared.Held.the-variants.{Nothing as Absent, Part as At}
-use Rattle.names.specs.declared.places.Places.{Places}
-use Rattle.names.specs.declared.judging.Judged.{Judged}
-use Rattle.names.specs.declared.judging.Judged.the-variants.{Accepted, Refused}
+use Rattle.format.specs.declared.Verdict.{Verdict}
 use Rattle.format.specs.declared.Verdict.the-variants.{Accepted as IsAccepted, Refused as IsRefused}
 use Rattle.names.proofs.frames.FrameRead as frame-type
-use Rattle.names.proofs.judging.Judged as judged-type
 use Rattle.names.proofs.FrameSteps.{as-end}
-use Rattle.names.proofs.PlaceLaws.{Placed, known-placed, put-here, put-kept, put-elsewhere, put-inside, nowhere, nothing-there, by-kind, unless-known}
+use Rattle.names.proofs.PlaceLaws.{Placed, edition-placed, put-here, put-kept, put-elsewhere, put-inside, put-long, nothing-there, unless-known}
+use Rattle.names.proofs.Verdicts.{verdict-is}
 use Rattle.names.proofs.FrameLaws.{partAt, holding, or-none, behind, Framed, framed, subsections-framed, framed-parts, behindJudged, judged-turn, frame-turn}
 
 -- what stops a search stops the reading
@@ -64,38 +64,40 @@ whole kindOf s c = framed kindOf (length (left s c)) 0 (c .at) (left s c)
 abbrev lies : Framed → Part
 lies x = x .part
 
-pub record Turn (kindOf : ℕ → Kind) (s : List ℕ) (c next : Cursor) (least : ℕ) (p : Places) : Type 0 where
+pub record Turn (kindOf : ℕ → Kind) (s : List ℕ) (c next : Cursor) (least : ℕ) (p : List ℕ) : Type 0 where
   pub most : ℕ
   pub inside : Inside s next
   pub enough : next .end - next .at ≤ most
+  pub long : length p ≡ 24
   pub fresh : (j : ℕ) → least ≤ j → placedAt p j ≡ Absent
   pub within : (j : ℕ) → subInside s (placedAt p j)
   pub none-kept : (j : ℕ) → kindOf j ≡ kept → placedAt p j ≡ Absent
   pub same : (j : ℕ) → (kindOf j ≡ kept → ⊥) → partAt lies j none (whole kindOf s c) ≡ partAt lies j (subOf s (placedAt p j)) (framed kindOf most least (next .at) (left s next))
 
 module _ {kindOf : ℕ → Kind} {s : List ℕ} {c : Cursor} where
-  pub turn-begins : Inside s c → Turn kindOf s c c 0 nowhere
-  turn-begins i = record {
+  pub turn-begins : (p : List ℕ) → Inside s c → p ≡ nowhere → Turn kindOf s c c 0 p
+  turn-begins p i e = rw e (record {
     most = length (left s c);
     inside = i;
     enough = omega (arith, length-slice (c .at) (c .end) s (i .within));
+    long = refl;
     fresh = λ j h. nothing-there j;
     within = λ j. rw (nothing-there j) tt;
     none-kept = λ j k. nothing-there j;
     same = λ j k. rw (nothing-there j) refl;
-  }
+  })
 
-  module _ {next : Cursor} {least : ℕ} {p : Places} {x : FrameRead} (placed : Placed kindOf) (t : Turn kindOf s c next least p) (f : FrameReads (subsection kindOf) least s next x) where
+  module _ {next : Cursor} {least : ℕ} {p : List ℕ} {x : FrameRead} (placed : Placed kindOf) (t : Turn kindOf s c next least p) (f : FrameReads (subsection kindOf) least s next x) where
     opened : (j : ℕ) → (kindOf j ≡ kept → ⊥) → partAt lies j none (whole kindOf s c) ≡ andThen (subsection kindOf least (next .at) (left s next)) (behindJudged kindOf j (subOf s (placedAt p j)) (t .most - 1))
     opened j k = t .same j k ∙ judged-turn kindOf j (subOf s (placedAt p j)) (t .most) least (next .at) (left s next) (omega (arith, t .enough, length-slice (next .at) (next .end) s (t .inside .within)))
 
-    pub turn-refused : {r : Refusal} → x ≡ NoFrame r → Judges kindOf s (c .at) (left s c) (Refused r)
+    pub turn-refused : {r : Refusal} → x ≡ NoFrame r → Judges kindOf s (c .at) (left s c) (IsRefused r) p
     unfolding judgeNames payload
     turn-refused {r} e =
         let halted : whole kindOf s c ≡ stop (numberOf (r .reason)) (r .offset .0) = stopped lies 0 (whole kindOf s c) (opened 0 (placed .first-known) ∙ rw (← rw e at (f .means))) in
         record { says = rw (subsections-framed kindOf (length (left s c)) 0 (c .at) (left s c), halted) }
 
-    pub turn-ends : tagOf frame-type.the-type x ≡ 1 → Judges kindOf s (c .at) (left s c) (Accepted p)
+    pub turn-ends : tagOf frame-type.the-type x ≡ 1 → Judges kindOf s (c .at) (left s c) IsAccepted p
     unfolding judgeNames payload judgeFrames
     turn-ends h =
         let ends : (j : ℕ) → (kindOf j ≡ kept → ⊥) → partAt lies j none (whole kindOf s c) ≡ got (subOf s (placedAt p j)) (next .at) [] = λ j k. opened j k ∙ rw (← rw (as-end x h) at (f .means)) in
@@ -112,16 +114,22 @@ module _ {kindOf : ℕ → Kind} {s : List ℕ} {c : Cursor} where
           };
         }
 
-    module _ {id : ℕ} {part after : Cursor} {told : Bool} {u : Places} (e : x ≡ Frame id part after told) (put : Puts kindOf p id part u) where
+    module _ {id : ℕ} {part after : Cursor} {told : Bool} {u : List ℕ} (e : x ≡ Frame id part after told) (put : Puts kindOf p id part u) where
+      below : (kindOf id ≡ kept → ⊥) → id < 12
+      below = placed .known-below id
+
+      ahead : 0 < part .at
+      ahead = omega (arith, forward f e .behind)
+
       held-then : (j : ℕ) → (kindOf j ≡ kept → ⊥) → holding j (subOf s (placedAt p j)) id (partOf s part) ≡ subOf s (placedAt u j)
       held-then j k =
           byTest (eqb j id)
           (λ q. let is = eqb-true j id q in
           let none-yet = t .fresh j (omega (arith, forward f e .above)) in
           let n : kindOf id ≡ kept → ⊥ = rw is at k in
-          let here : placedAt u j ≡ At part = rw is (put-here put n (placed .known-has id n)) in
+          let here : placedAt u j ≡ At part = rw is (put-here put below n (t .long) ahead) in
           rw (q, none-yet, here))
-          (λ q. rw (q, or-none, put-elsewhere put j (eqb-false j id q)))
+          (λ q. rw (q, or-none, put-elsewhere put below j (eqb-false j id q)))
 
       pub turn-next : Turn kindOf s c after (id + 1) u
       turn-next =
@@ -130,19 +138,20 @@ module _ {kindOf : ℕ → Kind} {s : List ℕ} {c : Cursor} where
             most = t .most - 1;
             inside = far .in-rest;
             enough = omega (arith, t .enough, far .moves, far .same-end, far .in-rest .ahead);
-            fresh = λ j h. put-elsewhere put j (λ q. omega arith) ∙ t .fresh j (omega (arith, far .above));
-            within = put-inside put s (t .within) (far .in-part);
+            long = put-long put ∙ t .long;
+            fresh = λ j h. put-elsewhere put below j (λ q. omega arith) ∙ t .fresh j (omega (arith, far .above));
+            within = put-inside put below s (t .long) ahead (t .within) (far .in-part);
             none-kept = λ j k. byTest (eqb j id)
                 (λ q. let is = eqb-true j id q in put-kept put (rw is at k) j ∙ t .none-kept j k)
-                (λ q. put-elsewhere put j (eqb-false j id q) ∙ t .none-kept j k);
+                (λ q. put-elsewhere put below j (eqb-false j id q) ∙ t .none-kept j k);
             same = λ j k. opened j k ∙ rw (← rw e at (f .means), held-then j k, add-one);
           }
 
-pub ruleset judge-turns = (turn-begins, turn-refused, turn-ends, known-placed, turn-next, frame-shorter, needs)
+pub ruleset judge-turns = (turn-begins, turn-refused, turn-ends, edition-placed, turn-next, frame-shorter, needs)
 
 -- all of what was lent
-pub judge-all : {kindOf : ℕ → Kind} {s : List ℕ} {c : Cursor} {r : Judged} → c ≡ overAll s → Judges kindOf s (c .at) (left s c) r → Judges kindOf s 0 s r
-judge-all {s = s} over j = rw (over, left-all s) at j
+pub judge-all : (kindOf : ℕ → Kind) (s : List ℕ) {c : Cursor} {p : List ℕ} (v : Verdict) → c ≡ overAll s → Judges kindOf s (c .at) (left s c) v p → verdictOf v ≡ verdict (judgeNames kindOf 0 s)
+judge-all kindOf s {p = p} v over j = let all : Judges kindOf s 0 s v p = rw (over, left-all s) at j in verdict-is v all
 
 pub ruleset judge-steps = (judge-all, over-inside, needs)
 
@@ -206,13 +215,3 @@ module _ {s : List ℕ} {c : Cursor} {id : ℕ} where
           }
 
 pub ruleset find-turns = (search-begins, search-refused, search-ends, search-here, search-next, frame-shorter, needs)
-
--- the verdict alone
-pub verdict-accepted : (j : Judged) → tagOf judged-type.the-type j ≡ 0 → IsAccepted ≡ verdictIn j
-verdict-accepted (Accepted p) h = refl
-verdict-accepted (Refused r) h = absurd (omega arith)
-
-pub verdict-refused : (j : Judged) {r : Refusal} → j ≡ Refused r → IsRefused r ≡ verdictIn j
-verdict-refused j e = rw e
-
-pub ruleset verdicts = (verdict-accepted, verdict-refused, needs)

@@ -1,62 +1,29 @@
--- The places, by id.
-use Prim.Native.Nat.{ℕ}
-use mathlib.Core.Bool.{Bool, true, false, cond}
+-- The record of places, by id.
+use Prim.Native.Nat.{ℕ, _+_, _≤_, _<_}
 use mathlib.Core.List.{List}
-use mathlib.Core.Option.{Option, none, some}
-use mathlib.Core.Path.{_≡_, refl, _∙_}
+use mathlib.Core.Logic.{_⊎_, ⊎-elim}
+use mathlib.Core.Path.{_≡_, refl, sym, ap, _∙_}
 use native.Mathlib.Omega.{arith}
 use borrow.Author.Needs.{needs}
-use borrow.Author.Tests.{eqb-true, eqb-false, eq-eqb, ne-eqb}
-use lib.Dec.{eqb}
-use Rattle.format.specs.Options.{mapSome}
-use Rattle.format.specs.Parts.{Part}
-use Rattle.format.specs.Tables.{Table, nil, row, lookup}
-use Rattle.format.specs.Names.{Kind, oneName, nameMap, indirectMap, kept, known, knownKind}
+use borrow.Author.Tests.{lt-ltb, le-ltb, ltb-true, ltb-false, eqb-true, eqb-false, ne-eqb, eq-eqb}
+use denote.Enum.Declared.{tagOf}
+use lib.Dec.{eqb, ltb}
+use lib.ListN.{length, getD, set, length-set, getD-replicate}
+use lib.Seq.{getD-set-same, getD-set-other}
+use Rattle.format.specs.Tables.{lookup}
+use Rattle.format.specs.Names.{Kind, oneName, nameMap, indirectMap, kept, known, knownKind, wider, widerKind, kindIn}
+use Rattle.format.specs.Laws.Editions.{name-known, map-known, indirect-known, by-kind, same-known, beyond-kept}
 use Rattle.format.specs.Laws.Outcomes.{byTest}
-use Rattle.format.specs.Laws.Options.{not-some, byOption}
+use Rattle.format.specs.declared.Edition.{Edition}
+use Rattle.format.specs.declared.Edition.the-variants.{First, Wider}
 use Rattle.reading.specs.Cursors.{Inside}
 use Rattle.reading.specs.declared.Cursor.{Cursor}
-use Rattle.names.specs.Places.{subInside, placesOf, orAbsent, placedAt, unlessKept, replaced, Puts}
-use Rattle.tables.specs.declared.Held.{Held}
+use Rattle.names.specs.Contents.{kindMeant}
+use Rattle.names.specs.Places.{subInside, heldFrom, placedAt, nowhere, unlessKept, Puts}
+use Rattle.names.specs.declared.kinds.Kind.{Kind as AKind}
+use Rattle.names.specs.declared.kinds.Kind.the-variants.{OneName, NameMap, IndirectMap, Kept}
+use Rattle.names.proofs.kinds.Kind as kind-type
 use Rattle.tables.specs.declared.Held.the-variants.{Nothing as Absent, Part as At}
-use Rattle.names.specs.declared.places.Places.{Places}
-
--- an id that is none of the known ones is kept, and has no place
-module _ (p : Places) {id : ℕ} (a : id ≡ 0 → ⊥) (b : id ≡ 1 → ⊥) (c : id ≡ 2 → ⊥) (d : id ≡ 4 → ⊥) (e : id ≡ 10 → ⊥) (f : id ≡ 11 → ⊥) where
-  pub put-none : {part : Cursor} → Puts knownKind p id part p
-  unfolding knownKind known lookup
-  put-none = record { says = rw (ne-eqb id 0 a, ne-eqb id 1 b, ne-eqb id 2 c, ne-eqb id 4 d, ne-eqb id 10 e, ne-eqb id 11 f) }
-
-  pub place-none : Absent ≡ placedAt p id
-  unfolding placedAt placesOf lookup
-  place-none = rw (ne-eqb id 0 a, ne-eqb id 1 b, ne-eqb id 2 c, ne-eqb id 4 d, ne-eqb id 10 e, ne-eqb id 11 f)
-
-pub ruleset put-steps = (put-none, place-none, needs)
-
-lookup-replaced : {A : Type 0} (j k : ℕ) (v : A) (t : Table A) → lookup j (replaced k v t) ≡ cond (eqb j k) (mapSome (λ _. v) (lookup j t)) (lookup j t)
-unfolding lookup replaced
-lookup-replaced j k v nil = byTest (eqb j k) (λ e. rw e) (λ e. rw e)
-lookup-replaced j k v (row i w t) =
-    byTest (eqb j i)
-    (λ e. rw (e, eqb-true j i e) (byTest (eqb i k) (λ q. rw q) (λ q. rw q)))
-    (λ e. rw e (lookup-replaced j k v t))
-
--- What is known is not kept
-pub name-known : oneName ≡ kept → ⊥
-name-known e = let z : _≡_ {A = ℕ} 0 1 = cc in omega arith
-
-pub map-known : nameMap ≡ kept → ⊥
-map-known e = let z : _≡_ {A = ℕ} 0 1 = cc in omega arith
-
-pub indirect-known : indirectMap ≡ kept → ⊥
-indirect-known e = let z : _≡_ {A = ℕ} 0 1 = cc in omega arith
-
--- An id is kept or it is known
-pub by-kind {ℓ} : {C : Type ℓ} (kind : Kind) → (kind ≡ kept → C) → ((kind ≡ kept → ⊥) → C) → C
-by-kind oneName k n = n name-known
-by-kind nameMap k n = n map-known
-by-kind indirectMap k n = n indirect-known
-by-kind kept k n = k refl
 
 pub unless-known : {A : Type 0} (kind : Kind) (x otherwise : A) → (kind ≡ kept → ⊥) → unlessKept kind x otherwise ≡ x
 unless-known oneName x otherwise n = refl
@@ -65,74 +32,108 @@ unless-known indirectMap x otherwise n = refl
 unless-known kept x otherwise n = absurd (n refl)
 
 -- A table of ids: each of its ids has a place, the module name's among them
-pub data SameKeys {A B : Type 0} : Table A → Table B → Type 0 where
-  noKeys : SameKeys nil nil
-  oneKey : {k : ℕ} {v : A} {w : B} {t : Table A} {u : Table B} → SameKeys t u → SameKeys (row k v t) (row k w u)
-
-same-key : {A B : Type 0} (k : ℕ) {t : Table A} {u : Table B} {v : A} → SameKeys t u → lookup k t ≡ some v → (w : B) × (lookup k u ≡ some w)
-unfolding lookup
-same-key k noKeys e = absurd (not-some e)
-same-key k (oneKey {k = i} {w = w} s) e = byTest (eqb k i) (λ t. (w, rw t)) (λ t. rw t (same-key k s (rw t at e)))
-
-abbrev pub HasPlace : ℕ → Type 0
-HasPlace id = (p : Places) → (held : Held) × (lookup id (placesOf p) ≡ some held)
-
 pub record Placed (kindOf : ℕ → Kind) : Type 0 where
-  pub known-has : (id : ℕ) → (kindOf id ≡ kept → ⊥) → HasPlace id
+  pub known-below : (id : ℕ) → (kindOf id ≡ kept → ⊥) → id < 12
   pub first-known : kindOf 0 ≡ kept → ⊥
 
-known-places : (p : Places) → SameKeys known (placesOf p)
-unfolding known placesOf
-known-places p = oneKey (oneKey (oneKey (oneKey (oneKey (oneKey noKeys)))))
+wider-below : (id : ℕ) → (widerKind id ≡ kept → ⊥) → id < 12
+wider-below id n = byTest (ltb id 12) (λ t. ltb-true id 12 t) (λ t. absurd (n (beyond-kept id (ltb-false id 12 t))))
 
-pub known-placed : Placed knownKind
-unfolding knownKind known lookup
-known-placed = record {
-  known-has = λ id n p. byOption (lookup id known) (λ e. absurd (n (rw e))) (λ k e. same-key id (known-places p) e);
-  first-known = name-known;
-}
+pub edition-placed : (edition : Edition) → Placed (kindIn edition)
+unfolding knownKind known widerKind wider lookup
+edition-placed First = record { known-below = λ id n. wider-below id (λ e. n (sym (same-known id n) ∙ e)); first-known = name-known }
+edition-placed Wider = record { known-below = wider-below; first-known = name-known }
 
-module _ {kindOf : ℕ → Kind} {p r : Places} {id : ℕ} {part : Cursor} (put : Puts kindOf p id part r) where
-  put-known : (kindOf id ≡ kept → ⊥) → placesOf r ≡ replaced id (At part) (placesOf p)
+-- One place put in
+module _ {kindOf : ℕ → Kind} {p r : List ℕ} {id : ℕ} {part : Cursor} (put : Puts kindOf p id part r) where
+  put-known : (kindOf id ≡ kept → ⊥) → r ≡ set (set p id (part .at)) (12 + id) (part .end)
   put-known n = put .says ∙ unless-known (kindOf id) _ _ n
 
-  pub put-here : (kindOf id ≡ kept → ⊥) → HasPlace id → placedAt r id ≡ At part
-  unfolding placedAt
-  put-here n k = let (held, e) = k p in rw (put-known n, lookup-replaced id id (At part) (placesOf p), eq-eqb id id refl, e)
-
   -- what is kept changes nothing
+  put-nothing : kindOf id ≡ kept → r ≡ p
+  put-nothing k = put .says ∙ rw k
+
   pub put-kept : kindOf id ≡ kept → (j : ℕ) → placedAt r j ≡ placedAt p j
-  unfolding placedAt
-  put-kept k j = rw (put .says, k)
+  put-kept k j = ap (λ places. placedAt places j) (put-nothing k)
 
-  pub put-elsewhere : (j : ℕ) → (j ≡ id → ⊥) → placedAt r j ≡ placedAt p j
-  unfolding placedAt
-  put-elsewhere j n =
-      by-kind (kindOf id)
-      (λ k. put-kept k j)
-      (λ m. rw (put-known m, lookup-replaced j id (At part) (placesOf p), ne-eqb j id n))
+  pub put-long : length r ≡ length p
+  put-long = by-kind (kindOf id) (λ k. ap length (put-nothing k)) (λ n. rw (put-known n, length-set, length-set))
 
-  pub put-inside : (s : List ℕ) → ((j : ℕ) → subInside s (placedAt p j)) → Inside s part → (j : ℕ) → subInside s (placedAt r j)
-  unfolding placedAt
-  put-inside s h i j =
-      by-kind (kindOf id)
-      (λ k. rw (put-kept k j) (h j))
-      (λ m. byTest (eqb j id)
-      (λ e. rw (put-known m, lookup-replaced j id (At part) (placesOf p), e) (either (lookup j (placesOf p))))
-      (λ e. rw (put-elsewhere j (eqb-false j id e)) (h j)))
-    where
-      either : (x : Option Held) → subInside s (orAbsent (mapSome (λ _. At part) x))
-      either none = tt
-      either (some held) = i
+  module _ (below : (kindOf id ≡ kept → ⊥) → id < 12) where
+    pub put-elsewhere : (j : ℕ) → (j ≡ id → ⊥) → placedAt r j ≡ placedAt p j
+    unfolding placedAt
+    put-elsewhere j n =
+        by-kind (kindOf id)
+        (λ k. put-kept k j)
+        (λ m.
+        let h = below m in
+        byTest (ltb j 12)
+        (λ t. let l = ltb-true j 12 t in rw (t, put-known m, getD-set-other (set p id (part .at)) (12 + id) j (part .end) 0 (λ e. omega (arith, e, l)), getD-set-other p id j (part .at) 0 n, getD-set-other (set p id (part .at)) (12 + id) (12 + j) (part .end) 0 (λ e. n (omega (arith, e))), getD-set-other p id (12 + j) (part .at) 0 (λ e. omega (arith, e, h))))
+        (λ t. rw t))
+
+    module _ (n : kindOf id ≡ kept → ⊥) (long : length p ≡ 24) (ahead : 0 < part .at) where
+      pub put-here : placedAt r id ≡ At part
+      unfolding placedAt
+      put-here =
+          let h = below n in
+          let apart : getD (set (set p id (part .at)) (12 + id) (part .end)) id 0 ≡ part .at = getD-set-other (set p id (part .at)) (12 + id) id (part .end) 0 (λ e. omega (arith, e)) ∙ getD-set-same p id (part .at) 0 (omega (arith, h, long)) in
+          let ends : getD (set (set p id (part .at)) (12 + id) (part .end)) (12 + id) 0 ≡ part .end = getD-set-same (set p id (part .at)) (12 + id) (part .end) 0 (rw length-set (omega (arith, h, long))) in
+          rw (put-known n, lt-ltb id 12 h, apart, ends, ne-eqb (part .at) 0 (λ e. omega (arith, e, ahead)))
+
+    pub put-inside : (s : List ℕ) → length p ≡ 24 → 0 < part .at → ((j : ℕ) → subInside s (placedAt p j)) → Inside s part → (j : ℕ) → subInside s (placedAt r j)
+    put-inside s long ahead h i j =
+        by-kind (kindOf id)
+        (λ k. rw (put-kept k j) (h j))
+        (λ n. byTest (eqb j id)
+        (λ e. rw (eqb-true j id e, put-here n long ahead) i)
+        (λ e. rw (put-elsewhere j (eqb-false j id e)) (h j)))
 
 -- before the first is put in
-abbrev pub nowhere : Places
-nowhere = record { «module» = Absent; functions = Absent; locals = Absent; types = Absent; fields = Absent; tags = Absent }
-
 pub nothing-there : (j : ℕ) → placedAt nowhere j ≡ Absent
-unfolding placedAt placesOf lookup
-nothing-there j = skip (eqb j 0) _ (skip (eqb j 1) _ (skip (eqb j 2) _ (skip (eqb j 4) _ (skip (eqb j 10) _ (skip (eqb j 11) none refl)))))
-  where
-    skip : (b : Bool) (x : Option Held) → orAbsent x ≡ Absent → orAbsent (cond b (some Absent) x) ≡ Absent
-    skip true x e = refl
-    skip false x e = e
+unfolding placedAt
+nothing-there j = byTest (ltb j 12) (λ t. let l = ltb-true j 12 t in rw (t, getD-replicate {A = ℕ} 24 j 0 0 (omega (arith, l)))) (λ t. rw t)
+
+-- As the code puts it in
+pub not-kept : (k : AKind) → (tagOf kind-type.the-type k ≡ 0) ⊎ ((tagOf kind-type.the-type k ≡ 1) ⊎ (tagOf kind-type.the-type k ≡ 2)) → kindMeant k ≡ kept → ⊥
+not-kept OneName h e = let z : _≡_ {A = ℕ} 0 1 = cc in omega arith
+not-kept NameMap h e = let z : _≡_ {A = ℕ} 0 1 = cc in omega arith
+not-kept IndirectMap h e = let z : _≡_ {A = ℕ} 0 1 = cc in omega arith
+not-kept Kept h e = ⊎-elim (λ t. omega arith) (λ h′. ⊎-elim (λ t. omega arith) (λ t. omega arith) h′) h
+
+module _ (k : AKind) (id : ℕ) where
+  module _ {kindOf : ℕ → Kind} (is : kindMeant k ≡ kindOf id) (p : List ℕ) (part : Cursor) where
+    pub put-left : k ≡ Kept → Puts kindOf p id part p
+    put-left e = let q : kept ≡ kindOf id = rw e at is in record { says = rw (← q) }
+
+    pub put-in : (tagOf kind-type.the-type k ≡ 0) ⊎ ((tagOf kind-type.the-type k ≡ 1) ⊎ (tagOf kind-type.the-type k ≡ 2)) → Puts kindOf p id part (set (set p id (part .at)) (12 + id) (part .end))
+    put-in h = record { says = sym (unless-known (kindOf id) _ _ (λ e. not-kept k h (is ∙ e))) }
+
+  -- both numbers have room
+  module _ (edition : Edition) (is : kindMeant k ≡ kindIn edition id) (h : (tagOf kind-type.the-type k ≡ 0) ⊎ ((tagOf kind-type.the-type k ≡ 1) ⊎ (tagOf kind-type.the-type k ≡ 2))) where
+    below : id < 12
+    below = edition-placed edition .known-below id (λ e. not-kept k h (is ∙ e))
+
+    pub begins-room : id < 24
+    begins-room = omega (arith, below)
+
+    pub ends-room : (ids : ℕ) → ids ≤ 12 → ids + id < 24
+    ends-room ids h = omega (arith, below, h)
+
+pub ruleset put-steps = (put-left, put-in, begins-room, ends-room, needs)
+
+-- and finds it
+module _ (places : List ℕ) {id : ℕ} where
+  pub place-none : 12 ≤ id → Absent ≡ placedAt places id
+  unfolding placedAt
+  place-none h = rw (le-ltb id 12 h)
+
+  module _ (h : id < 12) where
+    pub place-absent : getD places id 0 ≡ 0 → Absent ≡ placedAt places id
+    unfolding placedAt
+    place-absent e = rw (lt-ltb id 12 h, e)
+
+    pub place-there : (getD places id 0 ≡ 0 → ⊥) → At (record { at = getD places id 0; end = getD places (12 + id) 0 }) ≡ placedAt places id
+    unfolding placedAt
+    place-there n = rw (lt-ltb id 12 h, ne-eqb (getD places id 0) 0 n)
+
+pub ruleset place-of-steps = (place-none, place-absent, place-there, needs)

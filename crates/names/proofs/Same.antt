@@ -6,7 +6,7 @@ use mathlib.Core.Option.{Option, none, some}
 use mathlib.Core.Path.{_≡_, refl, sym, ap, subst, _∙_}
 use Rattle.format.specs.Reading.{Reader}
 use Rattle.format.specs.Parts.{Part}
-use Rattle.format.specs.Tables.{Table, lookup}
+use Rattle.format.specs.Tables.{Table}
 use Rattle.format.specs.Names.{Kind as AnyKind, oneName, nameMap, indirectMap, kept}
 use Rattle.format.specs.Laws.Outcomes.{not-got, got-value, got-next, not-accepted, accepted-is}
 use Rattle.format.specs.Laws.Options.{not-some, some-is}
@@ -15,16 +15,13 @@ use Rattle.reading.specs.declared.Cursor.{Cursor}
 use Rattle.reading.proofs.Same.{same-cursor, same-part}
 use Rattle.names.specs.Contents.{kindMeant}
 use Rattle.names.specs.Frames.{Headed, FrameReads}
-use Rattle.names.specs.Places.{subOf, subInside, Stands, placesOf, orAbsent, placedAt, Accepts, Judges, Puts}
+use Rattle.names.specs.Places.{subOf, subInside, Stands, Puts}
 use Rattle.names.specs.declared.kinds.Kind.{Kind}
 use Rattle.names.specs.declared.kinds.Kind.the-variants.{OneName, NameMap, IndirectMap, Kept}
 use Rattle.names.specs.declared.frames.FrameRead.{FrameRead}
 use Rattle.names.specs.declared.frames.FrameRead.the-variants.{Frame, End, Refused as NoFrame}
 use Rattle.tables.specs.declared.Held.{Held}
 use Rattle.tables.specs.declared.Held.the-variants.{Nothing as Absent, Part as At}
-use Rattle.names.specs.declared.places.Places.{Places}
-use Rattle.names.specs.declared.judging.Judged.{Judged}
-use Rattle.names.specs.declared.judging.Judged.the-variants.{Accepted, Refused}
 
 -- places inside what was lent that stand for one part are one
 same-sub : (s : List ℕ) (a b : Held) → subInside s a → subInside s b → subOf s a ≡ subOf s b → a ≡ b
@@ -36,32 +33,8 @@ same-sub s (At c) (At d) i j e = ap At (same-part c d i j (some-is e))
 pub stands-same : {s : List ℕ} {found : Option Part} (a b : Held) → Stands s a found → Stands s b found → a ≡ b
 stands-same {s} a b i j = same-sub s a b (i .inside) (j .inside) (i .is ∙ sym (j .is))
 
--- places that are one for every id are one
-same-places : (p q : Places) → ((id : ℕ) → placedAt p id ≡ placedAt q id) → p ≡ q
-unfolding placedAt placesOf lookup
-same-places p q there =
-    let modules : p .module ≡ q .module = there 0 in
-    let functions : p .functions ≡ q .functions = there 1 in
-    let locals : p .locals ≡ q .locals = there 2 in
-    let types : p .types ≡ q .types = there 4 in
-    let fields : p .fields ≡ q .fields = there 10 in
-    let tags : p .tags ≡ q .tags = there 11 in
-    λ i. record { «module» = modules i; functions = functions i; locals = locals i; types = types i; fields = fields i; tags = tags i }
-
-pub placed-same : {kindOf : ℕ → AnyKind} {p : Places} {id : ℕ} {part : Cursor} (a b : Places) → Puts kindOf p id part a → Puts kindOf p id part b → a ≡ b
-unfolding placedAt
-placed-same a b p q = same-places a b (λ id. ap (λ t. orAbsent (lookup id t)) (p .says ∙ sym (q .says)))
-
-accepts-same : {kindOf : ℕ → AnyKind} {s : List ℕ} {at : ℕ} {bs : List ℕ} (p q : Places) → Accepts kindOf s at bs p → Accepts kindOf s at bs q → p ≡ q
-accepts-same {kindOf} {s} p q a b =
-    let one : a .lying ≡ b .lying = accepted-is (sym (a .framed) ∙ b .framed) in
-    same-places p q (λ id. stands-same (placedAt p id) (placedAt q id) (rw one at (a .all-stand id)) (b .all-stand id))
-
-pub judge-same : (kindOf : ℕ → AnyKind) (s : List ℕ) (at : ℕ) (bs : List ℕ) (a b : Judged) → Judges kindOf s at bs a → Judges kindOf s at bs b → a ≡ b
-judge-same kindOf s at bs (Accepted p) (Accepted q) i j = ap Accepted (accepts-same p q (i .says) (j .says))
-judge-same kindOf s at bs (Accepted p) (Refused r) i j = absurd (not-accepted (sym (j .says) ∙ i .says .judged))
-judge-same kindOf s at bs (Refused r) (Accepted q) i j = absurd (not-accepted (sym (i .says) ∙ j .says .judged))
-judge-same kindOf s at bs (Refused r) (Refused t) i j = ap Refused (same-judgement (sym (i .says) ∙ j .says))
+pub put-same : {kindOf : ℕ → AnyKind} {p : List ℕ} {id : ℕ} {part : Cursor} (a b : List ℕ) → Puts kindOf p id part a → Puts kindOf p id part b → a ≡ b
+put-same a b p q = p .says ∙ sym (q .says)
 
 -- the kind that is meant, as the code has it
 kindOf : AnyKind → Kind

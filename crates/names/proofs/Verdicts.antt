@@ -2,16 +2,28 @@
 use Prim.Native.Nat.{ℕ}
 use mathlib.Core.List.{List}
 use mathlib.Core.Path.{_≡_}
-use Rattle.format.specs.Reading.{verdict}
+use native.Mathlib.Omega.{arith}
+use denote.Enum.Declared.{tagOf}
+use Rattle.format.specs.Reading.{refused, verdict}
+use Rattle.format.specs.Refusals.{numberOf}
 use Rattle.format.specs.Names.{Kind, judgeNames}
-use Rattle.format.specs.Verdicts.{verdictOf}
-use Rattle.names.specs.Places.{judgesTo, Judges, verdictIn}
-use Rattle.names.specs.declared.judging.Judged.{Judged}
-use Rattle.names.specs.declared.judging.Judged.the-variants.{Accepted, Refused}
+use Rattle.format.specs.Verdicts.{verdictOf, refusalIn}
+use Rattle.format.specs.declared.Verdict.{Verdict}
+use Rattle.format.specs.declared.Verdict.the-variants.{Accepted, Refused}
+use Rattle.format.proofs.Verdict as verdict-type
+use Rattle.names.specs.Places.{judgesTo, Judges}
 
-says : (kindOf : ℕ → Kind) (s : List ℕ) (at : ℕ) (bs : List ℕ) (j : Judged) → judgesTo kindOf s at bs j → verdictOf (verdictIn j) ≡ verdict (judgeNames kindOf at bs)
-says kindOf s at bs (Accepted p) h = rw (h .judged)
-says kindOf s at bs (Refused r) h = rw h
+says : (kindOf : ℕ → Kind) (s : List ℕ) (at : ℕ) (bs p : List ℕ) (v : Verdict) → judgesTo kindOf s at bs v p → verdictOf v ≡ verdict (judgeNames kindOf at bs)
+says kindOf s at bs p Accepted h = rw (h .judged)
+says kindOf s at bs p (Refused r) h = rw h
 
-pub verdict-is : (kindOf : ℕ → Kind) (s : List ℕ) (at : ℕ) (bs : List ℕ) (j : Judged) → Judges kindOf s at bs j → verdictOf (verdictIn j) ≡ verdict (judgeNames kindOf at bs)
-verdict-is kindOf s at bs j h = says kindOf s at bs j (h .says)
+says-refused : (kindOf : ℕ → Kind) (s : List ℕ) (at : ℕ) (bs p : List ℕ) (v : Verdict) → judgesTo kindOf s at bs v p → tagOf verdict-type.the-type v ≡ 1 → judgeNames kindOf at bs ≡ refused (numberOf (refusalIn v .reason)) (refusalIn v .offset .0)
+says-refused kindOf s at bs p Accepted h t = absurd (omega arith)
+says-refused kindOf s at bs p (Refused r) h t = h
+
+module _ {kindOf : ℕ → Kind} {s : List ℕ} {at : ℕ} {bs p : List ℕ} (v : Verdict) (judges : Judges kindOf s at bs v p) where
+  pub verdict-is : verdictOf v ≡ verdict (judgeNames kindOf at bs)
+  verdict-is = says kindOf s at bs p v (judges .says)
+
+  pub refused-so : tagOf verdict-type.the-type v ≡ 1 → judgeNames kindOf at bs ≡ refused (numberOf (refusalIn v .reason)) (refusalIn v .offset .0)
+  refused-so t = says-refused kindOf s at bs p v (judges .says) t

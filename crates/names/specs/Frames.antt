@@ -69,6 +69,7 @@ frameOutcome s c (Refused r) = refusalOf r
 -- it lies inside, and the reading goes on behind it
 pub record Forward (least : ℕ) (s : List ℕ) (c : Cursor) (id : ℕ) (part next : Cursor) : Type 0 where
   pub above : least ≤ id
+  pub behind : c .at < part .at
   pub in-part : Inside s part
   pub in-rest : Inside s next
   pub moves : c .at < next .at

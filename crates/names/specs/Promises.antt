@@ -3,30 +3,31 @@ use Prim.Native.Nat.{ℕ, _+_}
 use mathlib.Core.Bool.{Bool}
 use mathlib.Core.List.{List}
 use mathlib.Core.Path.{_≡_}
-use Rattle.format.specs.Names.{oneName, nameMap, indirectMap, kept, knownKind}
+use Rattle.format.specs.Names.{oneName, nameMap, indirectMap, kept, kindIn, judgeNames}
 use Rattle.format.specs.Questions.{askAt, ask, asPlace, asBytes, startOf, answered}
+use Rattle.format.specs.Reading.{verdict}
 use Rattle.format.specs.Telling.{namesAreCanonical}
+use Rattle.format.specs.Verdicts.{verdictOf}
+use Rattle.format.specs.declared.Edition.{Edition}
 use Rattle.format.specs.declared.Question.{Question}
 use Rattle.format.specs.declared.Query.the-variants.{ItsName, ItsContents, NameOf, NameWithin}
 use Rattle.format.specs.declared.Answer.{Answer}
 use Rattle.format.specs.declared.Verdict.{Verdict}
 use Rattle.names.specs.Contents.{kindMeant, Asks, Rules}
 use Rattle.names.specs.Frames.{frame, subsection, FrameReads}
-use Rattle.names.specs.Places.{Puts, placedAt, AsksAt, Judges, verdictIn, Finds}
+use Rattle.names.specs.Places.{Puts, placedAt, AsksAt, Finds}
 use Rattle.names.specs.declared.frames.FrameRead.{FrameRead}
-use Rattle.names.specs.declared.judging.Judged.{Judged}
 use Rattle.names.specs.declared.kinds.Kind.{Kind}
-use Rattle.names.specs.declared.places.Places.{Places}
 use Rattle.tables.specs.declared.Held.{Held}
 use Rattle.reading.specs.Cursors.{left}
 use Rattle.reading.specs.declared.Cursor.{Cursor}
 
 -- names
-abbrev pub names-ask : (p : List ℕ) (q : Question) → Answer → Type 0
-names-ask p q r = answered r ≡ asPlace (ask knownKind q p)
+abbrev pub names-ask : (p : List ℕ) (edition : Edition) (q : Question) → Answer → Type 0
+names-ask p edition q r = answered r ≡ asPlace (ask (kindIn edition) q p)
 
-abbrev pub names-ask-bytes : (p : List ℕ) (lent-at : ℕ × ℕ) (q : Question) → (ℕ × ℕ) → List ℕ → Type 0
-names-ask-bytes p lent-at q begins bytes = (bytes ≡ asBytes (ask knownKind q p)) × (begins ≡ (lent-at .0, startOf (ask knownKind q p) + lent-at .1))
+abbrev pub names-ask-bytes : (p : List ℕ) (lent-at : ℕ × ℕ) (edition : Edition) (q : Question) → (ℕ × ℕ) → List ℕ → Type 0
+names-ask-bytes p lent-at edition q begins bytes = (bytes ≡ asBytes (ask (kindIn edition) q p)) × (begins ≡ (lent-at .0, startOf (ask (kindIn edition) q p) + lent-at .1))
 
 -- names::asking
 abbrev pub names-the-name : (s : List ℕ) (place : Held) → Answer → Type 0
@@ -52,37 +53,31 @@ names-content s part kind r = Rules (kindMeant kind) s part r
 abbrev pub names-frame : (s : List ℕ) (c : Cursor) (least : ℕ) → FrameRead → Type 0
 names-frame s c least r = FrameReads frame least s c r
 
-abbrev pub names-subsection : (s : List ℕ) (c : Cursor) (least : ℕ) → FrameRead → Type 0
-names-subsection s c least r = FrameReads (subsection knownKind) least s c r
+abbrev pub names-subsection : (s : List ℕ) (c : Cursor) (edition : Edition) (least : ℕ) → FrameRead → Type 0
+names-subsection s c edition least r = FrameReads (subsection (kindIn edition)) least s c r
 
 -- names::judging
-abbrev pub names-judged-verdict : (self : Judged) → Verdict → Type 0
-names-judged-verdict self r = r ≡ verdictIn self
-
-abbrev pub names-judge-in : (s : List ℕ) (c : Cursor) → Judged → Type 0
-names-judge-in s c r = Judges knownKind s (c .at) (left s c) r
-
-abbrev pub names-judge : (p : List ℕ) → Judged → Type 0
-names-judge p r = Judges knownKind p 0 p r
+abbrev pub names-judge : (p : List ℕ) (edition : Edition) → Verdict → Type 0
+names-judge p edition r = verdictOf r ≡ verdict (judgeNames (kindIn edition) 0 p)
 
 abbrev pub names-find : (s : List ℕ) (c : Cursor) (id : ℕ) → Held → Type 0
 names-find s c id r = Finds s (c .at) (left s c) id r
 
 -- names::kinds
-abbrev pub names-kind-of : (id : ℕ) → Kind → Type 0
-names-kind-of id r = kindMeant r ≡ knownKind id
+abbrev pub names-kind-of : (edition : Edition) (id : ℕ) → Kind → Type 0
+names-kind-of edition id r = kindMeant r ≡ kindIn edition id
 
 -- names::places
-abbrev pub names-placed : (places : Places) (id : ℕ) (part : Cursor) → Places → Type 0
-names-placed places id part r = Puts knownKind places id part r
+abbrev pub names-put-place : (old : List ℕ) (edition : Edition) (id : ℕ) (part : Cursor) → List ℕ → Type 0
+names-put-place old edition id part new = Puts (kindIn edition) old id part new
 
-abbrev pub names-place-of : (places : Places) (id : ℕ) → Held → Type 0
+abbrev pub names-place-of : (places : List ℕ) (id : ℕ) → Held → Type 0
 names-place-of places id r = r ≡ placedAt places id
 
 -- names::telling
-abbrev pub names-is-canonical : (p : List ℕ) → Bool → Type 0
-names-is-canonical p r = r ≡ namesAreCanonical knownKind p
+abbrev pub names-is-canonical : (p : List ℕ) (edition : Edition) → Bool → Type 0
+names-is-canonical p edition r = r ≡ namesAreCanonical (kindIn edition) p
 
 -- names::within
-abbrev pub names-ask-in : (s : List ℕ) (c : Cursor) (q : Question) → Answer → Type 0
-names-ask-in s c q r = answered r ≡ asPlace (askAt knownKind q (c .at) (left s c))
+abbrev pub names-ask-in : (s : List ℕ) (c : Cursor) (edition : Edition) (q : Question) → Answer → Type 0
+names-ask-in s c edition q r = answered r ≡ asPlace (askAt (kindIn edition) q (c .at) (left s c))

@@ -4,6 +4,7 @@ ghost use Rattle.names.specs.Promises.{names-frame, names-subsection};
 use crate::contents::content;
 use crate::kinds::kind_of;
 use format::Answer;
+use format::Edition;
 use format::Offset;
 use format::Reason;
 use format::Refusal;
@@ -44,14 +45,14 @@ pub fn frame(s: &[u8], c: Cursor, least: u32) -> FrameRead
 }
 
 // The same, with its contents judged by its id.
-pub fn subsection(s: &[u8], c: Cursor, least: u32) -> FrameRead
+pub fn subsection(s: &[u8], c: Cursor, edition: Edition, least: u32) -> FrameRead
     requires { ⌜ Inside (now s) c ⌝ }
-    ensures { λ r. ⌜ names-subsection (now (s .entry)) c least r ⌝ }
+    ensures { λ r. ⌜ names-subsection (now (s .entry)) c edition least r ⌝ }
 {
     match frame(s, c, least) {
         FrameRead::Refused(r) => FrameRead::Refused(r),
         FrameRead::End => FrameRead::End,
-        FrameRead::Frame(id, part, next, shortest) => match content(s, part, kind_of(id)) {
+        FrameRead::Frame(id, part, next, shortest) => match content(s, part, kind_of(edition, id)) {
             Answer::Refused(r) => FrameRead::Refused(r),
             _ => FrameRead::Frame(id, part, next, shortest),
         },

@@ -1,73 +1,21 @@
 // Judges a name payload, whole and left to right.
 ghost use Rattle.reading.specs.Cursors.{Inside};
-ghost use Rattle.names.specs.Promises.{names-judged-verdict, names-judge-in, names-judge, names-find};
+ghost use Rattle.names.specs.Promises.{names-judge, names-find};
 use crate::frames::FrameRead;
 use crate::frames::frame;
-use crate::frames::subsection;
-use crate::places::Places;
-use crate::places::placed;
-use format::Refusal;
+use crate::judge_in;
+use crate::places::PLACES;
+use format::Edition;
 use format::Verdict;
 use reading::Cursor;
 use tables::Held;
 
-// What judging a payload comes to: where its known subsections lie, or its refusal.
-pub enum Judged {
-    Accepted(Places),
-    Refused(Refusal),
-}
-
-impl Judged {
-    // The verdict alone.
-    pub fn verdict(self) -> Verdict
-        ensures { λ r. ⌜ names-judged-verdict self r ⌝ }
-    {
-        match self {
-            Judged::Accepted(_) => Verdict::Accepted,
-            Judged::Refused(r) => Verdict::Refused(r),
-        }
-    }
-}
-
-const NOWHERE: Places = Places {
-    module: Held::Nothing,
-    functions: Held::Nothing,
-    locals: Held::Nothing,
-    types: Held::Nothing,
-    fields: Held::Nothing,
-    tags: Held::Nothing,
-};
-
-// A payload that lies in what was lent.
-pub fn judge_in(s: &[u8], c: Cursor) -> Judged
-    requires { ⌜ Inside (now s) c ⌝ }
-    ensures { λ r. ⌜ names-judge-in (now (s .entry)) c r ⌝ }
-{
-    let mut next = c;
-    let mut least: u32 = 0;
-    let mut places = NOWHERE;
-    loop {
-        match subsection(s, next, least) {
-            FrameRead::Refused(r) => {
-                return Judged::Refused(r);
-            }
-            FrameRead::End => {
-                return Judged::Accepted(places);
-            }
-            FrameRead::Frame(id, part, after, _) => {
-                places = placed(places, id, part);
-                next = after;
-                least = (id as u32) + 1;
-            }
-        }
-    }
-}
-
 // A payload that is all that was lent.
-pub fn judge(p: &[u8]) -> Judged
-    ensures { λ r. ⌜ names-judge (now (p .entry)) r ⌝ }
+pub fn judge(p: &[u8], edition: Edition) -> Verdict
+    ensures { λ r. ⌜ names-judge (now (p .entry)) edition r ⌝ }
 {
-    judge_in(p, Cursor::over(p))
+    let mut places = [0; PLACES];
+    judge_in(p, Cursor::over(p), edition, &mut places)
 }
 
 // Where the subsection with an id lies in an accepted payload.

@@ -1,68 +1,43 @@
-// Where the known subsections lie.
-ghost use Rattle.names.specs.Promises.{names-placed, names-place-of};
-use format::FIELD_NAMES;
-use format::FUNCTION_NAMES;
-use format::LOCAL_NAMES;
-use format::MODULE_NAME;
-use format::TAG_NAMES;
-use format::TYPE_NAMES;
+// Where the known subsections lie: a record of numbers, so that each is put where it belongs and nothing is copied.
+ghost use Rattle.names.specs.Promises.{names-put-place, names-place-of};
+use crate::kinds::Kind;
+use crate::kinds::kind_of;
+use format::Edition;
 use reading::Cursor;
 use tables::Held;
 
-pub struct Places {
-    pub module: Held,
-    pub functions: Held,
-    pub locals: Held,
-    pub types: Held,
-    pub fields: Held,
-    pub tags: Held,
-}
+// The ids that an edition knows are below this.
+const IDS: usize = 12;
 
-// The places with that of one more id, if it is a known one.
-pub fn placed(places: Places, id: u8, part: Cursor) -> Places
-    ensures { λ r. ⌜ names-placed places id part r ⌝ }
+// For each id where its contents begin, and IDS further on where they end; 0 where there are none.
+pub const PLACES: usize = 24;
+
+// Puts the place of an id in, if an edition knows it.
+pub fn put_place(places: &mut [usize; PLACES], edition: Edition, id: u8, part: Cursor)
+    ensures { λ _. ⌜ names-put-place (now (places .entry)) edition id part (now (places .exit)) ⌝ }
 {
-    let here = Held::Part(part);
-    match id {
-        MODULE_NAME => Places {
-            module: here,
-            ..places
-        },
-        FUNCTION_NAMES => Places {
-            functions: here,
-            ..places
-        },
-        LOCAL_NAMES => Places {
-            locals: here,
-            ..places
-        },
-        TYPE_NAMES => Places {
-            types: here,
-            ..places
-        },
-        FIELD_NAMES => Places {
-            fields: here,
-            ..places
-        },
-        TAG_NAMES => Places {
-            tags: here,
-            ..places
-        },
-        _ => places,
+    match kind_of(edition, id) {
+        Kind::Kept => {}
+        _ => {
+            let begins = id as usize;
+            places[begins] = part.at;
+            places[IDS + begins] = part.end;
+        }
     }
 }
 
-// The place of an id.
-pub fn place_of(places: Places, id: u8) -> Held
-    ensures { λ r. ⌜ names-place-of places id r ⌝ }
+// The place of an id. No contents begin at 0, where at least an id stands before them.
+pub fn place_of(places: &[usize; PLACES], id: u8) -> Held
+    ensures { λ r. ⌜ names-place-of (now (places .entry)) id r ⌝ }
 {
-    match id {
-        MODULE_NAME => places.module,
-        FUNCTION_NAMES => places.functions,
-        LOCAL_NAMES => places.locals,
-        TYPE_NAMES => places.types,
-        FIELD_NAMES => places.fields,
-        TAG_NAMES => places.tags,
-        _ => Held::Nothing,
+    let begins = id as usize;
+    if IDS <= begins {
+        return Held::Nothing;
     }
+    let at = places[begins];
+    if at == 0 {
+        return Held::Nothing;
+    }
+    let end = places[IDS + begins];
+    Held::Part(Cursor { at, end })
 }

@@ -1,6 +1,6 @@
 // Judges a name payload and tells, in the same pass, whether it stands as its canonical rewriting would.
 ghost use mathlib.Core.Path.{_≡_};
-ghost use Rattle.format.specs.Names.{knownKind, payload};
+ghost use Rattle.format.specs.Names.{kindIn, payload};
 ghost use Rattle.format.specs.Parts.{name};
 ghost use Rattle.format.specs.Forms.{isYes, told, partForm, payloadForm};
 ghost use Rattle.reading.specs.Cursors.{Inside, left};
@@ -12,6 +12,7 @@ use crate::frames::FrameRead;
 use crate::frames::frame;
 use crate::kinds::Kind;
 use crate::kinds::kind_of;
+use format::Edition;
 use reading::Cursor;
 use reading::PartRead;
 use tables::Item;
@@ -50,9 +51,9 @@ fn is_tidy(s: &[u8], part: Cursor, kind: Kind) -> bool
 }
 
 // A payload that lies in what was lent.
-fn is_canonical_in(s: &[u8], c: Cursor) -> bool
+fn is_canonical_in(s: &[u8], c: Cursor, edition: Edition) -> bool
     requires { ⌜ Inside (now s) c ⌝ }
-    ensures { λ r. ⌜ r ≡ isYes (told payloadForm (left (now (s .entry)) c) (payload knownKind (c .at) (left (now (s .entry)) c))) ⌝ }
+    ensures { λ r. ⌜ r ≡ isYes (told payloadForm (left (now (s .entry)) c) (payload (kindIn edition) (c .at) (left (now (s .entry)) c))) ⌝ }
 {
     let mut next = c;
     let mut least: u32 = 0;
@@ -66,7 +67,7 @@ fn is_canonical_in(s: &[u8], c: Cursor) -> bool
             }
             FrameRead::Frame(id, part, after, shortest) => {
                 if shortest {
-                    if is_tidy(s, part, kind_of(id)) {
+                    if is_tidy(s, part, kind_of(edition, id)) {
                         next = after;
                         least = (id as u32) + 1;
                     } else {
@@ -81,8 +82,8 @@ fn is_canonical_in(s: &[u8], c: Cursor) -> bool
 }
 
 // Whether a payload is accepted and equals its canonical rewriting.
-pub fn is_canonical(p: &[u8]) -> bool
-    ensures { λ r. ⌜ names-is-canonical (now (p .entry)) r ⌝ }
+pub fn is_canonical(p: &[u8], edition: Edition) -> bool
+    ensures { λ r. ⌜ names-is-canonical (now (p .entry)) edition r ⌝ }
 {
-    is_canonical_in(p, Cursor::over(p))
+    is_canonical_in(p, Cursor::over(p), edition)
 }

@@ -11,13 +11,13 @@ use Rattle.format.specs.Bytes.{ascii, same}
 use Rattle.format.specs.Canonical.{writePart}
 use Rattle.format.specs.Examples.{hex, digit}
 use Rattle.format.specs.Metadata.{hintOf, anyItem, hintItem, metadata, judgeMetadata, itemAt, askMetadata, hintIn, askHint, hintAnswered}
-use Rattle.format.specs.Names.{known, knownKind, contents, subsections, payload, judgeNames}
+use Rattle.format.specs.Names.{known, knownKind, wider, widerKind, contents, subsections, payload, judgeNames}
 use Rattle.format.specs.Numbers.{number, groups, shortest, fewest}
 use Rattle.format.specs.Options.{mapSome}
 use Rattle.format.specs.Parts.{Part, sized, name, remaining}
 use Rattle.format.specs.Questions.{answer, asked, idOf, queryOf, askAt, ask, asPlace, answered}
 use Rattle.format.specs.declared.Question.{Question}
-use Rattle.format.specs.declared.Question.the-variants.{ModuleName, FunctionName, TypeName, TagName, LocalName, FieldName, KeptContents}
+use Rattle.format.specs.declared.Question.the-variants.{ModuleName, FunctionName, LocalName, LabelName, TypeName, TableName, MemoryName, GlobalName, ElementName, DataName, FieldName, TagName, KeptContents}
 use Rattle.format.specs.Reading.{Judged, accepted, refused}
 use Rattle.format.specs.Tables.{lookup, rows, table}
 use Rattle.format.specs.Text.{utf8, characters, character, completes}
@@ -115,8 +115,9 @@ pub record Tried : Type 0 where
   pub bad : Refusing String
   pub worse : Refusing String
 
-abbrev pub tried : List Tried
-tried =
+-- those of both editions
+abbrev pub tried-in-both : List Tried
+tried-in-both =
     record {
       question = ModuleName;
       at = 3;
@@ -177,6 +178,11 @@ tried =
       bad = refuses "0A 0B 02 03 01 00 01 78 03 01 00 01 79" 11 8;
       worse = refuses "0A 0B 02 03 01 00 01 78 04 01 00 01 FF" 4 12;
     } ∷
+    []
+
+-- the first edition's, with contents that it keeps
+abbrev pub tried : List Tried
+tried = tried-in-both ++ (
     record {
       question = KeptContents 3;
       at = 2;
@@ -187,7 +193,82 @@ tried =
       bad = refuses "03 01 FF 03 00" 9 3;
       worse = refuses "03 02 FF" 2 1;
     } ∷
-    []
+    [])
+
+-- the wider edition's, with its six
+abbrev pub wide-tried : List Tried
+wide-tried = tried-in-both ++ (
+    record {
+      question = LabelName (record { 0 = 3 }) (record { 0 = 0 });
+      at = 7;
+      empty = "03 05 01 03 01 00 00";
+      one = "03 06 01 03 01 00 01 78";
+      padded = "03 07 01 03 01 00 81 00 78";
+      byte = 0x78;
+      bad = refuses "03 0B 02 03 01 00 01 78 03 01 00 01 79" 11 8;
+      worse = refuses "03 0B 02 03 01 00 01 78 04 01 00 01 FF" 4 12;
+    } ∷
+    record {
+      question = TableName (record { 0 = 7 });
+      at = 5;
+      empty = "05 03 01 07 00";
+      one = "05 04 01 07 01 61";
+      padded = "05 05 01 07 81 00 61";
+      byte = 0x61;
+      bad = refuses "05 07 02 07 01 61 07 01 62" 11 6;
+      worse = refuses "05 07 02 07 01 61 08 01 FF" 4 8;
+    } ∷
+    record {
+      question = MemoryName (record { 0 = 7 });
+      at = 5;
+      empty = "06 03 01 07 00";
+      one = "06 04 01 07 01 61";
+      padded = "06 05 01 07 81 00 61";
+      byte = 0x61;
+      bad = refuses "06 07 02 07 01 61 07 01 62" 11 6;
+      worse = refuses "06 07 02 07 01 61 08 01 FF" 4 8;
+    } ∷
+    record {
+      question = GlobalName (record { 0 = 7 });
+      at = 5;
+      empty = "07 03 01 07 00";
+      one = "07 04 01 07 01 61";
+      padded = "07 05 01 07 81 00 61";
+      byte = 0x61;
+      bad = refuses "07 07 02 07 01 61 07 01 62" 11 6;
+      worse = refuses "07 07 02 07 01 61 08 01 FF" 4 8;
+    } ∷
+    record {
+      question = ElementName (record { 0 = 7 });
+      at = 5;
+      empty = "08 03 01 07 00";
+      one = "08 04 01 07 01 61";
+      padded = "08 05 01 07 81 00 61";
+      byte = 0x61;
+      bad = refuses "08 07 02 07 01 61 07 01 62" 11 6;
+      worse = refuses "08 07 02 07 01 61 08 01 FF" 4 8;
+    } ∷
+    record {
+      question = DataName (record { 0 = 7 });
+      at = 5;
+      empty = "09 03 01 07 00";
+      one = "09 04 01 07 01 61";
+      padded = "09 05 01 07 81 00 61";
+      byte = 0x61;
+      bad = refuses "09 07 02 07 01 61 07 01 62" 11 6;
+      worse = refuses "09 07 02 07 01 61 08 01 FF" 4 8;
+    } ∷
+    record {
+      question = KeptContents 12;
+      at = 2;
+      empty = "0C 00";
+      one = "0C 01 FF";
+      padded = "0C 81 00 FF";
+      byte = 0xFF;
+      bad = refuses "0C 01 FF 0C 00" 9 3;
+      worse = refuses "0C 02 FF" 2 1;
+    } ∷
+    [])
 
 -- What is demanded of each question of a table, and that the table shows it
 pub data Each (Demanded : Question → Type 0) : List Tried → Type 0 where
@@ -232,6 +313,10 @@ pub name-questions : Each (Asked (ask knownKind) hex 0) tried
 unfolding hex digit number groups utf8 characters character completes sized name remaining lookup rows table known knownKind contents subsections payload judgeNames answer asked askAt ask asPlace
 name-questions = each-asked (ask knownKind) hex 0 tried refl refl
 
+pub wide-name-questions : Each (Asked (ask widerKind) hex 0) wide-tried
+unfolding hex digit number groups utf8 characters character completes sized name remaining lookup rows table wider widerKind contents subsections payload judgeNames answer asked askAt ask asPlace
+wide-name-questions = each-asked (ask widerKind) hex 0 wide-tried refl refl
+
 -- The same through a module whose only section is `name`, with the payload from offset 15 on
 unfoldable pub withNames : String → List ℕ
 withNames s = preamble ++ (0 ∷ writePart (writePart nameSection ++ hex s))
@@ -239,6 +324,10 @@ withNames s = preamble ++ (0 ∷ writePart (writePart nameSection ++ hex s))
 pub name-questions-through : Each (Asked (askThrough knownKind) withNames 15) tried
 unfolding withNames writePart shortest fewest ascii same preamble begins greatestId isCustom isCode isData rank custom isCalled nameSection hintSection nothing seeing idRules nameRules section sections framing walk payloadOf payloadIn customPayload through askThrough hex digit number groups utf8 characters character completes sized name remaining lookup rows table known knownKind contents subsections payload judgeNames answer asked askAt asPlace
 name-questions-through = each-asked (askThrough knownKind) withNames 15 tried refl refl
+
+pub wide-name-questions-through : Each (Asked (askThrough widerKind) withNames 15) wide-tried
+unfolding withNames writePart shortest fewest ascii same preamble begins greatestId isCustom isCode isData rank custom isCalled nameSection hintSection nothing seeing idRules nameRules section sections framing walk payloadOf payloadIn customPayload through askThrough hex digit number groups utf8 characters character completes sized name remaining lookup rows table wider widerKind contents subsections payload judgeNames answer asked askAt asPlace
+wide-name-questions-through = each-asked (askThrough widerKind) withNames 15 wide-tried refl refl
 
 -- The question for code metadata: the second function, or the second item, is damaged. Through a module it is put to `metadata.code.x`, whose payload begins at 26
 unfoldable pub withData : String → List ℕ

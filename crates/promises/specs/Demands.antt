@@ -18,16 +18,16 @@ use Rattle.format.specs.Through.{metadataSection}
 -- WHAT COMES BACK. Each call answers with a record of four numbers: `kind` (0 none, 1 found, 2 refused, 3 unlikely, 4 likely), `code`, `offset` and `length`. `wmNone` is four times 0; `wmFound code offset length` is the answer of kind 1 with these; `wmRefused n at` is the answer of kind 2 with the refusal's number n as its code, its offset `at` and the length 0.
 use Rattle.wakemiono.specs.declared.WmAnswer.{WmAnswer}
 use Rattle.wakemiono.specs.Boundary.{wmNone, wmFound, wmRefused}
--- WHAT THE RULES REFUSE, each with its number and its offset, as the rules are written down in `crates/format/specs`, one file a topic: `Judged A` is `accepted v`, with what was read, or `refused number offset`. `judgeModule m` judges a module, `judgeNames knownKind at p` a name payload that begins at an offset of what was lent, `judgeMetadata anyItem at p` metadata of any format, and `judgeMetadata hintItem at p` branch hints; `itemOf format` is `hintItem` for the format branch_hint and else `anyItem`. Of what was read, `rewriteNames` and `rewriteMetadata` are the bytes of the canonical rewriting.
+-- WHAT THE RULES REFUSE, each with its number and its offset, as the rules are written down in `crates/format/specs`, one file a topic: `Judged A` is `accepted v`, with what was read, or `refused number offset`. `judgeModule m` judges a module, `judgeNames knownKind at p` a name payload that begins at an offset of what was lent, `judgeNames widerKind at p` one by the wider edition, `judgeMetadata anyItem at p` metadata of any format, and `judgeMetadata hintItem at p` branch hints; `itemOf format` is `hintItem` for the format branch_hint and else `anyItem`. Of what was read, `rewriteNames` and `rewriteMetadata` are the bytes of the canonical rewriting.
 use Rattle.format.specs.Reading.{Judged, accepted, refused}
 use Rattle.format.specs.Walk.{walk as judgeModule}
-use Rattle.format.specs.Names.{knownKind, judgeNames}
+use Rattle.format.specs.Names.{knownKind, widerKind, judgeNames}
 use Rattle.format.specs.Metadata.{anyItem, hintItem, judgeMetadata}
 use Rattle.format.specs.Through.{itemOf}
 use Rattle.format.specs.Canonical.{rewriteNames, rewriteMetadata}
--- WHAT THE RULES ACCEPT. The sources' grammar, written down in the crate `grammar` line by line, apart from the library's readers: `NamePayload SourceIds p m`, `CodeMetadata Unknown p m`, `CodeMetadata BranchHint p m` and `Module p m` say that the bytes p are a name payload, code metadata, branch hints or a module, and mean m. `U32 bs n`: the bytes bs are the number n in LEB128. `Grammar A` are the grammars with meanings in A.
+-- WHAT THE RULES ACCEPT. The sources' grammar, written down in the crate `grammar` line by line, apart from the library's readers: `NamePayload SourceIds p m`, in the wider edition `NamePayload WiderIds p m`, `CodeMetadata Unknown p m`, `CodeMetadata BranchHint p m` and `Module p m` say that the bytes p are a name payload, code metadata, branch hints or a module, and mean m. `U32 bs n`: the bytes bs are the number n in LEB128. `Grammar A` are the grammars with meanings in A.
 use Rattle.grammar.specs.Numbers.{Grammar, U32}
-use Rattle.grammar.specs.Names.{SourceIds, NamePayload}
+use Rattle.grammar.specs.Names.{SourceIds, WiderIds, NamePayload}
 use Rattle.grammar.specs.Metadata.{CodeMetadata, Unknown, BranchHint}
 use Rattle.grammar.specs.Modules.{Module}
 -- WHAT IT MEANS. Metadata means a table of functions, each with a table of data by offset. A name payload means a table of subsections by id, each with what it holds: `single x` one name, `names t` a table of names by index, `namesBy t` a table of tables, `whole x` contents that are kept. `Has k v t`: the table t has a row with the number k and the value v, as its first, `Has k v (row k v t)`, or further on, `Has k v (row i w t)` from `Has k v t`.
@@ -40,14 +40,19 @@ use Rattle.grammar.specs.Modules.{Section, Among, Called}
 use Rattle.format.specs.Lists.{Indices, sum}
 use Rattle.grammar.specs.Texts.{Text}
 use Rattle.format.specs.Holding.{Lists}
--- WHAT CAN BE ASKED of a name payload: one question for each call. An index is a record of one number, `k .0`. `InRange q`: each index in q is below 4,294,967,296, and an id below 256.
-use Rattle.format.specs.Questions.{InRange}
+-- WHAT CAN BE ASKED of a name payload: one question for each call. An index is a record of one number, `k .0`. `AllowedBy knownKind q`: the first edition asks q, each index in q is below 4,294,967,296, and an id below 256; `AllowedBy widerKind q`: the wider edition does.
+use Rattle.format.specs.Questions.{AllowedBy}
+use Rattle.format.specs.declared.FunctionIndex.{FunctionIndex}
+use Rattle.format.specs.declared.LocalIndex.{LocalIndex}
+use Rattle.format.specs.declared.TypeIndex.{TypeIndex}
+use Rattle.format.specs.declared.FieldIndex.{FieldIndex}
+use Rattle.format.specs.declared.TagIndex.{TagIndex}
 use Rattle.format.specs.declared.Question.{Question}
-use Rattle.format.specs.declared.Question.the-variants.{ModuleName, FunctionName, TypeName, TagName, LocalName, FieldName, KeptContents}
+use Rattle.format.specs.declared.Question.the-variants.{ModuleName, FunctionName, LocalName, LabelName, TypeName, TableName, MemoryName, GlobalName, ElementName, DataName, FieldName, TagName, KeptContents}
 -- Of metadata and hints: `ItemQuestion` is a function and an offset, each a record of one number; `ItemInRange q` says that both are below 4,294,967,296.
 use Rattle.format.specs.Theorems.{ItemQuestion, ItemInRange}
--- THE CALLS, each by its promise: `wm-walk bytes a` says that the answer a is one that the promise of wm_walk allows for these bytes. It is the promise itself, the one name that stands in the `ensures` of the call in crates/wakemiono/src/lib.rt. What the promises come to is said below, so that nothing has to be known of how they are put. `wm-name q` is the promise of the call that asks q: wm_module_name asks `ModuleName`, wm_function_name `FunctionName` of its function, wm_type_name `TypeName` of its index, wm_tag_name `TagName` of its tag, wm_local_name `LocalName` of its function and its local, wm_field_name `FieldName` of its index and its field, wm_kept `KeptContents` of its id; `wm-name-in q` is that of the same call with `_in`, which is lent a module. The calls that write are promised of the output before and after, too: `old` and `new`.
-use Rattle.wakemiono.specs.Calls.{wm-walk, wm-section, wm-custom, wm-names-judge, wm-name, wm-metadata-judge, wm-metadata, wm-hints-judge, wm-hint, wm-name-in, wm-metadata-in, wm-hint-in, wm-names-canonical, wm-metadata-canonical, wm-hints-canonical, wm-function-names-write, wm-names-is-canonical, wm-metadata-is-canonical, wm-hints-is-canonical}
+-- THE CALLS, each by its promise: `wm-walk bytes a` says that the answer a is one that the promise of wm_walk allows for these bytes. It is the promise itself, the one name that stands in the `ensures` of the call in crates/wakemiono/src/lib.rt. What the promises come to is said below, so that nothing has to be known of how they are put. `wm-name q` is the promise of the call that asks q: wm_module_name asks `ModuleName`, wm_function_name `FunctionName` of its function, wm_type_name `TypeName` of its index, wm_tag_name `TagName` of its tag, wm_local_name `LocalName` of its function and its local, wm_field_name `FieldName` of its index and its field, wm_kept `KeptContents` of its id; `wm-name-in q` is that of the same call with `_in`, which is lent a module. `wm-wide-name q` and `wm-wide-name-in q` are those of the wider edition, wm_wide_module_name and so on, which has six more: wm_wide_label_name asks `LabelName` of its function and its label, wm_wide_table_name `TableName`, wm_wide_memory_name `MemoryName`, wm_wide_global_name `GlobalName`, wm_wide_element_name `ElementName` and wm_wide_data_name `DataName`. The calls that write are promised of the output before and after, too: `old` and `new`.
+use Rattle.wakemiono.specs.Calls.{wm-walk, wm-section, wm-custom, wm-names-judge, wm-name, wm-metadata-judge, wm-metadata, wm-hints-judge, wm-hint, wm-name-in, wm-metadata-in, wm-hint-in, wm-names-canonical, wm-metadata-canonical, wm-hints-canonical, wm-function-names-write, wm-names-is-canonical, wm-metadata-is-canonical, wm-hints-is-canonical, wm-wide-names-judge, wm-wide-name, wm-wide-name-in, wm-wide-names-canonical, wm-wide-names-is-canonical}
 -- THE NUMBER READER of the library, by its promise: from the cursor c over the bytes s it reads the number v, says `told`, and stands at `next`; `left s c` are the bytes from c to the end of the innermost part, and `shortest v` is the shortest form of v. `Inside s c`: the cursor lies in what was lent.
 use Rattle.format.specs.Numbers.{shortest}
 use Rattle.reading.specs.Cursors.{Inside, left}
@@ -213,7 +218,7 @@ FoundIn lent a x = (a .kind ≡ 1) × (a .offset + a .length ≤ length lent) ×
 abbrev pub Tells : List ℕ → (List ℕ → Type 0) → WmAnswer → Type 0
 Tells lent Held a = ((x : List ℕ) → FoundIn lent a x ↔ Held x) × ((a .kind ≡ 0) ↔ ((x : List ℕ) → Held x → ⊥))
 
--- What a name payload of a meaning holds for a question: the name in subsection 0; the name with an index in the maps 1, 4 and 11; the name with an index within another in the maps 2 and 10; the contents of a subsection that is kept
+-- What a name payload of a meaning holds for a question: the name in subsection 0; the name with an index in the maps 1, 4 and 11, and 5 to 9; the name with an index within another in the maps 2 and 10, and 3; the contents of a subsection that is kept
 module _ (m : Table (Content (List ℕ))) (x : List ℕ) where
   abbrev pub HoldsEntry : (id index : ℕ) → Type 0
   HoldsEntry id index = (t : Table (List ℕ)) × Has id (names t) m × Has index x t
@@ -225,7 +230,13 @@ module _ (m : Table (Content (List ℕ))) (x : List ℕ) where
   HoldsName ModuleName = Has 0 (single x) m
   HoldsName (FunctionName k) = HoldsEntry 1 (k .0)
   HoldsName (LocalName k j) = HoldsWithin 2 (k .0) (j .0)
+  HoldsName (LabelName k j) = HoldsWithin 3 (k .0) (j .0)
   HoldsName (TypeName k) = HoldsEntry 4 (k .0)
+  HoldsName (TableName k) = HoldsEntry 5 (k .0)
+  HoldsName (MemoryName k) = HoldsEntry 6 (k .0)
+  HoldsName (GlobalName k) = HoldsEntry 7 (k .0)
+  HoldsName (ElementName k) = HoldsEntry 8 (k .0)
+  HoldsName (DataName k) = HoldsEntry 9 (k .0)
   HoldsName (FieldName k j) = HoldsWithin 10 (k .0) (j .0)
   HoldsName (TagName k) = HoldsEntry 11 (k .0)
   HoldsName (KeptContents id) = Has id (whole x) m
@@ -311,6 +322,12 @@ abbrev pub Listed : (indices lengths text : List ℕ) → Question → List ℕ 
 Listed indices lengths text ModuleName x = ⊥
 Listed indices lengths text (FunctionName k) x = Lists (k .0) x indices lengths text
 Listed indices lengths text (TypeName k) x = ⊥
+Listed indices lengths text (LabelName k j) x = ⊥
+Listed indices lengths text (TableName k) x = ⊥
+Listed indices lengths text (MemoryName k) x = ⊥
+Listed indices lengths text (GlobalName k) x = ⊥
+Listed indices lengths text (ElementName k) x = ⊥
+Listed indices lengths text (DataName k) x = ⊥
 Listed indices lengths text (TagName k) x = ⊥
 Listed indices lengths text (LocalName k j) x = ⊥
 Listed indices lengths text (FieldName k j) x = ⊥
@@ -368,9 +385,9 @@ module _ {Q : Type 0} (judging : List ℕ → WmAnswer → Type 0) (asking : Q �
     -- every accepted payload has one: an output as long as the payload is enough
     pub room-enough : (p old new : List ℕ) (a j : WmAnswer) → judging p j → j .kind ≡ 1 → length p ≤ length old → rewriting p old new a → a .kind ≡ 1
 
--- Allowed is every question that its C call can be given
+-- Allowed is every question that its C call can be given; of names, every question of the first edition
 pub record Demand3 : Type 0 where
-  pub names : Rewrites wm-names-judge wm-name InRange SameAnswer wm-names-canonical
+  pub names : Rewrites wm-names-judge wm-name (AllowedBy knownKind) SameAnswer wm-names-canonical
   pub metadata : Rewrites wm-metadata-judge (λ q. wm-metadata (q .0 .0) (q .1 .0)) ItemInRange SameAnswer wm-metadata-canonical
   -- hints are the same where the whole answers are, none, likely or unlikely
   pub hints : Rewrites wm-hints-judge (λ q. wm-hint (q .0 .0) (q .1 .0)) ItemInRange (λ _ _ a b. a ≡ b) wm-hints-canonical
@@ -391,3 +408,36 @@ pub record K10 : Type 0 where
   pub names : TellsCanonical wm-names-judge wm-names-canonical wm-names-is-canonical
   pub metadata : TellsCanonical wm-metadata-judge wm-metadata-canonical wm-metadata-is-canonical
   pub hints : TellsCanonical wm-hints-judge wm-hints-canonical wm-hints-is-canonical
+
+-- K9. "Toolchains follow the extended name section proposal: ids 3 labels (indirect, by function), 5 tables, 6 memories, 7 globals, 8 element segments, 9 data segments (name maps). We want it as a second edition, the caller choosing, the first unchanged; there these six get questions by index and are none as kept. .. Demand 3 holds within one edition only: an empty map of id 7 is dropped by one and kept by the other. .. Refusals as for the known ids." Proved as `k9` in Proved.antt.
+
+-- The questions that both editions have
+pub data InBoth : Question → Type 0 where
+  theModule : InBoth ModuleName
+  aFunction : (k : FunctionIndex) → InBoth (FunctionName k)
+  aLocal : (k : FunctionIndex) (j : LocalIndex) → InBoth (LocalName k j)
+  aType : (k : TypeIndex) → InBoth (TypeName k)
+  aField : (k : TypeIndex) (j : FieldIndex) → InBoth (FieldName k j)
+  aTag : (k : TagIndex) → InBoth (TagName k)
+
+pub record K9 : Type 0 where
+  -- demand 1 of the wider edition
+  pub names-judge : (payload : List ℕ) (a : WmAnswer) → wm-wide-names-judge payload a → Answers Verdict (RefusedBy (judgeNames widerKind 0 payload)) a
+  pub name : (q : Question) (payload : List ℕ) (a : WmAnswer) → wm-wide-name q payload a → Answers Reply (RefusedBy (judgeNames widerKind 0 payload)) a
+  pub name-in : (q : Question) (bytes : List ℕ) (a : WmAnswer) → wm-wide-name-in q bytes a → Answers Reply (RefusedThrough nameSection (judgeNames widerKind) bytes) a
+  pub names-canonical : (payload : List ℕ) → Writing (RefusedOrShort (judgeNames widerKind 0 payload) (λ t. length (rewriteNames t))) (wm-wide-names-canonical payload)
+  -- demand 2
+  pub names-judged : JudgesExactly wm-wide-names-judge (NamePayload WiderIds)
+  pub names-whole : (p : List ℕ) (a : WmAnswer) → wm-wide-names-judge p a → a .kind ≡ 1 → a ≡ wmFound 0 0 (length p)
+  pub names : AnswersNames WiderIds wm-wide-names-judge wm-wide-name
+  pub through-modules : (q : Question) → PutThrough nameSection (wm-wide-name q) (wm-wide-name-in q)
+  -- demand 3, within the edition; and the yes or no of K10
+  pub rewritten : Rewrites wm-wide-names-judge wm-wide-name (AllowedBy widerKind) SameAnswer wm-wide-names-canonical
+  pub told : TellsCanonical wm-wide-names-judge wm-wide-names-canonical wm-wide-names-is-canonical
+  -- "are none as kept": all twelve ids
+  pub none-kept : (id : ℕ) → id < 12 → (p : List ℕ) (a j : WmAnswer) → wm-wide-names-judge p j → j .kind ≡ 1 → wm-wide-name (KeptContents id) p a → a ≡ wmNone
+  -- "an empty map of id 7 is dropped by one and kept by the other"
+  pub within-one-edition : (old new old′ new′ : List ℕ) (a b : WmAnswer) → wm-wide-names-canonical (7 ∷ 1 ∷ 0 ∷ []) old new a → wm-names-canonical (7 ∷ 1 ∷ 0 ∷ []) old′ new′ b → a .kind ≡ 1 → b .kind ≡ 1 → (take (a .length) new ≡ []) × (take (b .length) new′ ≡ 7 ∷ 1 ∷ 0 ∷ [])
+  -- what the wider edition accepts the first accepts, and what both ask both answer alike
+  pub accepted-by-both : (p : List ℕ) (a b : WmAnswer) → wm-wide-names-judge p a → wm-names-judge p b → a .kind ≡ 1 → b ≡ a
+  pub answered-alike : (q : Question) → InBoth q → (p : List ℕ) (a b j : WmAnswer) → wm-wide-names-judge p j → j .kind ≡ 1 → wm-wide-name q p a → wm-name q p b → b ≡ a

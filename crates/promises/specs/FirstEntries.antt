@@ -1,6 +1,6 @@
 -- The wrong reader that checks a map's first entry and waves the others through. Of each kind of list: a payload whose first entry is fine by itself, and payloads whose second one is not above the first, is not text, or runs past its part. Every result that meets the promise says so of them.
 use Prim.Native.Nat.{ℕ}
-use mathlib.Core.List.{List, [], _∷_, map}
+use mathlib.Core.List.{List, [], _∷_, map, _++_}
 use mathlib.Core.Path.{_≡_, refl, ap, _∙_}
 use lib.ListN.{length}
 use Rattle.wakemiono.specs.Boundary.{WmWrites}
@@ -11,7 +11,7 @@ use Rattle.format.specs.Canonical.{writePart, writeRows, writeTable, unlessEmpt
 use Rattle.format.specs.Bytes.{ascii, same}
 use Rattle.format.specs.Examples.{hex, digit}
 use Rattle.format.specs.Metadata.{hintOf, anyItem, hintItem, metadata, judgeMetadata}
-use Rattle.format.specs.Names.{known, knownKind, contents, subsections, payload, judgeNames}
+use Rattle.format.specs.Names.{known, knownKind, wider, widerKind, contents, subsections, payload, judgeNames}
 use Rattle.format.specs.Numbers.{number, groups, shortest, fewest}
 use Rattle.format.specs.Parts.{sized, name, remaining}
 use Rattle.format.specs.Reading.{Judged, accepted, refused, verdict}
@@ -19,8 +19,6 @@ use Rattle.format.specs.Tables.{lookup, rows, table, size, mapTable}
 use Rattle.format.specs.Text.{utf8, characters, character, completes}
 use Rattle.format.specs.Walk.{preamble, begins, greatestId, isCustom, isCode, isData, rank, custom, isCalled, nameSection, hintSection, nothing, seeing, idRules, nameRules, section, sections, framing, walk, sectionCount}
 use Rattle.format.specs.Verdicts.{verdictOf}
-use Rattle.names.specs.Places.{Judges, verdictIn}
-use Rattle.names.proofs.Verdicts.{verdict-is}
 use Rattle.walk.specs.Surveys.{counted}
 use Rattle.wakemiono.specs.Calls as call
 use Rattle.promises.specs.Answers.{saysVerdict, verdict-said, saysCount, count-said}
@@ -52,11 +50,31 @@ names-computed : map (λ (row : Row (List ℕ) (Judged (Unit {0}))). verdict (ju
 unfolding hex digit number groups utf8 characters character completes sized name remaining lookup rows table known knownKind contents subsections payload judgeNames
 names-computed = refl
 
-pub names-judge : Demanded (λ p r. Judges knownKind p 0 p r) (λ r. verdictOf (verdictIn r)) name-rows
-names-judge = by-table (λ p r meets. verdict-is knownKind p 0 p r meets) name-rows names-computed
+pub names-judge : Demanded (λ p r. verdictOf r ≡ verdict (judgeNames knownKind 0 p)) verdictOf name-rows
+names-judge = by-table (λ p r meets. meets) name-rows names-computed
 
 pub wm-names-judge : Demanded (λ p a. call.wm-names-judge p a) saysVerdict name-rows
 wm-names-judge = by-table (λ p a meets. ap saysVerdict meets ∙ verdict-said (length p) (verdict (judgeNames knownKind 0 p))) name-rows names-computed
+
+-- The same by the wider edition, and its own: tables, memories, globals, segments, and labels as locals
+abbrev pub wide-rows : List (Row (List ℕ) (Judged (Unit {0})))
+wide-rows = name-rows ++ (
+    hex "05 07 02 03 01 62 03 01 61" demands refused 11 6 ∷
+    hex "06 07 02 03 01 62 04 01 FF" demands refused 4 8 ∷
+    hex "07 07 02 03 01 62 04 02 61" demands refused 2 7 ∷
+    hex "08 07 02 03 01 62 03 01 61" demands refused 11 6 ∷
+    hex "09 07 02 03 01 62 03 01 61" demands refused 11 6 ∷
+    hex "03 06 01 03 01 00 01 78" demands accepted tt ∷
+    hex "03 0B 02 03 01 00 01 78 03 01 00 01 79" demands refused 11 8 ∷
+    hex "03 09 01 03 02 00 01 78 00 01 79" demands refused 11 8 ∷
+    [])
+
+wide-computed : map (λ (row : Row (List ℕ) (Judged (Unit {0}))). verdict (judgeNames widerKind 0 (row .input))) wide-rows ≡ map (λ row. row .verdict) wide-rows
+unfolding hex digit number groups utf8 characters character completes sized name remaining lookup rows table wider widerKind contents subsections payload judgeNames
+wide-computed = refl
+
+pub wm-wide-names-judge : Demanded (λ p a. call.wm-wide-names-judge p a) saysVerdict wide-rows
+wm-wide-names-judge = by-table (λ p a meets. ap saysVerdict meets ∙ verdict-said (length p) (verdict (judgeNames widerKind 0 p))) wide-rows wide-computed
 
 -- Code metadata: the second function, and the first function's second item
 abbrev pub metadata-rows : List (Row (List ℕ) (Judged (Unit {0})))
@@ -138,6 +156,10 @@ module _ (wanted : List ℕ → Judged (List ℕ)) (rows : List (Row (List ℕ) 
 pub rewrite-names : RewritesSo (canonicalNames knownKind) name-rows
 unfolding same hex digit number groups shortest fewest utf8 characters character completes sized name remaining lookup size mapTable rows table known knownKind contents subsections payload judgeNames writePart writeRows writeTable unlessEmpty keepRows bare writeContent writeSubsections rewriteNames canonicalNames fitting writeAnswer outputAfter
 rewrite-names = rewrites-so (canonicalNames knownKind) name-rows refl
+
+pub rewrite-wide-names : RewritesSo (canonicalNames widerKind) wide-rows
+unfolding same hex digit number groups shortest fewest utf8 characters character completes sized name remaining lookup size mapTable rows table wider widerKind contents subsections payload judgeNames writePart writeRows writeTable unlessEmpty keepRows bare writeContent writeSubsections rewriteNames canonicalNames fitting writeAnswer outputAfter
+rewrite-wide-names = rewrites-so (canonicalNames widerKind) wide-rows refl
 
 pub rewrite-metadata : RewritesSo canonicalMetadata metadata-rows
 unfolding same hex digit number groups shortest fewest sized size mapTable rows table anyItem metadata judgeMetadata writePart writeRows writeTable unlessEmpty keepRows rewriteMetadata canonicalOf canonicalMetadata fitting writeAnswer outputAfter

@@ -13,7 +13,7 @@ use Rattle.format.specs.Canonical.{writePart}
 use Rattle.format.specs.Examples.{hex, digit}
 use Rattle.format.specs.Laws.Outcomes.{byTest}
 use Rattle.format.specs.Metadata.{anyItem, metadata, judgeMetadata, itemAt, askMetadata}
-use Rattle.format.specs.Names.{known, knownKind, contents, subsections, payload, judgeNames}
+use Rattle.format.specs.Names.{known, knownKind, wider, widerKind, contents, subsections, payload, judgeNames}
 use Rattle.format.specs.Numbers.{number, groups, shortest, fewest}
 use Rattle.format.specs.Parts.{Part, sized, name, remaining}
 use Rattle.format.specs.Questions.{answer, asked, idOf, queryOf, askAt, ask, asBytes, startOf}
@@ -28,7 +28,7 @@ use Rattle.format.specs.declared.Answer.the-variants.{None, Found}
 use Rattle.format.specs.declared.CodeOffset.{CodeOffset}
 use Rattle.format.specs.declared.FunctionIndex.{FunctionIndex}
 use Rattle.reading.specs.Taken.{takenOf, Takes}
-use Rattle.promises.specs.Asking.{Tried, tried, Each, no-more, and-question, withNames, withData}
+use Rattle.promises.specs.Asking.{Tried, tried, wide-tried, Each, no-more, and-question, withNames, withData}
 use Rattle.promises.specs.RuledOut.{RuledOut, by-two-inputs}
 
 -- A question, the bytes that are lent, and where in memory they begin. What comes back is bytes, and where they begin
@@ -77,9 +77,17 @@ pub name-bytes : Each (Hands (ask knownKind) hex 0) tried
 unfolding hex digit number groups utf8 characters character completes sized name remaining lookup rows table known knownKind contents subsections payload judgeNames answer asked askAt ask
 name-bytes = each-hands (ask knownKind) hex 0 tried refl
 
+pub wide-name-bytes : Each (Hands (ask widerKind) hex 0) wide-tried
+unfolding hex digit number groups utf8 characters character completes sized name remaining lookup rows table wider widerKind contents subsections payload judgeNames answer asked askAt ask
+wide-name-bytes = each-hands (ask widerKind) hex 0 wide-tried refl
+
 pub name-bytes-through : Each (Hands (askThrough knownKind) withNames 15) tried
 unfolding withNames writePart shortest fewest ascii same preamble begins greatestId isCustom isCode isData rank custom isCalled nameSection hintSection nothing seeing idRules nameRules section sections framing walk payloadOf payloadIn customPayload through askThrough hex digit number groups utf8 characters character completes sized name remaining lookup rows table known knownKind contents subsections payload judgeNames answer asked askAt ask
 name-bytes-through = each-hands (askThrough knownKind) withNames 15 tried refl
+
+pub wide-name-bytes-through : Each (Hands (askThrough widerKind) withNames 15) wide-tried
+unfolding withNames writePart shortest fewest ascii same preamble begins greatestId isCustom isCode isData rank custom isCalled nameSection hintSection nothing seeing idRules nameRules section sections framing walk payloadOf payloadIn customPayload through askThrough hex digit number groups utf8 characters character completes sized name remaining lookup rows table wider widerKind contents subsections payload judgeNames answer asked askAt ask
+wide-name-bytes-through = each-hands (askThrough widerKind) withNames 15 wide-tried refl
 
 -- The data's bytes, of a payload and through a module
 pub record MetadataBytes : Type 0 where

@@ -1,28 +1,27 @@
 -- Wrong programs in the place of the public functions that the calls stand on: one that gives the same whatever it is given, one that never refuses, one that always does. Each promise rules them out.
-use Prim.Native.Nat.{ℕ}
+use Prim.Native.Nat.{ℕ, _+_}
 use mathlib.Core.Bool.{Bool, true, false, cond, _||_}
 use mathlib.Core.List.{List, [], _∷_}
 use mathlib.Core.Option.{some}
 use mathlib.Core.Path.{_≡_, refl, ap}
 use lib.Dec.{eqb}
-use lib.ListN.{length}
-use Rattle.format.specs.Names.{Kind, oneName, nameMap, indirectMap, kept, known, knownKind}
+use lib.ListN.{length, getD, set}
+use Rattle.format.specs.Names.{Kind, oneName, nameMap, indirectMap, kept, known, knownKind, wider, widerKind, kindIn}
 use Rattle.format.specs.Numbers.{fewest, shortest}
 use Rattle.format.specs.Questions.{idOf}
 use Rattle.format.specs.declared.Question.the-variants.{ModuleName, KeptContents}
 use Rattle.format.specs.Reading.{Outcome, got, stop, Judged, accepted, refused}
 use Rattle.format.specs.Refusals.{numberOf}
-use Rattle.format.specs.Tables.{Table, nil, row, lookup}
+use Rattle.format.specs.Tables.{lookup}
 use Rattle.format.specs.Walk.{greatestId, isCustom, isData, rank, nameRow, isRow, idRules, nameRules}
 use Rattle.format.specs.declared.Reason.the-variants.{NoPreamble, PastItsPart}
 use Rattle.names.specs.Contents.{kindMeant}
-use Rattle.names.specs.Places.{placesOf, placedAt, replaced, unlessKept, Puts, verdictIn}
+use Rattle.names.specs.Places.{placedAt, nowhere, unlessKept, Puts}
 use Rattle.format.specs.Verdicts.{refusalIn}
 use Rattle.format.specs.declared.Verdict.{Verdict}
 use Rattle.format.specs.declared.Verdict.the-variants.{Accepted, Refused}
-use Rattle.names.specs.declared.judging.Judged.{Judged as Judgement}
-use Rattle.names.specs.declared.judging.Judged.the-variants.{Accepted as AcceptedAt, Refused as NotAccepted}
-use Rattle.names.specs.declared.places.Places.{Places}
+use Rattle.format.specs.declared.Edition.{Edition}
+use Rattle.format.specs.declared.Edition.the-variants.{First, Wider}
 use Rattle.tables.specs.Telling.{isFilled}
 use Rattle.tables.specs.declared.telling.Tidy.{Tidy}
 use Rattle.tables.specs.declared.telling.Tidy.the-variants.{Behind}
@@ -72,49 +71,39 @@ isKept nameMap = false
 isKept indirectMap = false
 isKept kept = true
 
-pub kind-of : (kind : Kind) → RuledOut (λ id r. kindMeant r ≡ knownKind id) (λ _ r. kindMeant r ≡ kind)
-unfolding known knownKind lookup
-kind-of kind = by-two-inputs {says = kindMeant} (λ id r meets. meets) (λ k. some k) isKept 3 0 refl refl refl refl kind
+pub kind-of : (edition : Edition) (kind : Kind) → RuledOut (λ id r. kindMeant r ≡ kindIn edition id) (λ _ r. kindMeant r ≡ kind)
+unfolding known knownKind wider widerKind lookup
+kind-of First kind = by-two-inputs {says = kindMeant} (λ id r meets. meets) (λ k. some k) isKept 3 0 refl refl refl refl kind
+kind-of Wider kind = by-two-inputs {says = kindMeant} (λ id r meets. meets) (λ k. some k) isKept 12 0 refl refl refl refl kind
+
+-- names: both editions have one table. Id 7 is kept by the first alone
+pub one-table : (kind : Kind) → RuledOut (λ (edition : Edition) r. kindMeant r ≡ kindIn edition 7) (λ _ r. kindMeant r ≡ kind)
+unfolding known knownKind wider widerKind lookup
+one-table kind = by-two-inputs {says = kindMeant} (λ edition r meets. meets) (λ k. some k) isKept First Wider refl refl refl refl kind
 
 -- names: no place is ever put, or the module's name is put whatever the id
-abbrev nowhere : Places
-nowhere = record { «module» = Absent; functions = Absent; locals = Absent; types = Absent; fields = Absent; tags = Absent }
-
 abbrev front : Cursor
-front = record { at = 0; end = 1 }
+front = record { at = 2; end = 3 }
+
+put-told : Tells (λ (x : List ℕ × ℕ × Cursor) r. Puts knownKind (x .0) (x .1) (x .2) r) (λ r. getD r 0 0) (λ x. getD (unlessKept (knownKind (x .1)) (set (set (x .0) (x .1) (x .2 .at)) (12 + x .1) (x .2 .end)) (x .0)) 0 0)
+put-told x r meets = ap (λ places. getD places 0 0) (meets .says)
+
+pub put-place : (begins : ℕ) → RuledOut (λ (x : List ℕ × ℕ × Cursor) r. Puts knownKind (x .0) (x .1) (x .2) r) (λ _ r. getD r 0 0 ≡ begins)
+unfolding knownKind known lookup
+put-place begins = by-two-inputs put-told (λ n. some n) (eqb 2) (nowhere, 0, front) (nowhere, 1, front) refl refl refl refl begins
 
 abbrev isAt : Held → Bool
 isAt Absent = false
 isAt (At c) = true
 
-abbrev firstOf : Table Held → Held
-firstOf nil = Absent
-firstOf (row i v t) = v
-
-module-put : Tells (λ (x : Places × ℕ × Cursor) r. Puts knownKind (x .0) (x .1) (x .2) r) (λ r. r .module) (λ x. firstOf (unlessKept (knownKind (x .1)) (replaced (x .1) (At (x .2)) (placesOf (x .0))) (placesOf (x .0))))
-unfolding placesOf
-module-put x r meets = ap firstOf (meets .says)
-
-pub placed : (place : Held) → RuledOut (λ (x : Places × ℕ × Cursor) r. Puts knownKind (x .0) (x .1) (x .2) r) (λ _ r. r .module ≡ place)
-unfolding placesOf replaced knownKind known lookup
-placed place = by-two-inputs module-put (λ p. some p) isAt (nowhere, 0, front) (nowhere, 1, front) refl refl refl refl place
-
-abbrev isAccepted : Verdict → Bool
-isAccepted Accepted = true
-isAccepted (Refused r) = false
-
 -- names: one place for every id
-pub place-of : (place : Held) → RuledOut (λ (x : Places × ℕ) r. r ≡ placedAt (x .0) (x .1)) (λ _ r. r ≡ place)
-unfolding placedAt placesOf lookup
-place-of place = by-two-inputs {says = λ r. r} (λ x r meets. meets) (λ r. some r) isAt (record { «module» = At front; functions = Absent; locals = Absent; types = Absent; fields = Absent; tags = Absent }, 0) (nowhere, 0) {k = At front} {l = Absent} refl refl refl refl place
+pub place-of : (place : Held) → RuledOut (λ (x : List ℕ × ℕ) r. r ≡ placedAt (x .0) (x .1)) (λ _ r. r ≡ place)
+unfolding placedAt
+place-of place = by-two-inputs {says = λ r. r} (λ x r meets. meets) (λ r. some r) isAt (set (set nowhere 0 2) 12 3, 0) (nowhere, 0) {k = At front} {l = Absent} refl refl refl refl place
 
 -- tables: always filled, or never
 pub is-filled : (wrong : Bool) → RuledOut (λ (read : Tidy) r. r ≡ isFilled read) (λ _ r. r ≡ wrong)
 is-filled wrong = by-two-inputs {says = λ r. r} (λ read r meets. meets) (λ b. some b) (λ b. b) (Behind (record { at = 1; end = 1 })) (Behind front) refl refl refl refl wrong
-
--- names: a verdict is always accepted, or always refused
-pub judged-verdict : (wrong : Bool) → RuledOut (λ (j : Judgement) r. r ≡ verdictIn j) (λ _ r. isAccepted r ≡ wrong)
-judged-verdict wrong = by-two-inputs {says = isAccepted} (λ j r meets. ap isAccepted meets) (λ b. some b) (λ b. b) (AcceptedAt nowhere) (NotAccepted (record { reason = PastItsPart; offset = record { 0 = 0 } })) refl refl refl refl wrong
 
 -- walk: never against an id, or always. 255 is no section; 1 may be the first
 abbrev cameOut : Outcome (Unit {0}) → Judged (Unit {0})

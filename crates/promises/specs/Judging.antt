@@ -7,14 +7,14 @@ use lib.Dec.{eqb}
 use lib.ListN.{length}
 use Rattle.format.specs.Examples.{hex, digit}
 use Rattle.format.specs.Metadata.{hintOf, anyItem, hintItem, metadata, judgeMetadata}
-use Rattle.format.specs.Names.{known, knownKind, contents, subsections, payload, judgeNames}
+use Rattle.format.specs.Names.{known, knownKind, wider, widerKind, kindIn, contents, subsections, payload, judgeNames}
 use Rattle.format.specs.Numbers.{number, groups}
 use Rattle.format.specs.Parts.{sized}
 use Rattle.format.specs.Reading.{Judged, refused, verdict}
 use Rattle.format.specs.Tables.{lookup, rows, table}
 use Rattle.format.specs.Verdicts.{verdictOf}
-use Rattle.names.specs.Places.{Judges, verdictIn}
-use Rattle.names.proofs.Verdicts.{verdict-is}
+use Rattle.format.specs.declared.Edition.{Edition}
+use Rattle.format.specs.declared.Edition.the-variants.{First, Wider}
 use Rattle.wakemiono.specs.Calls as call
 use Rattle.promises.specs.Answers.{saysVerdict, verdict-said}
 use Rattle.promises.specs.RuledOut.{RuledOut, Refuses, Accepts, Always, offsetIn, Refusing, refuses, Tells, by-input, by-two-inputs}
@@ -43,16 +43,20 @@ module _ {Lent Result B : Type 0} {promise : Lent → Result → Type 0} {says :
     one-offset = by-two-inputs tells (λ j. offsetIn j) (eqb (v .bad .offset)) (v .bad .input) (v .worse .input) (ap (λ j. offsetIn j) (v .is-bad)) (ap (λ j. offsetIn j) (v .is-worse)) (eq-eqb (v .bad .offset) (v .bad .offset) refl) (v .apart);
   }
 
--- The name payload: the empty one is accepted; a map without its count, and a size that is missing, are refused
-names-verdicts : Verdicts (λ p. verdict (judgeNames knownKind 0 p))
-unfolding hex digit number groups sized known knownKind lookup contents subsections payload judgeNames table
-names-verdicts = record { fine = hex ""; bad = refuses (hex "01 00") 2 2; worse = refuses (hex "01") 2 1; is-fine = λ h. h; is-bad = refl; is-worse = refl; apart = refl }
+-- The name payload, by either edition: the empty one is accepted; a map without its count, and a size that is missing, are refused
+names-verdicts : (edition : Edition) → Verdicts (λ p. verdict (judgeNames (kindIn edition) 0 p))
+unfolding hex digit number groups sized known knownKind wider widerKind lookup contents subsections payload judgeNames table
+names-verdicts First = record { fine = hex ""; bad = refuses (hex "01 00") 2 2; worse = refuses (hex "01") 2 1; is-fine = λ h. h; is-bad = refl; is-worse = refl; apart = refl }
+names-verdicts Wider = record { fine = hex ""; bad = refuses (hex "01 00") 2 2; worse = refuses (hex "01") 2 1; is-fine = λ h. h; is-bad = refl; is-worse = refl; apart = refl }
 
-pub names-judge : JudgesRightly (λ p r. Judges knownKind p 0 p r) (λ r. verdictOf (verdictIn r))
-names-judge = judges-rightly (λ p r meets. verdict-is knownKind p 0 p r meets) names-verdicts
+pub names-judge : (edition : Edition) → JudgesRightly (λ p r. verdictOf r ≡ verdict (judgeNames (kindIn edition) 0 p)) verdictOf
+names-judge edition = judges-rightly (λ p r meets. meets) (names-verdicts edition)
 
 pub wm-names-judge : JudgesRightly (λ p a. call.wm-names-judge p a) saysVerdict
-wm-names-judge = judges-rightly (λ p a meets. ap saysVerdict meets ∙ verdict-said (length p) (verdict (judgeNames knownKind 0 p))) names-verdicts
+wm-names-judge = judges-rightly (λ p a meets. ap saysVerdict meets ∙ verdict-said (length p) (verdict (judgeNames knownKind 0 p))) (names-verdicts First)
+
+pub wm-wide-names-judge : JudgesRightly (λ p a. call.wm-wide-names-judge p a) saysVerdict
+wm-wide-names-judge = judges-rightly (λ p a meets. ap saysVerdict meets ∙ verdict-said (length p) (verdict (judgeNames widerKind 0 p))) (names-verdicts Wider)
 
 -- Code metadata of any format, and hints: a payload without functions is accepted; one without its count, a function without its index, a hint of 2 are refused
 metadata-verdicts : Verdicts (λ p. verdict (judgeMetadata anyItem 0 p))

@@ -13,3 +13,4 @@ pub mod Walking
 pub mod Moving
 pub mod Through
 pub mod Telling
+pub mod Editions

@@ -1,4 +1,4 @@
--- The proofs of the three demands in `Demands.antt`, by their names.
+-- The proofs of the three demands in `Demands.antt`, and of the requests, by their names.
 use Prim.Native.Nat.{ℕ}
 use mathlib.Core.List.{List}
 use mathlib.Core.Logic.{_↔_, Iff·trans}
@@ -12,22 +12,24 @@ use Rattle.grammar.specs.Names.{SourceIds, NamePayload}
 use Rattle.grammar.specs.Metadata.{CodeMetadata, Unknown, BranchHint}
 use Rattle.format.specs.Tables.{Table}
 use Rattle.format.specs.Names.{Content, names}
+use Rattle.format.specs.declared.Edition.{Edition}
+use Rattle.format.specs.declared.Edition.the-variants.{First, Wider}
 use Rattle.format.specs.declared.Question.{Question}
-use Rattle.format.specs.declared.Question.the-variants.{ModuleName, FunctionName, TypeName, TagName, LocalName, FieldName, KeptContents}
+use Rattle.format.specs.declared.Question.the-variants.{ModuleName, FunctionName, LocalName, LabelName, TypeName, TableName, MemoryName, GlobalName, ElementName, DataName, FieldName, TagName, KeptContents}
 use Rattle.format.specs.Theorems.{ItemQuestion}
 use Rattle.format.specs.Canonical.{rewriteNames, rewriteMetadata, canonicalNames, canonicalOf, canonicalMetadata, canonicalHints}
 use Rattle.format.specs.Metadata.{anyItem, hintItem, judgeMetadata, askMetadata, askHint}
-use Rattle.format.specs.Names.{Kind, knownKind, judgeNames}
-use Rattle.format.specs.Questions.{asPlace, ask}
+use Rattle.format.specs.Names.{Kind, knownKind, widerKind, kindIn, judgeNames}
+use Rattle.format.specs.Questions.{AllowedBy, asPlace, ask}
 use Rattle.format.specs.Lists.{functionNames}
 use Rattle.format.specs.Options.{mapSome}
 use Rattle.format.specs.Reading.{mapJudged, verdict}
 use Rattle.format.specs.Telling.{isItsRewriting, namesAreCanonical, itemsAreCanonical}
 use Rattle.format.specs.Through.{askThrough, askMetadataThrough, askHintThrough}
-use Rattle.format.specs.Walk.{sectionCount, sectionAt, customPayload}
+use Rattle.format.specs.Walk.{nameSection, sectionCount, sectionAt, customPayload}
 use Rattle.wakemiono.specs.Boundary.{wmCount, wmSection, wmPlace, wmJudged, wmHint, wmYes, WmWrites}
 use Rattle.walk.specs.Surveys.{sectionPlace}
-use Rattle.format.specs.Theorems.{Rewrites as AnyRewrites, questions-answered, known-answered, hints-answered as all-hints-answered, any-metadata-answered, known-rewritten, any-metadata-rewritten, hints-rewritten}
+use Rattle.format.specs.Theorems.{Rewrites as AnyRewrites, questions-answered, hints-answered as all-hints-answered, any-metadata-answered, edition-rewritten, any-metadata-rewritten, hints-rewritten}
 use Rattle.format.specs.Canonical.{bare, bareItems}
 use Rattle.format.specs.Holding.{HasWithin, Holds}
 use Rattle.format.specs.Outputs.{writeAnswer}
@@ -39,14 +41,15 @@ use Rattle.format.specs.declared.Hint.the-variants.{Unlikely, Likely}
 use Rattle.format.specs.Questions.{idOf, queryOf}
 use Rattle.format.specs.Tables.{mapTable}
 use Rattle.grammar.specs.Forgetting.{bareSections}
-use Rattle.grammar.specs.Grammar.{Accepts, names-exact, metadata-exact, hints-exact, modules-exact}
+use Rattle.grammar.specs.Grammar.{Accepts, ids-exact, metadata-exact, hints-exact, modules-exact}
 use Rattle.grammar.specs.Laws.Metadata.{any-exact, metadata-complete}
-use Rattle.grammar.specs.Laws.Names.{SameIds, source-ids, names-complete}
+use Rattle.grammar.specs.Laws.Names.{SameIds, source-ids, wider-ids, names-complete}
 use Rattle.promises.specs.Laws.Judging.{found-grammar, refused-grammar}
 use Rattle.promises.specs.Laws.Listing.{lists-accepted, lists-read-back, lists-rest}
 use Rattle.promises.specs.Laws.Lists.{lists-fine, fine-written}
 use Rattle.promises.specs.Laws.Lookups.{tells-as, asked-tells, asked-refused, likely-held, unlikely-held, no-hint-held, hint-refused, name-held, contents-held, entry-held, inner-held, within-held}
 use Rattle.promises.specs.Laws.Outputs.{wrote, wrote-nothing, wrote-others, wrote-room, wrote-as-long, wrote-short, wrote-again}
+use Rattle.promises.specs.Laws.Editions.{none-kept, within-one-edition, accepted-by-both, answered-alike}
 use Rattle.promises.specs.Laws.Exactly.{name-in-exactly, metadata-in-exactly, hint-in-exactly, written-exactly, rewritten-exactly}
 use Rattle.promises.specs.Laws.ListsRefused.{lists-refused}
 use Rattle.promises.specs.Laws.Refusing.{Numbered, FairlyJudged, names-fair, any-fair, hint-fair, item-of-fair, items-fair, walk-fair}
@@ -56,7 +59,7 @@ use Rattle.promises.specs.Laws.Telling.{number-told, else-zero, yes-told
 use Rattle.promises.specs.Laws.Through.{name-through, hint-through, metadata-through, hint-data-through}
 use Rattle.promises.specs.Laws.Walking.{walked, walk-counts, section-found, section-first, section-none, section-refused, custom-tells, custom-refused}
 use Rattle.wakemiono.specs.Calls.{wm-walk, wm-names-judge, wm-name, wm-metadata-judge, wm-metadata, wm-hints-judge, wm-hint, wm-names-canonical, wm-metadata-canonical, wm-hints-canonical, wm-function-names-write}
-use Rattle.promises.specs.Demands.{Verdict, Reply, SectionReply, HintReply, Answers, RefusedBy, RefusedThrough, RefusedOrShort, ListsRefused, Leaves, NeedsRoom, Writing, Demand1, HoldsName, HoldsData, JudgesExactly, AnswersNames, AnswersMetadata, AnswersHints, Walks, Demand2, SameAnswer, Rewrites, Demand3, yes, no, replyNone, replyFound, replyRefused, sectionNone, sectionFound, sectionRefused, hintNone, hintUnlikely, hintLikely, hintRefused, byTheWalk, byItsPayload, asJudged, tooShort, listsDisagree, notAbove, notText, subsectionTooLarge, outputTooShort, TellsCanonical, K10}
+use Rattle.promises.specs.Demands.{Verdict, Reply, SectionReply, HintReply, Answers, RefusedBy, RefusedThrough, RefusedOrShort, ListsRefused, Leaves, NeedsRoom, Writing, Demand1, HoldsName, HoldsData, JudgesExactly, AnswersNames, AnswersMetadata, AnswersHints, Walks, Demand2, SameAnswer, Rewrites, Demand3, yes, no, replyNone, replyFound, replyRefused, sectionNone, sectionFound, sectionRefused, hintNone, hintUnlikely, hintLikely, hintRefused, byTheWalk, byItsPayload, asJudged, tooShort, listsDisagree, notAbove, notText, subsectionTooLarge, outputTooShort, TellsCanonical, K10, K9}
 
 -- Demand 1
 judged-verdict : (n : ℕ) (j : Judged (Unit {0})) → Verdict (wmJudged n j)
@@ -136,9 +139,20 @@ writes-as f j fair = record {
   needs-room = needs-room (mapJudged f j);
 }
 
-writes-names : (p : List ℕ) → Writing (RefusedOrShort (judgeNames knownKind 0 p) (λ t. length (rewriteNames t))) (wm-names-canonical p)
-unfolding canonicalNames
-writes-names p = writes-as rewriteNames (judgeNames knownKind 0 p) (names-fair 0 p)
+-- names, over any table of ids
+module _ (kindOf : ℕ → Kind) where
+  judges-names : (p : List ℕ) (a : WmAnswer) → a ≡ wmJudged (length p) (verdict (judgeNames kindOf 0 p)) → Answers Verdict (RefusedBy (judgeNames kindOf 0 p)) a
+  judges-names p a e = answers-as (names-fair kindOf 0 p) (rw e (judged-verdict (length p) (verdict (judgeNames kindOf 0 p)))) (judged-said (length p) (judgeNames kindOf 0 p) e .refusal)
+
+  asks-names : (q : Question) (p : List ℕ) (a : WmAnswer) → a ≡ wmPlace (asPlace (ask kindOf q p)) → Answers Reply (RefusedBy (judgeNames kindOf 0 p)) a
+  asks-names q p a e = answers-as (names-fair kindOf 0 p) (rw e (place-reply (ask kindOf q p))) (rw e (λ n at. Iff·trans (refused-said (ask kindOf q p) n at) (questions-answered kindOf .refuses q p n at)))
+
+  asks-names-in : (q : Question) (m : List ℕ) (a : WmAnswer) → a ≡ wmPlace (asPlace (askThrough kindOf q m)) → Answers Reply (RefusedThrough nameSection (judgeNames kindOf) m) a
+  asks-names-in q m a e = answers-through (names-fair kindOf) (rw e (place-reply (askThrough kindOf q m))) (name-in-exactly kindOf q m a e)
+
+  writes-names : (p : List ℕ) → Writing (RefusedOrShort (judgeNames kindOf 0 p) (λ t. length (rewriteNames t))) (λ old new a. WmWrites (canonicalNames kindOf p) old new a)
+  unfolding canonicalNames
+  writes-names p = writes-as rewriteNames (judgeNames kindOf 0 p) (names-fair kindOf 0 p)
 
 writes-metadata : (p : List ℕ) → Writing (RefusedOrShort (judgeMetadata anyItem 0 p) (λ t. length (rewriteMetadata t))) (wm-metadata-canonical p)
 unfolding canonicalMetadata canonicalOf
@@ -167,16 +181,16 @@ demand-1 = record {
   walk = λ m a e. answers-as (walk-fair m) (rw e (count-verdict (sectionCount m))) (walked m e .refusal);
   section = λ i m a e. answers-as (walk-fair m) (rw e (section-reply (sectionAt i m))) (alike (walked m refl) (section-refused i m a (wmCount (sectionCount m)) e refl));
   custom = λ x m a e. answers-as (walk-fair m) (rw e (place-reply (customPayload x m))) (alike (walked m refl) (custom-refused x m a (wmCount (sectionCount m)) e refl));
-  names-judge = λ p a e. answers-as (names-fair 0 p) (rw e (judged-verdict (length p) (verdict (judgeNames knownKind 0 p)))) (judged-said (length p) (judgeNames knownKind 0 p) e .refusal);
-  name = λ q p a e. answers-as (names-fair 0 p) (rw e (place-reply (ask knownKind q p))) (rw e (λ n at. Iff·trans (refused-said (ask knownKind q p) n at) (known-answered .refuses q p n at)));
+  names-judge = judges-names knownKind;
+  name = asks-names knownKind;
   metadata-judge = λ p a e. answers-as (items-fair any-fair 0 p) (rw e (judged-verdict (length p) (verdict (judgeMetadata anyItem 0 p)))) (judged-said (length p) (judgeMetadata anyItem 0 p) e .refusal);
   metadata = λ f o p a e. answers-as (items-fair any-fair 0 p) (rw e (place-reply (askMetadata anyItem (record { 0 = f }) (record { 0 = o }) 0 p))) (rw e (λ n at. Iff·trans (refused-said (askMetadata anyItem (record { 0 = f }) (record { 0 = o }) 0 p) n at) (any-metadata-answered .refuses (record { 0 = f }, record { 0 = o }) p n at)));
   hints-judge = λ p a e. answers-as (items-fair hint-fair 0 p) (rw e (judged-verdict (length p) (verdict (judgeMetadata hintItem 0 p)))) (judged-said (length p) (judgeMetadata hintItem 0 p) e .refusal);
   hint = λ f o p a e. answers-as (items-fair hint-fair 0 p) (rw e (hint-reply (askHint (record { 0 = f }) (record { 0 = o }) 0 p))) (rw e (λ n at. Iff·trans (hint-refused-said (askHint (record { 0 = f }) (record { 0 = o }) 0 p) n at) (all-hints-answered .refuses (record { 0 = f }) (record { 0 = o }) p n at)));
-  name-in = λ q m a e. answers-through names-fair (rw e (place-reply (askThrough knownKind q m))) (name-in-exactly q m a e);
+  name-in = asks-names-in knownKind;
   metadata-in = λ x f o m a e. answers-through (items-fair (item-of-fair x)) (rw e (place-reply (askMetadataThrough x (record { 0 = f }) (record { 0 = o }) m))) (metadata-in-exactly x (record { 0 = f }) (record { 0 = o }) m a e);
   hint-in = λ f o m a e. answers-through (items-fair hint-fair) (rw e (hint-reply (askHintThrough (record { 0 = f }) (record { 0 = o }) m))) (hint-in-exactly (record { 0 = f }) (record { 0 = o }) m a e);
-  names-canonical = writes-names;
+  names-canonical = writes-names knownKind;
   metadata-canonical = writes-metadata;
   hints-canonical = writes-hints;
   function-names-write = writes-lists;
@@ -190,8 +204,8 @@ judges judgement plain judging exact says = record {
   one-meaning = exact .one-meaning;
 }
 
-names-judged : JudgesExactly wm-names-judge (NamePayload SourceIds)
-names-judged = judges (judgeNames knownKind 0) (mapTable bare) wm-names-judge (names-exact 0) (λ p a e. judged-said (length p) (judgeNames knownKind 0 p) e)
+names-judged : {Ids : ℕ → Kind → Type 0} {kindOf : ℕ → Kind} → SameIds Ids kindOf → JudgesExactly (λ p a. a ≡ wmJudged (length p) (verdict (judgeNames kindOf 0 p))) (NamePayload Ids)
+names-judged {kindOf = kindOf} ids = judges (judgeNames kindOf 0) (mapTable bare) (λ p a. a ≡ wmJudged (length p) (verdict (judgeNames kindOf 0 p))) (ids-exact ids 0) (λ p a e. judged-said (length p) (judgeNames kindOf 0 p) e)
 
 metadata-judged : JudgesExactly wm-metadata-judge (CodeMetadata Unknown)
 metadata-judged = judges (judgeMetadata anyItem 0) (λ t. bareItems t) wm-metadata-judge (metadata-exact 0) (λ p a e. judged-said (length p) (judgeMetadata anyItem 0 p) e)
@@ -203,7 +217,13 @@ held : (q : Question) (m : Table (Content (List ℕ))) (x : List ℕ) → Holds 
 held ModuleName m x = name-held 0
 held (FunctionName k) m x = entry-held 1 (k .0)
 held (LocalName k j) m x = inner-held 2 (k .0) (j .0)
+held (LabelName k j) m x = inner-held 3 (k .0) (j .0)
 held (TypeName k) m x = entry-held 4 (k .0)
+held (TableName k) m x = entry-held 5 (k .0)
+held (MemoryName k) m x = entry-held 6 (k .0)
+held (GlobalName k) m x = entry-held 7 (k .0)
+held (ElementName k) m x = entry-held 8 (k .0)
+held (DataName k) m x = entry-held 9 (k .0)
 held (FieldName k j) m x = inner-held 10 (k .0) (j .0)
 held (TagName k) m x = entry-held 11 (k .0)
 held (KeptContents id) m x = contents-held id
@@ -242,7 +262,7 @@ walks = record {
 
 pub demand-2 : Demand2
 demand-2 = record {
-  names-judged = names-judged;
+  names-judged = names-judged source-ids;
   metadata-judged = metadata-judged;
   hints-judged = hints-judged;
   modules-judged = judges walk (λ ss. bareSections ss) wm-walk modules-exact (λ p a e. walked p e);
@@ -253,7 +273,7 @@ demand-2 = record {
   metadata = metadata-answered;
   hints = hints-answered;
   walks = walks;
-  through-modules = record { names = name-through; hints = λ f o. hint-through (record { 0 = f }) (record { 0 = o }); metadata = λ x n f o. metadata-through x n (record { 0 = f }) (record { 0 = o }); hint-data = λ f o. hint-data-through (record { 0 = f }) (record { 0 = o }) };
+  through-modules = record { names = name-through knownKind; hints = λ f o. hint-through (record { 0 = f }) (record { 0 = o }); metadata = λ x n f o. metadata-through x n (record { 0 = f }) (record { 0 = o }); hint-data = λ f o. hint-data-through (record { 0 = f }) (record { 0 = o }) };
   written-fine = lists-fine;
   fine-written = fine-written;
   lists = λ is ns text old new a l w k. record { is-accepted = lists-accepted is ns text old new a l w k; reads-back = lists-read-back is ns text old new a l w k; is-canonical = lists-rest is ns text old new a l w k };
@@ -277,9 +297,13 @@ module _ {A Q R : Type 0} {judgement : List ℕ → Judged A} {rewriting : List 
     room-enough = λ p old new a j e. rewritten-fits rewrites first-judged asking met Same compared p old new a j (judged-said (length p) (judgement p) e);
   }
 
+-- of an edition
+names-rewritten : (edition : Edition) → Rewrites (λ p j. j ≡ wmJudged (length p) (verdict (judgeNames (kindIn edition) 0 p))) (λ q p a. a ≡ wmPlace (asPlace (ask (kindIn edition) q p))) (AllowedBy (kindIn edition)) SameAnswer (λ p old new a. WmWrites (canonicalNames (kindIn edition) p) old new a)
+names-rewritten edition = rewritten (edition-rewritten edition) (names-first-judged (kindIn edition)) (names-refuse (kindIn edition)) (λ q p a. a ≡ wmPlace (asPlace (ask (kindIn edition) q p))) (λ q x. (_, refl)) SameAnswer (names-compared (kindIn edition))
+
 pub demand-3 : Demand3
 demand-3 = record {
-  names = rewritten known-rewritten names-first-judged names-refuse wm-name (λ q x. (_, refl)) SameAnswer names-compared;
+  names = names-rewritten First;
   metadata = rewritten any-metadata-rewritten metadata-first-judged metadata-refuse (λ q. wm-metadata (q .0 .0) (q .1 .0)) (λ q x. (_, refl)) SameAnswer metadata-compared;
   hints = rewritten hints-rewritten hints-first-judged hints-refuse (λ q. wm-hint (q .0 .0) (q .1 .0)) (λ q x. (_, refl)) (λ _ _ a b. a ≡ b) (λ q x y a b _ _. hints-same (askHint (q .0) (q .1) 0 x) (askHint (q .0) (q .1) 0 y));
 }
@@ -294,11 +318,33 @@ module _ {A Q R : Type 0} {judgement : List ℕ → Judged A} {rewriting : List 
     no-else = λ p y. else-zero (isItsRewriting (rewriting p) p);
   }
 
+names-told : (edition : Edition) → TellsCanonical (λ p j. j ≡ wmJudged (length p) (verdict (judgeNames (kindIn edition) 0 p))) (λ p old new a. WmWrites (canonicalNames (kindIn edition) p) old new a) (λ p y. y ≡ wmYes (namesAreCanonical (kindIn edition) p))
+unfolding namesAreCanonical canonicalNames
+names-told edition = told (edition-rewritten edition) (names-first-judged (kindIn edition)) (λ p a. (rewriteNames (a .value), rw (a .judged)))
+
 pub k10 : K10
 unfolding namesAreCanonical itemsAreCanonical canonicalNames canonicalMetadata canonicalHints canonicalOf
 k10 = record {
   numbers = number-told;
-  names = told known-rewritten names-first-judged (λ p a. (rewriteNames (a .value), rw (a .judged)));
+  names = names-told First;
   metadata = told any-metadata-rewritten metadata-first-judged (λ p a. (rewriteMetadata (a .value), rw (a .judged)));
   hints = told hints-rewritten hints-first-judged (λ p a. (rewriteMetadata (a .value), rw (a .judged)));
+}
+
+pub k9 : K9
+k9 = record {
+  names-judge = judges-names widerKind;
+  name = asks-names widerKind;
+  name-in = asks-names-in widerKind;
+  names-canonical = writes-names widerKind;
+  names-judged = names-judged wider-ids;
+  names-whole = λ p a. judged-whole (length p) (verdict (judgeNames widerKind 0 p));
+  names = names-answered wider-ids;
+  through-modules = name-through widerKind;
+  rewritten = names-rewritten Wider;
+  told = names-told Wider;
+  none-kept = none-kept;
+  within-one-edition = within-one-edition;
+  accepted-by-both = accepted-by-both;
+  answered-alike = answered-alike;
 }

@@ -1,6 +1,6 @@
 -- The wrong lookup that stops at the entry that it looks for. What is asked for is found in the first entry; with a second entry, group, function or item that is damaged the payload is refused. Every result that meets the promise says so, and so does every result of the C call.
 use Prim.Native.Nat.{ℕ, _+_}
-use mathlib.Core.List.{List, [], _∷_, map}
+use mathlib.Core.List.{List, [], _∷_, _++_, map}
 use mathlib.Core.Option.{Option, some, none}
 use mathlib.Core.Path.{_≡_, refl, ap, _∙_}
 use Prim.Native.String.{String}
@@ -11,12 +11,12 @@ use Rattle.format.specs.Canonical.{writePart}
 use Rattle.format.specs.Bytes.{ascii, same}
 use Rattle.format.specs.Examples.{hex, digit}
 use Rattle.format.specs.Metadata.{hintOf, anyItem, hintItem, metadata, judgeMetadata, itemAt, askMetadata, hintIn, askHint, hintAnswered}
-use Rattle.format.specs.Names.{known, knownKind, contents, subsections, payload, judgeNames}
+use Rattle.format.specs.Names.{known, knownKind, wider, widerKind, contents, subsections, payload, judgeNames}
 use Rattle.format.specs.Numbers.{number, groups, shortest, fewest}
 use Rattle.format.specs.Parts.{sized, name, remaining}
 use Rattle.format.specs.Questions.{answer, asked, idOf, queryOf, askAt, ask, asPlace, answered}
 use Rattle.format.specs.declared.Question.{Question}
-use Rattle.format.specs.declared.Question.the-variants.{FunctionName, TypeName, TagName, LocalName, FieldName, ModuleName, KeptContents}
+use Rattle.format.specs.declared.Question.the-variants.{ModuleName, FunctionName, LocalName, LabelName, TypeName, TableName, MemoryName, GlobalName, ElementName, DataName, FieldName, TagName, KeptContents}
 use Rattle.format.specs.Reading.{Judged, accepted, refused}
 use Rattle.format.specs.Tables.{lookup, rows, table}
 use Rattle.format.specs.Text.{utf8, characters, character, completes}
@@ -64,15 +64,12 @@ infixl 90 _of_tells_
 abbrev pub _of_tells_ : Question → String → Judged (Option Place) → Stopped
 _of_tells_ q payload told = record { payload = payload; question = q; told = told }
 
-abbrev pub stopped : List Stopped
-stopped =
-    -- the module's name, and contents that are kept: the subsection behind is damaged
+abbrev pub stopped-in-both : List Stopped
+stopped-in-both =
+    -- the module's name: the subsection behind is damaged
     ModuleName of "00 02 01 6D" tells found 3 1 ∷
     ModuleName of "00 02 01 6D 01 00" tells refused 2 6 ∷
     ModuleName of "00 02 01 6D 00 02 01 6D" tells refused 9 4 ∷
-    KeptContents 3 of "03 01 FF" tells found 2 1 ∷
-    KeptContents 3 of "03 01 FF 04 02 01 07" tells refused 2 7 ∷
-    KeptContents 3 of "03 01 FF 03 00" tells refused 9 3 ∷
     -- a map's second entry, an indirect map's second group, and its first group's second entry
     FunctionName (record { 0 = 7 }) of "01 04 01 07 01 61" tells found 5 1 ∷
     FunctionName (record { 0 = 7 }) of "01 07 02 07 01 61 07 01 62" tells refused 11 6 ∷
@@ -96,22 +93,70 @@ stopped =
     FieldName (record { 0 = 3 }) (record { 0 = 0 }) of "0A 09 01 03 02 00 01 78 00 01 79" tells refused 11 8 ∷
     []
 
+-- the first edition's: contents that are kept, with the subsection behind damaged
+abbrev pub stopped : List Stopped
+stopped = stopped-in-both ++ (
+    KeptContents 3 of "03 01 FF" tells found 2 1 ∷
+    KeptContents 3 of "03 01 FF 04 02 01 07" tells refused 2 7 ∷
+    KeptContents 3 of "03 01 FF 03 00" tells refused 9 3 ∷
+    [])
+
+-- the wider edition's, with its six
+abbrev pub wide-stopped : List Stopped
+wide-stopped = stopped-in-both ++ (
+    LabelName (record { 0 = 3 }) (record { 0 = 0 }) of "03 06 01 03 01 00 01 78" tells found 7 1 ∷
+    LabelName (record { 0 = 3 }) (record { 0 = 0 }) of "03 0B 02 03 01 00 01 78 03 01 00 01 79" tells refused 11 8 ∷
+    LabelName (record { 0 = 3 }) (record { 0 = 0 }) of "03 0B 02 03 01 00 01 78 04 01 00 01 FF" tells refused 4 12 ∷
+    LabelName (record { 0 = 3 }) (record { 0 = 0 }) of "03 09 01 03 02 00 01 78 00 01 79" tells refused 11 8 ∷
+    TableName (record { 0 = 7 }) of "05 04 01 07 01 61" tells found 5 1 ∷
+    TableName (record { 0 = 7 }) of "05 07 02 07 01 61 07 01 62" tells refused 11 6 ∷
+    TableName (record { 0 = 7 }) of "05 07 02 07 01 61 08 01 FF" tells refused 4 8 ∷
+    TableName (record { 0 = 7 }) of "05 07 02 07 01 61 08 02 62" tells refused 2 7 ∷
+    MemoryName (record { 0 = 7 }) of "06 04 01 07 01 61" tells found 5 1 ∷
+    MemoryName (record { 0 = 7 }) of "06 07 02 07 01 61 07 01 62" tells refused 11 6 ∷
+    MemoryName (record { 0 = 7 }) of "06 07 02 07 01 61 08 01 FF" tells refused 4 8 ∷
+    MemoryName (record { 0 = 7 }) of "06 07 02 07 01 61 08 02 62" tells refused 2 7 ∷
+    GlobalName (record { 0 = 7 }) of "07 04 01 07 01 61" tells found 5 1 ∷
+    GlobalName (record { 0 = 7 }) of "07 07 02 07 01 61 07 01 62" tells refused 11 6 ∷
+    GlobalName (record { 0 = 7 }) of "07 07 02 07 01 61 08 01 FF" tells refused 4 8 ∷
+    GlobalName (record { 0 = 7 }) of "07 07 02 07 01 61 08 02 62" tells refused 2 7 ∷
+    ElementName (record { 0 = 7 }) of "08 04 01 07 01 61" tells found 5 1 ∷
+    ElementName (record { 0 = 7 }) of "08 07 02 07 01 61 07 01 62" tells refused 11 6 ∷
+    ElementName (record { 0 = 7 }) of "08 07 02 07 01 61 08 01 FF" tells refused 4 8 ∷
+    ElementName (record { 0 = 7 }) of "08 07 02 07 01 61 08 02 62" tells refused 2 7 ∷
+    DataName (record { 0 = 7 }) of "09 04 01 07 01 61" tells found 5 1 ∷
+    DataName (record { 0 = 7 }) of "09 07 02 07 01 61 07 01 62" tells refused 11 6 ∷
+    DataName (record { 0 = 7 }) of "09 07 02 07 01 61 08 01 FF" tells refused 4 8 ∷
+    DataName (record { 0 = 7 }) of "09 07 02 07 01 61 08 02 62" tells refused 2 7 ∷
+    KeptContents 12 of "0C 01 FF" tells found 2 1 ∷
+    KeptContents 12 of "0C 01 FF 0D 02 01" tells refused 2 4 ∷
+    KeptContents 12 of "0C 01 FF 0C 00" tells refused 9 3 ∷
+    [])
+
 -- lent as `lend` makes it of a payload, which then begins `ahead` bytes further on
 abbrev moved : ℕ → Judged (Option Place) → Judged (Option Place)
 moved ahead (accepted none) = accepted none
 moved ahead (accepted (some p)) = found (ahead + p .offset .0) (p .length)
 moved ahead (refused n at) = refused n (ahead + at)
 
-abbrev pub name-rows : (String → List ℕ) → ℕ → List (Row (List ℕ × Question) (Judged (Option Place)))
-name-rows lend ahead = map (λ (s : Stopped). (lend (s .payload), s .question) demands moved ahead (s .told)) stopped
+abbrev pub name-rows : List Stopped → (String → List ℕ) → ℕ → List (Row (List ℕ × Question) (Judged (Option Place)))
+name-rows rows lend ahead = map (λ (s : Stopped). (lend (s .payload), s .question) demands moved ahead (s .told)) rows
 
-pub names : PlacesDemanded (λ (x : List ℕ × Question). asPlace (ask knownKind (x .1) (x .0))) (name-rows hex 0)
+pub names : PlacesDemanded (λ (x : List ℕ × Question). asPlace (ask knownKind (x .1) (x .0))) (name-rows stopped hex 0)
 unfolding hex digit number groups utf8 characters character completes sized name remaining lookup rows table known knownKind contents subsections payload judgeNames answer asked askAt ask asPlace
-names = places-demanded _ (name-rows hex 0) refl
+names = places-demanded _ (name-rows stopped hex 0) refl
 
-pub names-through : PlacesDemanded (λ (x : List ℕ × Question). asPlace (askThrough knownKind (x .1) (x .0))) (name-rows withNames 15)
+pub wide-names : PlacesDemanded (λ (x : List ℕ × Question). asPlace (ask widerKind (x .1) (x .0))) (name-rows wide-stopped hex 0)
+unfolding hex digit number groups utf8 characters character completes sized name remaining lookup rows table wider widerKind contents subsections payload judgeNames answer asked askAt ask asPlace
+wide-names = places-demanded _ (name-rows wide-stopped hex 0) refl
+
+pub names-through : PlacesDemanded (λ (x : List ℕ × Question). asPlace (askThrough knownKind (x .1) (x .0))) (name-rows stopped withNames 15)
 unfolding withNames writePart shortest fewest ascii same preamble begins greatestId isCustom isCode isData rank custom isCalled nameSection hintSection nothing seeing idRules nameRules section sections framing walk payloadOf payloadIn customPayload through askThrough hex digit number groups utf8 characters character completes sized name remaining lookup rows table known knownKind contents subsections payload judgeNames answer asked askAt asPlace
-names-through = places-demanded _ (name-rows withNames 15) refl
+names-through = places-demanded _ (name-rows stopped withNames 15) refl
+
+pub wide-names-through : PlacesDemanded (λ (x : List ℕ × Question). asPlace (askThrough widerKind (x .1) (x .0))) (name-rows wide-stopped withNames 15)
+unfolding withNames writePart shortest fewest ascii same preamble begins greatestId isCustom isCode isData rank custom isCalled nameSection hintSection nothing seeing idRules nameRules section sections framing walk payloadOf payloadIn customPayload through askThrough hex digit number groups utf8 characters character completes sized name remaining lookup rows table wider widerKind contents subsections payload judgeNames answer asked askAt asPlace
+wide-names-through = places-demanded _ (name-rows wide-stopped withNames 15) refl
 
 abbrev pub find-rows : List (Row (List ℕ × FunctionIndex × CodeOffset) (Judged (Option Place)))
 find-rows =

@@ -9,10 +9,11 @@ use Rattle.format.specs.Numbers.{number, groups, shortest, fewest}
 use Rattle.format.specs.Text.{utf8, characters, character, completes}
 use Rattle.format.specs.Parts.{sized, name, remaining}
 use Rattle.format.specs.Tables.{lookup, size, mapTable, rows, table}
-use Rattle.format.specs.Names.{known, knownKind, contents, subsections, payload, judgeNames}
+use Rattle.format.specs.Names.{known, knownKind, wider, widerKind, contents, subsections, payload, judgeNames}
 use Rattle.format.specs.Metadata.{hintOf, anyItem, hintItem, metadata, judgeMetadata}
 use Rattle.format.specs.Canonical.{writePart, writeRows, writeTable, unlessEmpty, keepRows, bare, writeContent, writeSubsections, rewriteNames, canonicalNames, rewriteMetadata, canonicalOf}
 use Rattle.format.specs.Telling.{isItsRewriting, namesAreCanonical, itemsAreCanonical}
+use Rattle.format.specs.declared.Edition.the-variants.{First, Wider}
 use Rattle.names.specs.Promises.{names-is-canonical}
 use Rattle.metadata.specs.Promises.{metadata-is-canonical, metadata-are-hints-canonical}
 use Rattle.wakemiono.specs.Calls as call
@@ -30,6 +31,17 @@ names-rows good bad =
     hex "02 08 02 00 00 03 01 00 01 78" demands bad ∷
     []
 
+-- by the wider edition: an empty map of id 7, which the first keeps; a padded name of a data segment; a function without labels
+unfoldable pub wide-rows : {B : Type 0} → (good bad : B) → List (Row (List ℕ) B)
+wide-rows good bad =
+    hex "07 04 01 00 01 61" demands good ∷
+    hex "0C 01 FF" demands good ∷
+    hex "07 01 FF" demands bad ∷
+    hex "07 01 00" demands bad ∷
+    hex "09 05 01 00 81 00 61" demands bad ∷
+    hex "03 08 02 00 00 03 01 00 01 78" demands bad ∷
+    []
+
 -- the same with a padded count and a function without items
 unfoldable pub items-rows : {B : Type 0} → (good bad : B) → List (Row (List ℕ) B)
 items-rows good bad =
@@ -40,13 +52,21 @@ items-rows good bad =
     hex "01 02 00" demands bad ∷
     []
 
-pub names-is-canonical-told : Demanded names-is-canonical (λ r. r) (names-rows true false)
+pub names-is-canonical-told : Demanded (λ p r. names-is-canonical p First r) (λ r. r) (names-rows true false)
 unfolding names-rows hex digit same number groups shortest fewest utf8 characters character completes sized name remaining lookup size mapTable rows table known knownKind contents subsections payload judgeNames writePart writeRows writeTable unlessEmpty keepRows bare writeContent writeSubsections rewriteNames canonicalNames isItsRewriting namesAreCanonical
 names-is-canonical-told = by-table (λ p r meets. meets) (names-rows true false) refl
 
 pub wm-names-is-canonical-told : Demanded call.wm-names-is-canonical (λ y. y) (names-rows 1 0)
 unfolding names-rows hex digit same number groups shortest fewest utf8 characters character completes sized name remaining lookup size mapTable rows table known knownKind contents subsections payload judgeNames writePart writeRows writeTable unlessEmpty keepRows bare writeContent writeSubsections rewriteNames canonicalNames isItsRewriting namesAreCanonical
 wm-names-is-canonical-told = by-table (λ p y meets. meets) (names-rows 1 0) refl
+
+pub names-wide-is-canonical-told : Demanded (λ p r. names-is-canonical p Wider r) (λ r. r) (wide-rows true false)
+unfolding wide-rows hex digit same number groups shortest fewest utf8 characters character completes sized name remaining lookup size mapTable rows table wider widerKind contents subsections payload judgeNames writePart writeRows writeTable unlessEmpty keepRows bare writeContent writeSubsections rewriteNames canonicalNames isItsRewriting namesAreCanonical
+names-wide-is-canonical-told = by-table (λ p r meets. meets) (wide-rows true false) refl
+
+pub wm-wide-names-is-canonical-told : Demanded call.wm-wide-names-is-canonical (λ y. y) (wide-rows 1 0)
+unfolding wide-rows hex digit same number groups shortest fewest utf8 characters character completes sized name remaining lookup size mapTable rows table wider widerKind contents subsections payload judgeNames writePart writeRows writeTable unlessEmpty keepRows bare writeContent writeSubsections rewriteNames canonicalNames isItsRewriting namesAreCanonical
+wm-wide-names-is-canonical-told = by-table (λ p y meets. meets) (wide-rows 1 0) refl
 
 pub metadata-is-canonical-told : Demanded metadata-is-canonical (λ r. r) (items-rows true false)
 unfolding items-rows hex digit same number groups shortest fewest sized lookup size mapTable rows table anyItem metadata judgeMetadata writePart writeRows writeTable unlessEmpty keepRows rewriteMetadata canonicalOf isItsRewriting itemsAreCanonical

@@ -15,7 +15,7 @@ use Rattle.format.specs.Examples.{hex, digit}
 use Rattle.format.specs.Listing.{digits, decimal, piece, line, sectionLines, payloadLine, printed, greatestInput, listing}
 use Rattle.format.specs.Lists.{sum, listed, unsortedAt, badTextAt, subsection, functionNames}
 use Rattle.format.specs.Metadata.{hintOf, anyItem, hintItem, metadata, judgeMetadata}
-use Rattle.format.specs.Names.{known, knownKind, contents, subsections, payload, judgeNames}
+use Rattle.format.specs.Names.{known, knownKind, wider, widerKind, contents, subsections, payload, judgeNames}
 use Rattle.format.specs.Numbers.{number, groups, shortest, fewest}
 use Rattle.format.specs.Outputs.{fitting, writeAnswer, outputAfter, writtenAs, Writes}
 use Rattle.format.specs.Parts.{sized, name, remaining}
@@ -137,6 +137,23 @@ rewrite-names = rewrite-calls (canonicalNames knownKind) (record {
   one = finds (hex "01 85 00 01 00 81 00 61", hex "AA AA AA AA AA AA AA") (hex "01 04 01 00 01 61");
   another = finds (hex "01 01 00", hex "AA") [];
   bad = refuses (hex "01 07 02 03 01 62 03 01 61", hex "AA AA AA AA AA AA AA AA AA") 11 6;
+  worse = refuses (hex "00 01 00", hex "AA AA") 13 3;
+  is-one = refl;
+  is-another = refl;
+  is-bad = refl;
+  is-worse = refl;
+  two = refl;
+  changed = refl;
+  apart = refl;
+}) refl
+
+-- By the wider edition: a padded name of a global; nothing but an empty map of globals; a map's second entry damaged; an output that is too short
+pub rewrite-wide-names : RewriteCalls (canonicalNames widerKind)
+unfolding same hex digit number groups shortest fewest utf8 characters character completes sized name remaining lookup size mapTable rows table wider widerKind contents subsections payload judgeNames writePart writeRows writeTable unlessEmpty keepRows bare writeContent writeSubsections rewriteNames canonicalNames fitting writeAnswer outputAfter
+rewrite-wide-names = rewrite-calls (canonicalNames widerKind) (record {
+  one = finds (hex "07 85 00 01 00 81 00 61", hex "AA AA AA AA AA AA AA") (hex "07 04 01 00 01 61");
+  another = finds (hex "07 01 00", hex "AA") [];
+  bad = refuses (hex "07 07 02 03 01 62 03 01 61", hex "AA AA AA AA AA AA AA AA AA") 11 6;
   worse = refuses (hex "00 01 00", hex "AA AA") 13 3;
   is-one = refl;
   is-another = refl;

@@ -5,7 +5,7 @@ use mathlib.Core.Path.{_≡_, sym, _∙_}
 use lib.ListN.{take}
 use Rattle.format.specs.Reading.{Accepted, verdict}
 use Rattle.format.specs.Names.{Kind, judgeNames}
-use Rattle.format.specs.Questions.{InRange, ask, asPlace, asBytes, asTold, answered}
+use Rattle.format.specs.Questions.{AllowedBy, ask, asPlace, asBytes, asTold, answered}
 use Rattle.format.specs.declared.Question.{Question}
 use Rattle.format.specs.Metadata.{anyItem, hintItem, judgeMetadata, askMetadata, askHint, hintAnswered}
 use Rattle.format.specs.Canonical.{canonicalNames, canonicalMetadata, canonicalHints}
@@ -19,14 +19,11 @@ use Rattle.format.specs.Laws.Answers.{same-hint-answer}
 use Rattle.format.specs.declared.Answer.{Answer}
 use Rattle.format.specs.declared.HintAnswer.{HintAnswer}
 use Rattle.format.specs.declared.Written.the-variants.{Length}
-use Rattle.names.specs.Places.{Judges, verdictIn}
-use Rattle.names.specs.declared.judging.Judged.{Judged as NamesJudged}
-use Rattle.names.proofs.Verdicts.{verdict-is}
 use Rattle.rewrite.specs.Rewritten.{CallsRewrite, calls-rewrite}
 use Rattle.rewrite.specs.Alike.{SameTold, same-told, accepted-so}
 
 -- "Canonical rewritings of two accepted payloads are equal byte by byte exactly when every allowed question gets the same answer from both. A rewriting is accepted, answers as its original, is never longer, and rewriting it again changes nothing."
-pub names-calls : (kindOf : ℕ → Kind) → AllPosed kindOf → CallsRewrite (judgeNames kindOf 0) (canonicalNames kindOf) (λ q p. asTold (ask kindOf q p)) InRange
+pub names-calls : (kindOf : ℕ → Kind) → AllPosed kindOf → CallsRewrite (judgeNames kindOf 0) (canonicalNames kindOf) (λ q p. asTold (ask kindOf q p)) (AllowedBy kindOf)
 names-calls kindOf posed = calls-rewrite (questions-rewritten kindOf posed)
 
 pub metadata-calls : CallsRewrite (judgeMetadata anyItem 0) canonicalMetadata (itemTold anyItem) ItemInRange
@@ -38,10 +35,10 @@ hint-calls = calls-rewrite hints-rewritten
 
 -- What `names` wrote is accepted by the judging call, and every question's calls tell of it what they tell of the original.
 module _ (kindOf : ℕ → Kind) (posed : AllPosed kindOf) {p old new : List ℕ} {n : ℕ} (a : Accepted (judgeNames kindOf 0) p) (w : Writes (canonicalNames kindOf p) old new (Length n)) where
-  pub names-accepted : (j : NamesJudged) → Judges kindOf (take n new) 0 (take n new) j → verdictIn j ≡ IsAccepted
+  pub names-accepted : (j : Verdict) → verdictOf j ≡ verdict (judgeNames kindOf 0 (take n new)) → j ≡ IsAccepted
   names-accepted j says =
       let again = names-calls kindOf posed .leaves-canonical a w .is-accepted in
-      accepted-so (verdictIn j) (verdict-is kindOf (take n new) 0 (take n new) j says ∙ rw (again .judged))
+      accepted-so j (says ∙ rw (again .judged))
 
   pub names-asked : (q : Question) (r r′ : Answer) (bytes bytes′ : List ℕ)
       → answered r ≡ asPlace (ask kindOf q p) → bytes ≡ asBytes (ask kindOf q p)

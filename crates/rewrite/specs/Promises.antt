@@ -2,13 +2,14 @@
 use Prim.Native.Nat.{ℕ}
 use mathlib.Core.List.{List}
 use Rattle.format.specs.Canonical.{canonicalNames, canonicalMetadata, canonicalHints}
-use Rattle.format.specs.Names.{knownKind}
+use Rattle.format.specs.Names.{kindIn}
 use Rattle.format.specs.Outputs.{Writes}
+use Rattle.format.specs.declared.Edition.{Edition}
 use Rattle.format.specs.declared.Written.{Written}
 
 -- rewrite
-abbrev pub rewrite-names : (p old : List ℕ) → List ℕ → Written → Type 0
-rewrite-names p old new r = Writes (canonicalNames knownKind p) old new r
+abbrev pub rewrite-names : (p : List ℕ) (edition : Edition) (old : List ℕ) → List ℕ → Written → Type 0
+rewrite-names p edition old new r = Writes (canonicalNames (kindIn edition) p) old new r
 
 abbrev pub rewrite-metadata : (p old : List ℕ) → List ℕ → Written → Type 0
 rewrite-metadata p old new r = Writes (canonicalMetadata p) old new r

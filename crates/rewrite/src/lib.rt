@@ -5,22 +5,22 @@ mod subsections;
 mod whole;
 
 ghost use Rattle.rewrite.specs.Promises.{rewrite-names, rewrite-metadata, rewrite-hints};
+use format::Edition;
 use format::Verdict;
 use format::Written;
 use format::refusal_of;
 use names::judging;
 use reading::Cursor;
 
-// The canonical form of a name payload.
-pub fn names(p: &[u8], out: &mut [u8]) -> Written
-    ensures { λ r. ⌜ rewrite-names (now (p .entry)) (now (out .entry)) (now (out .exit)) r ⌝ }
+// The canonical form of a name payload, which is read by an edition.
+pub fn names(p: &[u8], edition: Edition, out: &mut [u8]) -> Written
+    ensures { λ r. ⌜ rewrite-names (now (p .entry)) edition (now (out .entry)) (now (out .exit)) r ⌝ }
 {
-    let judged = judging::judge(p);
-    let verdict = judged.verdict();
+    let verdict = judging::judge(p, edition);
     let Verdict::Accepted = verdict else {
         return Written::Refused(refusal_of(verdict));
     };
-    subsections::put_payload(p, Cursor::over(p), out)
+    subsections::put_payload(p, Cursor::over(p), edition, out)
 }
 
 // The canonical form of a metadata payload of any format.

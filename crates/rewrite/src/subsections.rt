@@ -1,6 +1,6 @@
 // The subsections of a name payload that was accepted: how long what is left of them is, and written in their fewest bytes.
 ghost use mathlib.Core.Path.{_≡_};
-ghost use Rattle.format.specs.Names.{knownKind};
+ghost use Rattle.format.specs.Names.{kindIn};
 ghost use Rattle.rewrite.specs.Contents.{leftOf};
 ghost use Rattle.rewrite.specs.Subsections.{smallLeft, lengthLeft, KnownFrame, FrameStands, FitsSubsection, PutsSubsection, KnownPayload, MeasuresPayload, FitsPayload, PutsPayload, RewritesNames};
 use crate::contents::Left;
@@ -8,6 +8,7 @@ use crate::contents::content_left;
 use crate::contents::put_content;
 use crate::whole::put_whole;
 use copying::sized_length;
+use format::Edition;
 use format::Offset;
 use format::Reason;
 use format::Refusal;
@@ -57,16 +58,16 @@ fn frame_here(s: &[u8], c: Cursor) -> Frame
 }
 
 // How long what is left of all subsections is.
-fn names_length(s: &[u8], c: Cursor) -> usize
-    requires { ⌜ KnownPayload knownKind (now s) c ⌝ }
-    ensures { λ r. ⌜ MeasuresPayload knownKind (now (s .entry)) c r ⌝ }
+fn names_length(s: &[u8], c: Cursor, edition: Edition) -> usize
+    requires { ⌜ KnownPayload (kindIn edition) (now s) c ⌝ }
+    ensures { λ r. ⌜ MeasuresPayload (kindIn edition) (now (s .entry)) c r ⌝ }
 {
     let mut next = c;
     let mut length = 0;
     while next.at < next.end {
         let frame = frame_here(s, next);
         let part = frame.part;
-        let left = content_left(s, part, kind_of(frame.id));
+        let left = content_left(s, part, kind_of(edition, frame.id));
         let size = subsection_length(left);
         length = length + size;
         next = frame.next;
@@ -75,11 +76,18 @@ fn names_length(s: &[u8], c: Cursor) -> usize
 }
 
 // What is left of a subsection, with its id and its size; nothing where nothing is left.
-fn put_subsection(out: &mut [u8], at: usize, id: u8, s: &[u8], part: Cursor) -> usize
-    requires { ⌜ FitsSubsection knownKind id (now s) part (now out) at ⌝ }
-    ensures { λ r. ⌜ PutsSubsection knownKind id (now (s .entry)) part (now (out .entry)) (now (out .exit)) at r ⌝ }
+fn put_subsection(
+    out: &mut [u8],
+    at: usize,
+    edition: Edition,
+    id: u8,
+    s: &[u8],
+    part: Cursor,
+) -> usize
+    requires { ⌜ FitsSubsection (kindIn edition) id (now s) part (now out) at ⌝ }
+    ensures { λ r. ⌜ PutsSubsection (kindIn edition) id (now (s .entry)) part (now (out .entry)) (now (out .exit)) at r ⌝ }
 {
-    let kind = kind_of(id);
+    let kind = kind_of(edition, id);
     match content_left(s, part, kind) {
         Left::Nothing => at,
         Left::Contents(sizes) => {
@@ -92,26 +100,26 @@ fn put_subsection(out: &mut [u8], at: usize, id: u8, s: &[u8], part: Cursor) -> 
 }
 
 // What is left of all subsections, from the output's front on.
-fn put_names(out: &mut [u8], s: &[u8], c: Cursor) -> usize
-    requires { ⌜ FitsPayload knownKind (now s) c (now out) ⌝ }
-    ensures { λ r. ⌜ PutsPayload knownKind (now (s .entry)) c (now (out .entry)) (now (out .exit)) r ⌝ }
+fn put_names(out: &mut [u8], s: &[u8], c: Cursor, edition: Edition) -> usize
+    requires { ⌜ FitsPayload (kindIn edition) (now s) c (now out) ⌝ }
+    ensures { λ r. ⌜ PutsPayload (kindIn edition) (now (s .entry)) c (now (out .entry)) (now (out .exit)) r ⌝ }
 {
     let mut next = c;
     let mut place = 0;
     while next.at < next.end {
         let frame = frame_here(s, next);
-        place = put_subsection(out, place, frame.id, s, frame.part);
+        place = put_subsection(out, place, edition, frame.id, s, frame.part);
         next = frame.next;
     }
     place
 }
 
 // The whole payload. It is measured first, so that nothing is stored where the output is too short; and where it comes out as long as it is, it is copied.
-pub fn put_payload(p: &[u8], c: Cursor, out: &mut [u8]) -> Written
-    requires { ⌜ KnownPayload knownKind (now p) c ⌝ }
-    ensures { λ r. ⌜ RewritesNames knownKind (now (p .entry)) c (now (out .entry)) (now (out .exit)) r ⌝ }
+pub fn put_payload(p: &[u8], c: Cursor, edition: Edition, out: &mut [u8]) -> Written
+    requires { ⌜ KnownPayload (kindIn edition) (now p) c ⌝ }
+    ensures { λ r. ⌜ RewritesNames (kindIn edition) (now (p .entry)) c (now (out .entry)) (now (out .exit)) r ⌝ }
 {
-    let needed = names_length(p, c);
+    let needed = names_length(p, c, edition);
     if out.len() < needed {
         return Written::Refused(Refusal {
             reason: Reason::OutputTooShort,
@@ -122,6 +130,6 @@ pub fn put_payload(p: &[u8], c: Cursor, out: &mut [u8]) -> Written
         let end = put_whole(out, p, c);
         return Written::Length(end);
     }
-    let end = put_names(out, p, c);
+    let end = put_names(out, p, c, edition);
     Written::Length(end)
 }

@@ -1,4 +1,5 @@
 // Runs the worked cases of rewriting through the code: payloads rewritten into an output, what that leaves there, and what was written rewritten again. What it prints is held to the file stdout.
+use format::Edition;
 use format::Written;
 use libc::STDOUT_FILENO;
 use saying::Said;
@@ -60,7 +61,7 @@ fn say_written(case: &[u8], w: Written, out: &[u8]) {
 
 // Rewrites a name payload into an output, and says what that left.
 fn names_into(case: &[u8], payload: &[u8], out: &mut [u8]) {
-    let written = rewrite::names(payload, out);
+    let written = rewrite::names(payload, Edition::First, out);
     say_written(case, written, out);
 }
 
@@ -68,6 +69,13 @@ fn names_into(case: &[u8], payload: &[u8], out: &mut [u8]) {
 fn names(case: &[u8], payload: &[u8]) {
     let mut out = [UNTOUCHED; ROOM];
     names_into(case, payload, &mut out);
+}
+
+// The same by the wider edition.
+fn wide_names(case: &[u8], payload: &[u8]) {
+    let mut out = [UNTOUCHED; ROOM];
+    let written = rewrite::names(payload, Edition::Wider, &mut out);
+    say_written(case, written, &out);
 }
 
 // The same for metadata of any format.
@@ -206,6 +214,24 @@ fn no_data() {
     hints(b"a hint of size 0", padded);
 }
 
+// K9: an empty map of id 7 is dropped by the wider edition and kept by the first; labels are an indirect map.
+fn two_editions() {
+    wide_names(b"K9 an empty map of id 7", b"\x07\x01\x00");
+    names(
+        b"an empty map of id 7, by the first edition",
+        b"\x07\x01\x00",
+    );
+    wide_names(
+        b"K9 a group without labels",
+        b"\x03\x08\x02\x00\x00\x03\x01\x00\x01\x62",
+    );
+    wide_names(
+        b"K9 padded names of data segments",
+        b"\x09\x86\x00\x01\x80\x00\x81\x00\x64",
+    );
+    wide_names(b"K9 a byte FF under 7", b"\x07\x01\xFF");
+}
+
 fn main() {
     e7();
     name_examples();
@@ -217,4 +243,5 @@ fn main() {
     padded_hints();
     no_items();
     no_data();
+    two_editions();
 }

@@ -3,8 +3,9 @@ use Prim.Native.Nat.{ℕ, _+_}
 use mathlib.Core.List.{List}
 use mathlib.Core.Path.{_≡_}
 use Rattle.format.specs.Metadata.{hintAnswered}
-use Rattle.format.specs.Names.{knownKind}
+use Rattle.format.specs.Names.{kindIn}
 use Rattle.format.specs.Questions.{asPlace, asBytes, startOf, answered}
+use Rattle.format.specs.declared.Edition.{Edition}
 use Rattle.format.specs.declared.Question.{Question}
 use Rattle.format.specs.Through.{askThrough, askMetadataThrough, askHintThrough}
 use Rattle.format.specs.declared.Answer.{Answer}
@@ -13,11 +14,11 @@ use Rattle.format.specs.declared.FunctionIndex.{FunctionIndex}
 use Rattle.format.specs.declared.HintAnswer.{HintAnswer}
 
 -- through
-abbrev pub through-ask : (m : List ℕ) (q : Question) → Answer → Type 0
-through-ask m q r = answered r ≡ asPlace (askThrough knownKind q m)
+abbrev pub through-ask : (m : List ℕ) (edition : Edition) (q : Question) → Answer → Type 0
+through-ask m edition q r = answered r ≡ asPlace (askThrough (kindIn edition) q m)
 
-abbrev pub through-ask-bytes : (m : List ℕ) (lent-at : ℕ × ℕ) (q : Question) → (ℕ × ℕ) → List ℕ → Type 0
-through-ask-bytes m lent-at q begins bytes = (bytes ≡ asBytes (askThrough knownKind q m)) × (begins ≡ (lent-at .0, startOf (askThrough knownKind q m) + lent-at .1))
+abbrev pub through-ask-bytes : (m : List ℕ) (lent-at : ℕ × ℕ) (edition : Edition) (q : Question) → (ℕ × ℕ) → List ℕ → Type 0
+through-ask-bytes m lent-at edition q begins bytes = (bytes ≡ asBytes (askThrough (kindIn edition) q m)) × (begins ≡ (lent-at .0, startOf (askThrough (kindIn edition) q m) + lent-at .1))
 
 abbrev pub through-metadata : (m format : List ℕ) (f : FunctionIndex) (at : CodeOffset) → Answer → Type 0
 through-metadata m format f at r = answered r ≡ asPlace (askMetadataThrough format f at m)

@@ -7,6 +7,7 @@ use crate::sections::name_section;
 use crate::sections::over;
 use format::Answer;
 use format::CodeOffset;
+use format::Edition;
 use format::FunctionIndex;
 use format::HintAnswer;
 use format::Question;
@@ -17,21 +18,21 @@ use reading::taking::taken;
 
 mod sections;
 
-// A question to the name payload.
-pub fn ask(m: &[u8], q: Question) -> Answer
-    ensures { λ r. ⌜ through-ask (now (m .entry)) q r ⌝ }
+// A question to the name payload, which is read by an edition.
+pub fn ask(m: &[u8], edition: Edition, q: Question) -> Answer
+    ensures { λ r. ⌜ through-ask (now (m .entry)) edition q r ⌝ }
 {
     let found = name_section(m);
     let Answer::Found(place) = found else {
         return found;
     };
-    ask_in(m, over(m, place), q)
+    ask_in(m, over(m, place), edition, q)
 }
 
-pub fn ask_bytes(m: &[u8], q: Question) -> &[u8]
-    ensures { λ r. ⌜ through-ask-bytes (now (m .entry)) (m .entry .ptr) q (r .ptr) (now r) ⌝ }
+pub fn ask_bytes(m: &[u8], edition: Edition, q: Question) -> &[u8]
+    ensures { λ r. ⌜ through-ask-bytes (now (m .entry)) (m .entry .ptr) edition q (r .ptr) (now r) ⌝ }
 {
-    taken(m, ask(m, q))
+    taken(m, ask(m, edition, q))
 }
 
 // The data at an offset of a function, in the metadata of a format.

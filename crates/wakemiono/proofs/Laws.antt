@@ -8,11 +8,12 @@ use native.Mathlib.Omega.{arith}
 use borrow.Author.Needs.{needs}
 use denote.Enum.Declared.{tagOf}
 use Rattle.format.specs.Refusals.{numberOf}
-use Rattle.format.specs.Reading.{Judged as Judgement, verdict}
-use Rattle.format.specs.Names.{Kind, judgeNames}
+use Rattle.format.specs.Reading.{Judged as Judgement}
+use Rattle.format.specs.Names.{Kind}
 use Rattle.format.specs.Metadata.{hintAnswered}
 use Rattle.format.specs.Outputs.{writtenAs, Writes}
-use Rattle.format.specs.Questions.{answered}
+use Rattle.format.specs.Questions.{answered, ask, asPlace}
+use Rattle.format.specs.Through.{askThrough}
 use Rattle.format.specs.declared.Answer.{Answer}
 use Rattle.format.specs.declared.Answer.the-variants.{Found, Refused}
 use Rattle.format.specs.declared.Hint.{Hint}
@@ -32,9 +33,6 @@ use Rattle.format.specs.Verdicts.{verdictOf}
 use Rattle.format.specs.declared.Verdict.{Verdict}
 use Rattle.format.specs.declared.Verdict.the-variants.{Refused as NotAccepted}
 use Rattle.format.proofs.Verdict as verdict-type
-use Rattle.names.specs.Places.{Judges, verdictIn}
-use Rattle.names.specs.declared.judging.Judged.{Judged as NamesJudged}
-use Rattle.names.proofs.Verdicts.{verdict-is}
 use Rattle.walk.specs.Surveys.{counted, sectionAnswered}
 use Rattle.walk.specs.declared.Counted.{Counted}
 use Rattle.walk.specs.declared.Counted.the-variants.{Count, Refused as NotCounted}
@@ -44,7 +42,6 @@ use Rattle.walk.specs.declared.survey.SectionPlace.{SectionPlace}
 use Rattle.walk.proofs.survey.SectionAnswer as section-type
 use Rattle.walk.proofs.Tags.{no-section}
 use Rattle.wakemiono.specs.Boundary.{wmNone, wmFound, wmRefused, wmPlace, wmSection, wmCount, wmJudged, wmHinted, wmHint, WmWrites, wmYes}
-use Rattle.wakemiono.specs.Calls.{wm-name, wm-name-in}
 use Rattle.wakemiono.specs.declared.WmAnswer.{WmAnswer}
 
 pub refusal-is : (r : Refusal) (n : ℕ) → n ≡ numberOf (r .reason) → record { kind = 2; code = n; offset = r .offset .0; length = 0 } ≡ wmRefused (numberOf (r .reason)) (r .offset .0)
@@ -139,9 +136,6 @@ says-place a x y e q = e ∙ ap wmPlace q
 pub says-judged : (a : WmAnswer) (n : ℕ) (x y : Judgement (Unit {0})) → a ≡ wmJudged n x → x ≡ y → a ≡ wmJudged n y
 says-judged a n x y e q = e ∙ ap (wmJudged n) q
 
-pub says-names : (kindOf : ℕ → Kind) (s : List ℕ) (a : WmAnswer) (n : ℕ) (j : NamesJudged) (v : Verdict) → a ≡ wmJudged n (verdictOf v) → v ≡ verdictIn j → Judges kindOf s 0 s j → a ≡ wmJudged n (verdict (judgeNames kindOf 0 s))
-says-names kindOf s a n j v e of h = e ∙ ap (wmJudged n) (ap (λ w. verdictOf w) of ∙ verdict-is kindOf s 0 s j h)
-
 pub says-hint : (a : WmAnswer) (x y : Judgement (Option Hint)) → a ≡ wmHint x → x ≡ y → a ≡ wmHint y
 says-hint a x y e q = e ∙ ap wmHint q
 
@@ -149,10 +143,11 @@ pub says-written : {wanted : Judgement (List ℕ)} {old new : List ℕ} {a : WmA
 says-written w e h = record { says = e ∙ ap wmCount (h .says); leaves = h .leaves }
 
 -- one question under two names
-pub asked-so : (p : List ℕ) (a : WmAnswer) {q r : Question} → q ≡ r → wm-name q p a → wm-name r p a
-asked-so p a e h = rw e at h
+module _ (kindOf : ℕ → Kind) (bytes : List ℕ) (a : WmAnswer) {q r : Question} (e : q ≡ r) where
+  pub asked-so : a ≡ wmPlace (asPlace (ask kindOf q bytes)) → a ≡ wmPlace (asPlace (ask kindOf r bytes))
+  asked-so h = rw e at h
 
-pub asked-so-through : (m : List ℕ) (a : WmAnswer) {q r : Question} → q ≡ r → wm-name-in q m a → wm-name-in r m a
-asked-so-through m a e h = rw e at h
+  pub asked-so-through : a ≡ wmPlace (asPlace (askThrough kindOf q bytes)) → a ≡ wmPlace (asPlace (askThrough kindOf r bytes))
+  asked-so-through h = rw e at h
 
-pub ruleset calls = (asked-so, asked-so-through, says-count, says-section, says-place, says-judged, says-names, says-hint, says-written, needs)
+pub ruleset calls = (asked-so, asked-so-through, says-count, says-section, says-place, says-judged, says-hint, says-written, needs)

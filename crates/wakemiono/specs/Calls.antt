@@ -6,7 +6,7 @@ use lib.ListN.{length}
 use Rattle.format.specs.Canonical.{canonicalNames, canonicalMetadata, canonicalHints}
 use Rattle.format.specs.Lists.{functionNames}
 use Rattle.format.specs.Metadata.{anyItem, hintItem, judgeMetadata, askMetadata, askHint}
-use Rattle.format.specs.Names.{knownKind, judgeNames}
+use Rattle.format.specs.Names.{knownKind, widerKind, judgeNames}
 use Rattle.format.specs.Options.{mapSome}
 use Rattle.format.specs.Questions.{asPlace, ask}
 use Rattle.format.specs.declared.Question.{Question}
@@ -75,6 +75,22 @@ wm-metadata-is-canonical payload a = a ≡ wmYes (itemsAreCanonical anyItem payl
 
 abbrev pub wm-hints-is-canonical : (payload : List ℕ) → ℕ → Type 0
 wm-hints-is-canonical payload a = a ≡ wmYes (itemsAreCanonical hintItem payload)
+
+-- K9: the same of the wider edition. wm_wide_module_name asks ModuleName, and so on; wm_wide_label_name LabelName (record { 0 = function }) (record { 0 = label }), wm_wide_table_name TableName (record { 0 = table }), wm_wide_memory_name, wm_wide_global_name, wm_wide_element_name and wm_wide_data_name likewise
+abbrev pub wm-wide-names-judge : List ℕ → WmAnswer → Type 0
+wm-wide-names-judge payload a = a ≡ wmJudged (length payload) (verdict (judgeNames widerKind 0 payload))
+
+abbrev pub wm-wide-name : Question → List ℕ → WmAnswer → Type 0
+wm-wide-name q payload a = a ≡ wmPlace (asPlace (ask widerKind q payload))
+
+abbrev pub wm-wide-name-in : Question → List ℕ → WmAnswer → Type 0
+wm-wide-name-in q bytes a = a ≡ wmPlace (asPlace (askThrough widerKind q bytes))
+
+abbrev pub wm-wide-names-canonical : (payload old new : List ℕ) → WmAnswer → Type 0
+wm-wide-names-canonical payload old new a = WmWrites (canonicalNames widerKind payload) old new a
+
+abbrev pub wm-wide-names-is-canonical : (payload : List ℕ) → ℕ → Type 0
+wm-wide-names-is-canonical payload a = a ≡ wmYes (namesAreCanonical widerKind payload)
 
 abbrev pub wm-function-names-write : (indices lengths text old new : List ℕ) → WmAnswer → Type 0
 wm-function-names-write indices lengths text old new a = WmWrites (functionNames indices lengths text) old new a

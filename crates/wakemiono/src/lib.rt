@@ -12,6 +12,7 @@ ghost use Rattle.wakemiono.specs.Boundary.{wmFound, wmRefused, wmCount, 
 ghost use Rattle.wakemiono.specs.Calls.{wm-walk, wm-section, wm-custom, wm-names-judge, wm-name, wm-metadata-judge, wm-metadata, wm-hints-judge, wm-hint, wm-name-in, wm-metadata-in, wm-hint-in, wm-names-canonical, wm-metadata-canonical, wm-hints-canonical, wm-names-is-canonical, wm-metadata-is-canonical, wm-hints-is-canonical, wm-function-names-write};
 use format::Answer;
 use format::CodeOffset;
+use format::Edition;
 use format::FieldIndex;
 use format::FunctionIndex;
 use format::Hint;
@@ -26,6 +27,8 @@ use format::Written;
 use names::judging;
 use walk::Counted;
 use walk::survey::SectionAnswer;
+
+pub mod wide;
 
 // One answer for all calls, by value.
 #[repr(C)]
@@ -214,8 +217,7 @@ pub extern "C" fn wm_custom(bytes: &[u8], name: &[u8]) -> WmAnswer
 pub extern "C" fn wm_names_judge(payload: &[u8]) -> WmAnswer
     ensures { λ a. ⌜ wm-names-judge (now (payload .entry)) a ⌝ }
 {
-    let judged = judging::judge(payload);
-    of_verdict(judged.verdict(), payload.len())
+    of_verdict(judging::judge(payload, Edition::First), payload.len())
 }
 
 fn local_name(function: u32, local: u32) -> Question
@@ -234,7 +236,7 @@ fn field_name(index: u32, field: u32) -> Question
 fn asked(payload: &[u8], q: Question) -> WmAnswer
     ensures { λ a. ⌜ wm-name q (now (payload .entry)) a ⌝ }
 {
-    of_answer(names::ask(payload, q))
+    of_answer(names::ask(payload, Edition::First, q))
 }
 
 #[no_mangle]
@@ -318,7 +320,7 @@ pub extern "C" fn wm_hint(payload: &[u8], function: u32, offset: u32) -> WmAnswe
 fn asked_through(bytes: &[u8], q: Question) -> WmAnswer
     ensures { λ a. ⌜ wm-name-in q (now (bytes .entry)) a ⌝ }
 {
-    of_answer(through::ask(bytes, q))
+    of_answer(through::ask(bytes, Edition::First, q))
 }
 
 #[no_mangle]
@@ -393,7 +395,7 @@ pub extern "C" fn wm_hint_in(bytes: &[u8], function: u32, offset: u32) -> WmAnsw
 pub extern "C" fn wm_names_canonical(payload: &[u8], out: &mut [u8]) -> WmAnswer
     ensures { λ a. ⌜ wm-names-canonical (now (payload .entry)) (now (out .entry)) (now (out .exit)) a ⌝ }
 {
-    of_written(rewrite::names(payload, out))
+    of_written(rewrite::names(payload, Edition::First, out))
 }
 
 #[no_mangle]
@@ -414,7 +416,7 @@ pub extern "C" fn wm_hints_canonical(payload: &[u8], out: &mut [u8]) -> WmAnswer
 pub extern "C" fn wm_names_is_canonical(payload: &[u8]) -> u32
     ensures { λ a. ⌜ wm-names-is-canonical (now (payload .entry)) a ⌝ }
 {
-    of_yes(names::telling::is_canonical(payload))
+    of_yes(names::telling::is_canonical(payload, Edition::First))
 }
 
 #[no_mangle]

@@ -1,4 +1,5 @@
 // Runs the worked cases of writing from lists through the code: payloads written into an output, what is left there, and the payload read back. What it prints is held to the file stdout.
+use format::Edition;
 use format::FunctionIndex;
 use format::Question;
 use format::Written;
@@ -34,8 +35,7 @@ fn say(case: &[u8], said: Said) {
 
 // Judges a name payload, and says what that comes to.
 fn say_names(case: &[u8], payload: &[u8]) {
-    let judged = judging::judge(payload);
-    say(case, of_verdict(judged.verdict()));
+    say(case, of_verdict(judging::judge(payload, Edition::First)));
 }
 
 // Prints the line of bytes of an output.
@@ -83,15 +83,27 @@ fn read_back() {
     say_names(b"what was written", payload);
     say(
         b"its function 0",
-        of_answer(names::ask(payload, Question::FunctionName(FunctionIndex(0)))),
+        of_answer(names::ask(
+            payload,
+            Edition::First,
+            Question::FunctionName(FunctionIndex(0)),
+        )),
     );
     say(
         b"its function 1",
-        of_answer(names::ask(payload, Question::FunctionName(FunctionIndex(1)))),
+        of_answer(names::ask(
+            payload,
+            Edition::First,
+            Question::FunctionName(FunctionIndex(1)),
+        )),
     );
     say(
         b"its function 3",
-        of_answer(names::ask(payload, Question::FunctionName(FunctionIndex(3)))),
+        of_answer(names::ask(
+            payload,
+            Edition::First,
+            Question::FunctionName(FunctionIndex(3)),
+        )),
     );
 }
 

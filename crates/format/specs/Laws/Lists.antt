@@ -16,7 +16,7 @@ use Rattle.format.specs.Tables.{Table, nil, row, size, lookup}
 use Rattle.format.specs.Names.{Kind, nameMap, names, known, knownKind}
 use Rattle.format.specs.Questions.{answer, asked, idOf, queryOf, askAt, ask, asTold}
 use Rattle.format.specs.declared.Question.{Question}
-use Rattle.format.specs.declared.Question.the-variants.{ModuleName, FunctionName, TypeName, TagName, LocalName, FieldName, KeptContents}
+use Rattle.format.specs.declared.Question.the-variants.{ModuleName, FunctionName, LocalName, LabelName, TypeName, TableName, MemoryName, GlobalName, ElementName, DataName, FieldName, TagName, KeptContents}
 use Rattle.format.specs.declared.Query.{Query}
 use Rattle.format.specs.Holding.{Has, first, later, Lists, firstListed, laterListed}
 use Rattle.format.specs.Canonical.{writePart, writeRows, writeTable, writeContent, writeSubsections, canonicalNames}
@@ -123,7 +123,13 @@ answer-other : (t : Table (List ℕ)) (q : Question) → ((k : FunctionIndex) �
 unfolding answer lookup
 answer-other t ModuleName h = refl
 answer-other t (FunctionName k) h = h k refl
+answer-other t (LabelName k j) h = refl
 answer-other t (TypeName k) h = refl
+answer-other t (TableName k) h = refl
+answer-other t (MemoryName k) h = refl
+answer-other t (GlobalName k) h = refl
+answer-other t (ElementName k) h = refl
+answer-other t (DataName k) h = refl
 answer-other t (TagName k) h = refl
 answer-other t (LocalName k j) h = refl
 answer-other t (FieldName k j) h = refl

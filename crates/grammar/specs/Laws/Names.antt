@@ -13,13 +13,14 @@ use Rattle.format.specs.Reading.{got, filling, accepted}
 use Rattle.format.specs.Parts.{Part, name, remaining}
 use Rattle.format.specs.Text.{utf8}
 use Rattle.format.specs.Tables.{Table, nil, row, lookup, mapTable, table}
-use Rattle.format.specs.Names.{Kind, oneName, nameMap, indirectMap, kept, known, knownKind, Content, single, names, namesBy, whole, contents, subsections, payload, judgeNames}
+use Rattle.format.specs.Names.{Kind, oneName, nameMap, indirectMap, kept, known, knownKind, wider, widerKind, Content, single, names, namesBy, whole, contents, subsections, payload, judgeNames}
 use Rattle.format.specs.Canonical.{bare}
+use Rattle.format.specs.Laws.Editions.{name-known, map-known, indirect-known, known-alike, beyond-eleven, beyond-kept}
 use Rattle.format.specs.Laws.Outcomes.{got-value, byTest, inTurn, judged}
 use Rattle.format.specs.Laws.Turns.{inSubsection}
 use Rattle.format.specs.declared.Reason.the-variants.{NotText}
 use Rattle.grammar.specs.Lists.{Sized}
-use Rattle.grammar.specs.Names.{Name, name as named, NameMap, IndirectNameMap, SourceIds, moduleName, functionNames, localNames, typeNames, fieldNames, tagNames, anyOther, Contents, aName, aNameMap, anIndirectNameMap, anyBytes, Subsections, noSubsection, subsection, NamePayload, payload as aPayload}
+use Rattle.grammar.specs.Names.{Name, name as named, NameMap, IndirectNameMap, SourceIds, moduleName, functionNames, localNames, typeNames, fieldNames, tagNames, anyOther, WiderIds, ofTheSource, labelNames, tableNames, memoryNames, globalNames, elementNames, dataNames, anyOtherStill, Contents, aName, aNameMap, anIndirectNameMap, anyBytes, Subsections, noSubsection, subsection, NamePayload, payload as aPayload}
 use Rattle.grammar.specs.Laws.Exact.{read-bytes, left-bytes, no-longer, Exact, fills-sound, fills-complete}
 use Rattle.grammar.specs.Laws.CodePoints.{utf8-text, text-utf8}
 use Rattle.grammar.specs.Laws.Lists.{sized-exact, contents-bytes, tested-exact, table-exact, From, fromNil, fromRow, from-increasing, increasing-from}
@@ -70,6 +71,38 @@ source-only (anyOther {id = id} n0 n1 n2 n4 n10 n11) = sym (kept-id id n0 n1 n2 
 
 pub source-ids : SameIds SourceIds knownKind
 source-ids = record { has = source-has; only = source-only }
+
+-- and the proposal's is the wider edition's
+wider-has : (id : ℕ) → WiderIds id (widerKind id)
+unfolding widerKind wider lookup
+wider-has id =
+    byTest (eqb id 0) (λ t. rw (eqb-true id 0 t) (ofTheSource moduleName name-known)) λ n0.
+    byTest (eqb id 1) (λ t. rw (eqb-true id 1 t) (ofTheSource functionNames map-known)) λ n1.
+    byTest (eqb id 2) (λ t. rw (eqb-true id 2 t) (ofTheSource localNames indirect-known)) λ n2.
+    byTest (eqb id 3) (λ t. rw (eqb-true id 3 t) labelNames) λ n3.
+    byTest (eqb id 4) (λ t. rw (eqb-true id 4 t) (ofTheSource typeNames map-known)) λ n4.
+    byTest (eqb id 5) (λ t. rw (eqb-true id 5 t) tableNames) λ n5.
+    byTest (eqb id 6) (λ t. rw (eqb-true id 6 t) memoryNames) λ n6.
+    byTest (eqb id 7) (λ t. rw (eqb-true id 7 t) globalNames) λ n7.
+    byTest (eqb id 8) (λ t. rw (eqb-true id 8 t) elementNames) λ n8.
+    byTest (eqb id 9) (λ t. rw (eqb-true id 9 t) dataNames) λ n9.
+    byTest (eqb id 10) (λ t. rw (eqb-true id 10 t) (ofTheSource fieldNames indirect-known)) λ n10.
+    byTest (eqb id 11) (λ t. rw (eqb-true id 11 t) (ofTheSource tagNames map-known)) λ n11.
+    rw (n0, n1, n2, n3, n4, n5, n6, n7, n8, n9, n10, n11) (anyOtherStill (beyond-eleven id (eqb-false id 0 n0) (eqb-false id 1 n1) (eqb-false id 2 n2) (eqb-false id 3 n3) (eqb-false id 4 n4) (eqb-false id 5 n5) (eqb-false id 6 n6) (eqb-false id 7 n7) (eqb-false id 8 n8) (eqb-false id 9 n9) (eqb-false id 10 n10) (eqb-false id 11 n11)))
+
+wider-only : {id : ℕ} {kind : Kind} → WiderIds id kind → kind ≡ widerKind id
+unfolding widerKind wider lookup
+wider-only (ofTheSource {id = id} i n) = sym (known-alike id (sym (source-only i)) n)
+wider-only labelNames = refl
+wider-only tableNames = refl
+wider-only memoryNames = refl
+wider-only globalNames = refl
+wider-only elementNames = refl
+wider-only dataNames = refl
+wider-only (anyOtherStill {id = id} h) = sym (beyond-kept id h)
+
+pub wider-ids : SameIds WiderIds widerKind
+wider-ids = record { has = wider-has; only = wider-only }
 
 -- contents by kind
 map-sound {ℓ} : {C : Type ℓ} (o : ℕ) (bs : List ℕ) {c : Content Part} {o′ : ℕ} {rest : List ℕ} → Bytes bs → contents nameMap o bs ≡ got c o′ rest → ((t : Table (List ℕ)) → NameMap bs t → names t ≡ bare c → C) → C

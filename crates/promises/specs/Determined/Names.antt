@@ -2,24 +2,25 @@
 use Prim.Native.Nat.{ℕ}
 use mathlib.Core.List.{List}
 use mathlib.Core.Path.{_≡_, sym, _∙_}
-use Rattle.format.specs.Determined.{Determines1, Determines2, Determines3, Determines4, DeterminesBoth3, Determines, equal-determined, meaning-determined, answer-determined, part-determined}
+use Rattle.format.specs.Determined.{Determines2, Determines3, Determines4, DeterminesBoth4, Determines, equal-determined, meaning-determined, answer-determined, part-determined}
 use Rattle.format.specs.Laws.Answers.{same-answer}
+use Rattle.format.specs.Laws.Refusals.{same-verdict}
 use Rattle.format.specs.Parts.{Part}
 use Rattle.format.specs.Questions.{answered}
 use Rattle.format.specs.Reading.{verdict, accepted}
 use Rattle.format.specs.Tables.{Table}
 use Rattle.format.specs.declared.Answer.{Answer}
-use Rattle.names.proofs.Same.{judge-same, kind-same, frame-same, placed-same, stands-same}
+use Rattle.names.proofs.Same.{kind-same, frame-same, put-same, stands-same}
 use Rattle.names.specs.Frames.{judgeFrames}
 use Rattle.names.specs.declared.kinds.Kind.{Kind}
 use Rattle.reading.specs.Cursors.{left}
 use Rattle.reading.specs.declared.Cursor.{Cursor}
-use Rattle.names.specs.Promises.{names-ask, names-ask-bytes, names-the-name, names-named, names-named-within, names-all-kept, names-one-name, names-content, names-frame, names-subsection, names-judged-verdict, names-judge-in, names-judge, names-find, names-kind-of, names-placed, names-place-of, names-is-canonical, names-ask-in}
+use Rattle.names.specs.Promises.{names-ask, names-ask-bytes, names-the-name, names-named, names-named-within, names-all-kept, names-one-name, names-content, names-frame, names-subsection, names-judge, names-find, names-kind-of, names-put-place, names-place-of, names-is-canonical, names-ask-in}
 
 pub record Names : Type 0 where
   -- names
-  names-ask : Determines2 names-ask
-  names-ask-bytes : DeterminesBoth3 names-ask-bytes
+  names-ask : Determines3 names-ask
+  names-ask-bytes : DeterminesBoth4 names-ask-bytes
   -- names::asking
   names-the-name : Determines2 names-the-name
   names-named : Determines3 names-named
@@ -29,41 +30,37 @@ pub record Names : Type 0 where
   names-one-name : Determines2 names-one-name
   -- names::frames
   names-frame : Determines3 names-frame
-  names-subsection : Determines3 names-subsection
+  names-subsection : Determines4 names-subsection
   -- names::judging
-  names-judged-verdict : Determines1 names-judged-verdict
-  names-judge-in : Determines2 names-judge-in
-  names-judge : Determines1 names-judge
+  names-judge : Determines2 names-judge
   -- names::kinds
-  names-kind-of : Determines1 names-kind-of
+  names-kind-of : Determines2 names-kind-of
   -- names::places
-  names-placed : Determines3 names-placed
+  names-put-place : Determines4 names-put-place
   names-place-of : Determines2 names-place-of
   -- names::telling
-  names-is-canonical : Determines1 names-is-canonical
+  names-is-canonical : Determines2 names-is-canonical
   -- names::within
-  names-ask-in : Determines3 names-ask-in
+  names-ask-in : Determines4 names-ask-in
 
 pub determined : Names
 determined =
     record {
-      names-ask = λ p q. answer-determined _;
-      names-ask-bytes = λ p lent-at q. part-determined _ _;
+      names-ask = λ p edition q. answer-determined _;
+      names-ask-bytes = λ p lent-at edition q. part-determined _ _;
       names-the-name = λ s place a b h h′. same-answer a b (h .says ∙ sym (h′ .says));
       names-named = λ s place key a b h h′. same-answer a b (h .says ∙ sym (h′ .says));
       names-named-within = λ s place key inner a b h h′. same-answer a b (h .says ∙ sym (h′ .says));
       names-all-kept = λ s place a b h h′. same-answer a b (h .says ∙ sym (h′ .says));
       names-one-name = λ s part a b h h′. same-answer a b (h .says ∙ sym (h′ .says));
       names-frame = λ s c least. frame-same;
-      names-subsection = λ s c least. frame-same;
-      names-judged-verdict = λ self. equal-determined _;
-      names-judge-in = λ s c. judge-same _ _ _ _;
-      names-judge = λ p. judge-same _ _ _ _;
-      names-kind-of = λ id. meaning-determined kind-same _;
-      names-placed = λ places id part. placed-same;
+      names-subsection = λ s c edition least. frame-same;
+      names-judge = λ p edition. meaning-determined same-verdict _;
+      names-kind-of = λ edition id. meaning-determined kind-same _;
+      names-put-place = λ old edition id part. put-same;
       names-place-of = λ places id. equal-determined _;
-      names-is-canonical = λ p. equal-determined _;
-      names-ask-in = λ s c q. answer-determined _;
+      names-is-canonical = λ p edition. equal-determined _;
+      names-ask-in = λ s c edition q. answer-determined _;
     }
 
 -- THE EXCEPTIONS, which leave open what nobody asks

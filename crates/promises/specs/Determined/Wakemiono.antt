@@ -5,7 +5,7 @@ use Rattle.format.specs.Determined.{Determines, Determines1, Determines2, Deter
 use Rattle.format.specs.Reading.{Judged}
 use Rattle.wakemiono.proofs.Same.{wm-writes-same}
 use Rattle.wakemiono.specs.Boundary.{WmWrites}
-use Rattle.wakemiono.specs.Calls.{wm-walk, wm-section, wm-custom, wm-names-judge, wm-name, wm-metadata-judge, wm-metadata, wm-hints-judge, wm-hint, wm-name-in, wm-metadata-in, wm-hint-in, wm-names-canonical, wm-metadata-canonical, wm-hints-canonical, wm-names-is-canonical, wm-metadata-is-canonical, wm-hints-is-canonical, wm-function-names-write}
+use Rattle.wakemiono.specs.Calls.{wm-walk, wm-section, wm-custom, wm-names-judge, wm-name, wm-metadata-judge, wm-metadata, wm-hints-judge, wm-hint, wm-name-in, wm-metadata-in, wm-hint-in, wm-names-canonical, wm-metadata-canonical, wm-hints-canonical, wm-names-is-canonical, wm-metadata-is-canonical, wm-hints-is-canonical, wm-function-names-write, wm-wide-names-judge, wm-wide-name, wm-wide-name-in, wm-wide-names-canonical, wm-wide-names-is-canonical}
 use Rattle.wakemiono.specs.declared.WmAnswer.{WmAnswer}
 
 -- One answer and one end state alone meet the promise of a write
@@ -32,6 +32,11 @@ pub record Wakemiono : Type 0 where
   wm-metadata-is-canonical : Determines1 wm-metadata-is-canonical
   wm-hints-is-canonical : Determines1 wm-hints-is-canonical
   wm-function-names-write : DeterminesBoth4 wm-function-names-write
+  wm-wide-names-judge : Determines1 wm-wide-names-judge
+  wm-wide-name : Determines2 wm-wide-name
+  wm-wide-name-in : Determines2 wm-wide-name-in
+  wm-wide-names-canonical : DeterminesBoth2 wm-wide-names-canonical
+  wm-wide-names-is-canonical : Determines1 wm-wide-names-is-canonical
 
 pub determined : Wakemiono
 determined =
@@ -55,4 +60,9 @@ determined =
       wm-metadata-is-canonical = λ payload. equal-determined _;
       wm-hints-is-canonical = λ payload. equal-determined _;
       wm-function-names-write = λ indices lengths text old. wm-writes-determined _ _;
+      wm-wide-names-judge = λ payload. equal-determined _;
+      wm-wide-name = λ q payload. equal-determined _;
+      wm-wide-name-in = λ q bytes. equal-determined _;
+      wm-wide-names-canonical = λ payload old. wm-writes-determined _ _;
+      wm-wide-names-is-canonical = λ payload. equal-determined _;
     }

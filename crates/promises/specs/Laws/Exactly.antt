@@ -10,7 +10,7 @@ use lib.Dec.{leb}
 use lib.ListN.{length, take, drop}
 use Rattle.format.specs.Laws.Outcomes.{not-accepted, accepted-is, byTest, refused-exactly}
 use Rattle.format.specs.Metadata.{hintItem, judgeMetadata, itemAt, askMetadata, hintIn, askHint}
-use Rattle.format.specs.Names.{knownKind, judgeNames}
+use Rattle.format.specs.Names.{Kind, judgeNames}
 use Rattle.format.specs.Outputs.{fitting, writeAnswer}
 use Rattle.format.specs.Parts.{Part}
 use Rattle.format.specs.Questions.{idOf, queryOf, answer, asked, askAt, asPlace}
@@ -52,9 +52,9 @@ module _ {A B : Type 0} (wm : Judged (Option A) → WmAnswer) (says : (j : Judge
   unfolding through
   through-exactly a e n at = (λ r. from-payload (customPayload x m) refl n at (says (through x question m) n at .0 (sym e ∙ r)), λ r. to-through a e r)
 
-pub name-in-exactly : (q : Question) (m : List ℕ) (a : WmAnswer) → a ≡ wmPlace (asPlace (askThrough knownKind q m)) → (n at : ℕ) → (a ≡ wmRefused n at) ↔ RefusedThrough nameSection (judgeNames knownKind) m n at
+pub name-in-exactly : (kindOf : ℕ → Kind) (q : Question) (m : List ℕ) (a : WmAnswer) → a ≡ wmPlace (asPlace (askThrough kindOf q m)) → (n at : ℕ) → (a ≡ wmRefused n at) ↔ RefusedThrough nameSection (judgeNames kindOf) m n at
 unfolding askThrough askAt asked
-name-in-exactly q m = through-exactly (λ j. wmPlace (asPlace j)) refused-said (judgeNames knownKind) (askAt knownKind q) (λ k p n at. refused-exactly (answer (idOf q) (queryOf q)) (judgeNames knownKind k p)) nameSection m
+name-in-exactly kindOf q m = through-exactly (λ j. wmPlace (asPlace j)) refused-said (judgeNames kindOf) (askAt kindOf q) (λ k p n at. refused-exactly (answer (idOf q) (queryOf q)) (judgeNames kindOf k p)) nameSection m
 
 pub metadata-in-exactly : (format : List ℕ) (f : FunctionIndex) (o : CodeOffset) (m : List ℕ) (a : WmAnswer) → a ≡ wmPlace (asPlace (askMetadataThrough format f o m)) → (n at : ℕ) → (a ≡ wmRefused n at) ↔ RefusedThrough (metadataSection format) (judgeMetadata (itemOf format)) m n at
 unfolding askMetadataThrough askMetadata

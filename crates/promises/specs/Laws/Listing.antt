@@ -7,7 +7,7 @@ use mathlib.Core.Path.{_≡_, refl, sym, ap, _∙_}
 use lib.Dec.{eqb}
 use lib.ListN.{length, take}
 use Rattle.format.specs.Canonical.{canonicalNames}
-use Rattle.format.specs.Theorems.{known-answered}
+use Rattle.format.specs.Theorems.{questions-answered}
 use Rattle.format.specs.Laws.Answers.{told-none}
 use Rattle.format.specs.Laws.Holding.{none-exactly}
 use Rattle.format.specs.Laws.Lists.{Written, written, listed-exactly, lists-told, lists-stay}
@@ -17,7 +17,7 @@ use Rattle.format.specs.Lists.{Indices, listed, functionNames}
 use Rattle.format.specs.Names.{nameMap, known, knownKind, names, judgeNames}
 use Rattle.format.specs.Questions.{idOf, queryOf, answer, askAt, ask, asPlace, asTold}
 use Rattle.format.specs.declared.Question.{Question}
-use Rattle.format.specs.declared.Question.the-variants.{ModuleName, FunctionName, TypeName, TagName, LocalName, FieldName, KeptContents}
+use Rattle.format.specs.declared.Question.the-variants.{ModuleName, FunctionName, LocalName, LabelName, TypeName, TableName, MemoryName, GlobalName, ElementName, DataName, FieldName, TagName, KeptContents}
 use Rattle.format.specs.Reading.{accepted, verdict}
 use Rattle.format.specs.Tables.{nil, row, lookup}
 use Rattle.wakemiono.specs.Boundary.{wmFound, wmPlace, wmJudged, WmWrites}
@@ -41,6 +41,12 @@ module _ {is ns text bs : List ℕ} (w : Written is ns text bs) where
   answered-listed ModuleName x = nothing-there x refl
   answered-listed (FunctionName k) x = listed-exactly w (k .0) x
   answered-listed (TypeName k) x = nothing-there x refl
+  answered-listed (LabelName k j) x = nothing-there x refl
+  answered-listed (TableName k) x = nothing-there x refl
+  answered-listed (MemoryName k) x = nothing-there x refl
+  answered-listed (GlobalName k) x = nothing-there x refl
+  answered-listed (ElementName k) x = nothing-there x refl
+  answered-listed (DataName k) x = nothing-there x refl
   answered-listed (TagName k) x = nothing-there x refl
   answered-listed (LocalName k j) x = nothing-there x refl
   answered-listed (FieldName k j) x = nothing-there x refl
@@ -54,7 +60,7 @@ module _ {is ns text bs : List ℕ} (w : Written is ns text bs) where
   written-tells q e =
       let told : asTold (ask knownKind q bs) ≡ accepted (answer (idOf q) (queryOf q) (row 1 (names (listed is ns text)) nil)) = all-told q in
       rw e (
-        λ x. Iff·trans (found-said bs (ask knownKind q bs) (λ y h. known-answered .very-bytes q bs h) x) (Iff·trans (accepted-exactly told) (answered-listed q x)),
+        λ x. Iff·trans (found-said bs (ask knownKind q bs) (λ y h. questions-answered knownKind .very-bytes q bs h) x) (Iff·trans (accepted-exactly told) (answered-listed q x)),
         Iff·trans (none-said (ask knownKind q bs)) (Iff·trans (told-none (ask knownKind q bs)) (Iff·trans (accepted-exactly told) (none-exactly _ (answered-listed q)))),
       )
 
@@ -68,7 +74,7 @@ module _ (is ns text old new : List ℕ) (a : WmAnswer) (indices : Indices is) (
   pub lists-accepted : (j : WmAnswer) → j ≡ wmJudged (length (take (a .length) new)) (verdict (judgeNames knownKind 0 (take (a .length) new))) → j .kind ≡ 1
   lists-accepted j e =
       let p : List ℕ = take (a .length) new in
-      let was = names-first-judged p p (lists-stay knownKind map-kind lists-written) in
+      let was = names-first-judged knownKind p p (lists-stay knownKind map-kind lists-written) in
       judged-said (length p) (judgeNames knownKind 0 p) e .found .1 (was .value, was .judged)
 
   pub lists-read-back : (q : Question) (b : WmAnswer) → b ≡ wmPlace (asPlace (ask knownKind q (take (a .length) new))) → Tells (take (a .length) new) (λ x. Listed is ns text q x) b

@@ -12,7 +12,7 @@ use Rattle.format.specs.Laws.Options.{byOption}
 use Rattle.format.specs.Laws.Outcomes.{byTest}
 use Rattle.format.specs.Laws.Tables.{lookup-map}
 use Rattle.format.specs.Metadata.{hintOf, anyItem, hintItem, metadata, judgeMetadata, itemAt, askMetadata, hintIn, askHint}
-use Rattle.format.specs.Names.{Kind, oneName, nameMap, indirectMap, kept, Content, single, names, namesBy, whole, knownKind, contents, subsections, payload, judgeNames}
+use Rattle.format.specs.Names.{Kind, oneName, nameMap, indirectMap, kept, Content, single, names, namesBy, whole, contents, subsections, payload, judgeNames}
 use Rattle.format.specs.Numbers.{groups, number}
 use Rattle.format.specs.Options.{thenSome, mapSome, isSome}
 use Rattle.format.specs.Parts.{Part, sized, name, remaining, goOn, cut}
@@ -146,9 +146,9 @@ subsections-move kindOf (suc most) least k o (id ∷ bs) =
     then-moves (moveContent k) (mapTable (moveContent k)) k (goOn (contents (kindOf id) (p .at) (p .bytes)) o₁ r₁) (goOn (contents (kindOf id) (k + p .at) (p .bytes)) (k + o₁) r₁) _ _ (part-moves (moveContent k) k (contents (kindOf id) (p .at) (p .bytes)) (contents (kindOf id) (k + p .at) (p .bytes)) o₁ r₁ (contents-move (kindOf id) k (p .at) (p .bytes))) λ c o₂ r₂.
     then-moves (mapTable (moveContent k)) (mapTable (moveContent k)) k (subsections kindOf most (suc id) o₂ r₂) (subsections kindOf most (suc id) (k + o₂) r₂) _ _ (subsections-move kindOf most (suc id) k o₂ r₂) λ t o₃ r₃. refl))
 
-names-move : (k : ℕ) (p : List ℕ) → judgeNames knownKind k p ≡ movedJudged (mapTable (moveContent k)) k (judgeNames knownKind 0 p)
+names-move : (kindOf : ℕ → Kind) (k : ℕ) (p : List ℕ) → judgeNames kindOf k p ≡ movedJudged (mapTable (moveContent k)) k (judgeNames kindOf 0 p)
 unfolding judgeNames payload
-names-move k p = ap (λ n. judge (payload knownKind n p)) (sym (add-zero k)) ∙ ap judge (subsections-move knownKind (length p) 0 k 0 p) ∙ judge-moved _ k (payload knownKind 0 p)
+names-move kindOf k p = ap (λ n. judge (payload kindOf n p)) (sym (add-zero k)) ∙ ap judge (subsections-move kindOf (length p) 0 k 0 p) ∙ judge-moved _ k (payload kindOf 0 p)
 
 -- Answers
 map-moved : {A B : Type 0} (f : A → B) (move : A → A) (moveOther : B → B) (k : ℕ) (j : Judged A) → ((v : A) → f (move v) ≡ moveOther (f v)) → mapJudged f (movedJudged move k j) ≡ movedJudged moveOther k (mapJudged f j)
@@ -181,9 +181,9 @@ answer-moves : (k id : ℕ) (q : Query) (t : Table (Content Part)) → answer id
 unfolding answer
 answer-moves k id q t = rw (lookup-map (moveContent k) id t) (byOption (lookup id t) (λ e. rw e) (λ c e. rw e (answer-in-moves k q c)))
 
-pub name-asked-moves : (q : Question) (k : ℕ) (p : List ℕ) → askAt knownKind q k p ≡ movedJudged (mapSome (movePart k)) k (askAt knownKind q 0 p)
+pub name-asked-moves : (kindOf : ℕ → Kind) (q : Question) (k : ℕ) (p : List ℕ) → askAt kindOf q k p ≡ movedJudged (mapSome (movePart k)) k (askAt kindOf q 0 p)
 unfolding askAt asked
-name-asked-moves q k p = ap (mapJudged (answer (idOf q) (queryOf q))) (names-move k p) ∙ map-moved (answer (idOf q) (queryOf q)) (mapTable (moveContent k)) (mapSome (movePart k)) k (judgeNames knownKind 0 p) (answer-moves k (idOf q) (queryOf q))
+name-asked-moves kindOf q k p = ap (mapJudged (answer (idOf q) (queryOf q))) (names-move kindOf k p) ∙ map-moved (answer (idOf q) (queryOf q)) (mapTable (moveContent k)) (mapSome (movePart k)) k (judgeNames kindOf 0 p) (answer-moves k (idOf q) (queryOf q))
 
 -- Metadata and hints
 module _ (item : Reader Part) (moves : Moves movePart item) where

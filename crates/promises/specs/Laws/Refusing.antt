@@ -10,7 +10,7 @@ use lib.ListN.{length}
 use Rattle.format.specs.Bytes.{same}
 use Rattle.format.specs.Laws.Outcomes.{not-accepted, byTest}
 use Rattle.format.specs.Metadata.{hintOf, anyItem, hintItem, metadata, judgeMetadata}
-use Rattle.format.specs.Names.{Kind, oneName, nameMap, indirectMap, kept, knownKind, contents, subsections, payload, judgeNames}
+use Rattle.format.specs.Names.{Kind, oneName, nameMap, indirectMap, kept, contents, subsections, payload, judgeNames}
 use Rattle.format.specs.Numbers.{groups, number}
 use Rattle.format.specs.Options.{isSome}
 use Rattle.format.specs.Parts.{Part, sized, name, remaining, goOn}
@@ -126,9 +126,9 @@ module _ {A : Type 0} where
   fairly-judged (got v o bs) f = fairly-accepted
   fairly-judged (stop n at) f = record { numbered = λ m at′ e. f .numbered m at′ (let c : n ≡ m = cc in let o : at ≡ at′ = cc in rw (c, o)) }
 
-pub names-fair : (at : ℕ) (p : List ℕ) → FairlyJudged (judgeNames knownKind at p)
+pub names-fair : (kindOf : ℕ → Kind) (at : ℕ) (p : List ℕ) → FairlyJudged (judgeNames kindOf at p)
 unfolding judgeNames payload
-names-fair at p = fairly-judged (payload knownKind at p) (subsections-fair knownKind (length p) 0 at p)
+names-fair kindOf at p = fairly-judged (payload kindOf at p) (subsections-fair kindOf (length p) 0 at p)
 
 pub any-fair : (o : ℕ) (bs : List ℕ) → Fair (anyItem o bs)
 unfolding anyItem

@@ -8,11 +8,11 @@ use native.Mathlib.Omega.{arith}
 use lib.ListN.{length, take}
 use Rattle.format.specs.Bytes.{Bytes}
 use Rattle.format.specs.Canonical.{rewriteNames, canonicalNames, rewriteMetadata, canonicalOf, canonicalMetadata, canonicalHints}
-use Rattle.format.specs.Theorems.{VeryBytes, Rewrites, ItemQuestion, itemTold, known-answered, any-metadata-answered}
+use Rattle.format.specs.Theorems.{VeryBytes, Rewrites, ItemQuestion, itemTold, questions-answered, any-metadata-answered}
 use Rattle.format.specs.Laws.Options.{not-some, some-is}
 use Rattle.format.specs.Laws.Outcomes.{accepted-is, mapped}
 use Rattle.format.specs.Metadata.{anyItem, hintItem, judgeMetadata, itemAt, askMetadata}
-use Rattle.format.specs.Names.{knownKind, judgeNames}
+use Rattle.format.specs.Names.{Kind, judgeNames}
 use Rattle.format.specs.Parts.{Part}
 use Rattle.format.specs.Questions.{idOf, queryOf, answer, asked, askAt, ask, asPlace, asTold}
 use Rattle.format.specs.declared.Question.{Question}
@@ -109,9 +109,9 @@ pub rewriting-refused : {A : Type 0} {judgement : List ℕ → Judged A} (rewrit
 rewriting-refused rewriting refuses p old new a j says w n at e = wrote-refused w (refuses p n at (says .refusal n at .0 e))
 
 -- What was rewritten was accepted, and the answers of two accepted payloads are compared: names, metadata and hints
-pub names-first-judged : (p bytes : List ℕ) → canonicalNames knownKind p ≡ accepted bytes → Accepted (judgeNames knownKind 0) p
+pub names-first-judged : (kindOf : ℕ → Kind) (p bytes : List ℕ) → canonicalNames kindOf p ≡ accepted bytes → Accepted (judgeNames kindOf 0) p
 unfolding canonicalNames
-names-first-judged p bytes e = mapped rewriteNames (judgeNames knownKind 0 p) e λ v is _. record { value = v; judged = is }
+names-first-judged kindOf p bytes e = mapped rewriteNames (judgeNames kindOf 0 p) e λ v is _. record { value = v; judged = is }
 
 items-first-judged : (item : Reader Part) (p bytes : List ℕ) → canonicalOf item p ≡ accepted bytes → Accepted (judgeMetadata item 0) p
 unfolding canonicalOf
@@ -125,9 +125,9 @@ pub hints-first-judged : (p bytes : List ℕ) → canonicalHints p ≡ accepted 
 unfolding canonicalHints
 hints-first-judged = items-first-judged hintItem
 
-pub names-refuse : (p : List ℕ) (n at : ℕ) → judgeNames knownKind 0 p ≡ refused n at → canonicalNames knownKind p ≡ refused n at
+pub names-refuse : (kindOf : ℕ → Kind) (p : List ℕ) (n at : ℕ) → judgeNames kindOf 0 p ≡ refused n at → canonicalNames kindOf p ≡ refused n at
 unfolding canonicalNames
-names-refuse p n at e = rw e
+names-refuse kindOf p n at e = rw e
 
 pub metadata-refuse : (p : List ℕ) (n at : ℕ) → judgeMetadata anyItem 0 p ≡ refused n at → canonicalMetadata p ≡ refused n at
 unfolding canonicalMetadata canonicalOf
@@ -137,9 +137,9 @@ pub hints-refuse : (p : List ℕ) (n at : ℕ) → judgeMetadata hintItem 0 p �
 unfolding canonicalHints canonicalOf
 hints-refuse p n at e = rw e
 
-pub names-compared : (q : Question) (x y : List ℕ) (a b : WmAnswer) → Accepted (judgeNames knownKind 0) x → Accepted (judgeNames knownKind 0) y → a ≡ wmPlace (asPlace (ask knownKind q x)) → b ≡ wmPlace (asPlace (ask knownKind q y)) → SameAnswer x y a b ↔ (asTold (ask knownKind q x) ≡ asTold (ask knownKind q y))
+pub names-compared : (kindOf : ℕ → Kind) (q : Question) (x y : List ℕ) (a b : WmAnswer) → Accepted (judgeNames kindOf 0) x → Accepted (judgeNames kindOf 0) y → a ≡ wmPlace (asPlace (ask kindOf q x)) → b ≡ wmPlace (asPlace (ask kindOf q y)) → SameAnswer x y a b ↔ (asTold (ask kindOf q x) ≡ asTold (ask kindOf q y))
 unfolding ask askAt asked
-names-compared q x y a b ax ay e e′ = places-same (answer (idOf q) (queryOf q)) (judgeNames knownKind 0 x) (judgeNames knownKind 0 y) (ax .judged) (ay .judged) (λ p h. known-answered .very-bytes q x h) (λ p h. known-answered .very-bytes q y h) e e′
+names-compared kindOf q x y a b ax ay e e′ = places-same (answer (idOf q) (queryOf q)) (judgeNames kindOf 0 x) (judgeNames kindOf 0 y) (ax .judged) (ay .judged) (λ p h. questions-answered kindOf .very-bytes q x h) (λ p h. questions-answered kindOf .very-bytes q y h) e e′
 
 pub metadata-compared : (q : ItemQuestion) (x y : List ℕ) (a b : WmAnswer) → Accepted (judgeMetadata anyItem 0) x → Accepted (judgeMetadata anyItem 0) y → a ≡ wmPlace (asPlace (askMetadata anyItem (q .0) (q .1) 0 x)) → b ≡ wmPlace (asPlace (askMetadata anyItem (q .0) (q .1) 0 y)) → SameAnswer x y a b ↔ (itemTold anyItem q x ≡ itemTold anyItem q y)
 unfolding askMetadata

@@ -16,7 +16,7 @@ use Rattle.format.specs.Laws.Places.{lies-there, lies-inside}
 use Rattle.format.specs.Metadata.{anyItem, hintItem, metadata, judgeMetadata, askMetadata, askHint}
 use Rattle.format.specs.Options.{mapSome}
 use Rattle.format.specs.Parts.{Part}
-use Rattle.format.specs.Names.{knownKind}
+use Rattle.format.specs.Names.{Kind}
 use Rattle.format.specs.Questions.{askAt, ask, asPlace}
 use Rattle.format.specs.declared.Question.{Question}
 use Rattle.format.specs.Reading.{Judged, accepted, refused, judgedThen, verdict}
@@ -99,9 +99,9 @@ places-through x question moves m a c e d = (
   through-moved (λ j. wmPlace (asPlace j)) question x m a c e d (λ k p. rw (moves k p) (place-moved k (question 0 p))),
 )
 
-pub name-through : (q : Question) → PutThrough nameSection (λ p b. b ≡ wmPlace (asPlace (ask knownKind q p))) (λ m a. a ≡ wmPlace (asPlace (askThrough knownKind q m)))
+pub name-through : (kindOf : ℕ → Kind) (q : Question) → PutThrough nameSection (λ p b. b ≡ wmPlace (asPlace (ask kindOf q p))) (λ m a. a ≡ wmPlace (asPlace (askThrough kindOf q m)))
 unfolding askThrough ask
-name-through q = places-through nameSection (askAt knownKind q) (name-asked-moves q)
+name-through kindOf q = places-through nameSection (askAt kindOf q) (name-asked-moves kindOf q)
 
 pub hint-through : (f : FunctionIndex) (o : CodeOffset) → PutThrough hintSection (λ p b. b ≡ wmHint (askHint f o 0 p)) (λ m a. a ≡ wmHint (askHintThrough f o m))
 unfolding askHintThrough

@@ -5,9 +5,6 @@ use Rattle.rewrite.proofs.names.Tie as tie
 judge-requires : tie.Need-judge-requires
 judge-requires c κs = search names-steps
 
-verdict-requires : tie.Need-verdict-requires
-verdict-requires c κs = search names-steps
-
 enum-told : tie.Need-enum-told
 enum-told c = search names-steps
 
@@ -33,4 +30,4 @@ returns-2 : tie.Need-returns-2
 returns-2 c = search names-steps
 
 pub names-spec : {M : Type 1} → statement M
-names-spec = tie.close (tie.spec judge-requires verdict-requires enum-told enum-told-2 refusal-of-requires returns over-requires put-payload-requires same-length returns-2)
+names-spec = tie.close (tie.spec judge-requires enum-told enum-told-2 refusal-of-requires returns over-requires put-payload-requires same-length returns-2)

@@ -5,9 +5,6 @@ use Rattle.wakemiono.proofs.wm_names_judge.Tie as tie
 judge-requires : tie.Need-judge-requires
 judge-requires c κs = search calls
 
-verdict-requires : tie.Need-verdict-requires
-verdict-requires c κs = search calls
-
 of-verdict-requires : tie.Need-of-verdict-requires
 of-verdict-requires c κs = search calls
 
@@ -15,4 +12,4 @@ returns : tie.Need-returns
 returns c = search calls
 
 pub wm-names-judge-spec : {M : Type 1} → statement M
-wm-names-judge-spec = tie.close (tie.spec judge-requires verdict-requires of-verdict-requires returns)
+wm-names-judge-spec = tie.close (tie.spec judge-requires of-verdict-requires returns)

@@ -1,14 +1,14 @@
 use Prim.Native.Nat.{_-_}
-use Rattle.format.specs.Names.{knownKind}
+use Rattle.format.specs.Names.{kindIn}
 use Rattle.names.proofs.TellLaws.{Telling, tell-turns}
 use Rattle.names.proofs.telling.is_canonical_in.Statement.{statement}
 use Rattle.names.proofs.telling.is_canonical_in.Tie as tie
 
 abbrev Inv-loop : tie.InvT-loop
-Inv-loop s next₀ least₀ next least = Telling knownKind s next₀ next least
+Inv-loop s edition next₀ least₀ next least = Telling (kindIn edition) s next₀ next least
 
 abbrev μ-loop : tie.MeasureT-loop
-μ-loop s next₀ least₀ next least = next .end - next .at
+μ-loop s edition next₀ least₀ next least = next .end - next .at
 
 loop-holds : tie.Need-loop-holds Inv-loop μ-loop
 loop-holds c = search tell-turns

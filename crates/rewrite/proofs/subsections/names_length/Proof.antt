@@ -1,14 +1,14 @@
 use Prim.Native.Nat.{_-_}
-use Rattle.format.specs.Names.{knownKind}
+use Rattle.format.specs.Names.{kindIn}
 use Rattle.rewrite.proofs.SubsectionLaws.{CountingNames, names-measured}
 use Rattle.rewrite.proofs.subsections.names_length.Statement.{statement}
 use Rattle.rewrite.proofs.subsections.names_length.Tie as tie
 
 abbrev Inv-loop : tie.InvT-loop
-Inv-loop s next₀ length₀ next length = CountingNames knownKind s next₀ next length
+Inv-loop s edition next₀ length₀ next length = CountingNames (kindIn edition) s next₀ next length
 
 abbrev μ-loop : tie.MeasureT-loop
-μ-loop s next₀ length₀ next length = next .end - next .at
+μ-loop s edition next₀ length₀ next length = next .end - next .at
 
 loop-holds : tie.Need-loop-holds Inv-loop μ-loop
 loop-holds c = search names-measured

@@ -1,14 +1,14 @@
 use Prim.Native.Nat.{_-_}
-use Rattle.format.specs.Names.{knownKind}
+use Rattle.format.specs.Names.{kindIn}
 use Rattle.rewrite.proofs.SubsectionPuts.{PuttingNames, names-written}
 use Rattle.rewrite.proofs.subsections.put_names.Statement.{statement}
 use Rattle.rewrite.proofs.subsections.put_names.Tie as tie
 
 abbrev Inv-loop : tie.InvT-loop
-Inv-loop out₀ s next₀ place₀ out next place = PuttingNames knownKind s next₀ out₀ out place next
+Inv-loop out₀ s edition next₀ place₀ out next place = PuttingNames (kindIn edition) s next₀ out₀ out place next
 
 abbrev μ-loop : tie.MeasureT-loop
-μ-loop out₀ s next₀ place₀ out next place = next .end - next .at
+μ-loop out₀ s edition next₀ place₀ out next place = next .end - next .at
 
 loop-holds : tie.Need-loop-holds Inv-loop μ-loop
 loop-holds c = search names-written

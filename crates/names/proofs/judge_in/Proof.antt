@@ -1,14 +1,14 @@
 use Prim.Native.Nat.{_-_}
-use Rattle.format.specs.Names.{knownKind}
+use Rattle.format.specs.Names.{kindIn}
 use Rattle.names.proofs.JudgeLaws.{Turn, judge-turns}
-use Rattle.names.proofs.judging.judge_in.Statement.{statement}
-use Rattle.names.proofs.judging.judge_in.Tie as tie
+use Rattle.names.proofs.judge_in.Statement.{statement}
+use Rattle.names.proofs.judge_in.Tie as tie
 
 abbrev Inv-loop : tie.InvT-loop
-Inv-loop s next₀ least₀ places₀ next least places = Turn knownKind s next₀ next least places
+Inv-loop s edition places₀ next₀ least₀ places next least = Turn (kindIn edition) s next₀ next least places
 
 abbrev μ-loop : tie.MeasureT-loop
-μ-loop s next₀ least₀ places₀ next least places = next .end - next .at
+μ-loop s edition places₀ next₀ least₀ places next least = next .end - next .at
 
 loop-holds : tie.Need-loop-holds Inv-loop μ-loop
 loop-holds c = search judge-turns
@@ -31,8 +31,8 @@ returns-2 c = search judge-turns
 enum-known-id : tie.Need-enum-known-id Inv-loop μ-loop
 enum-known-id c = search judge-turns
 
-placed-requires : tie.Need-placed-requires Inv-loop μ-loop
-placed-requires c κs = search judge-turns
+put-place-requires : tie.Need-put-place-requires Inv-loop μ-loop
+put-place-requires c κs = search judge-turns
 
 cast-least : tie.Need-cast-least Inv-loop μ-loop
 cast-least c = search judge-turns
@@ -47,4 +47,4 @@ loop-again : tie.Need-loop-again Inv-loop μ-loop
 loop-again c = search judge-turns
 
 pub judge-in-spec : {M : Type 1} → statement M
-judge-in-spec = tie.close (tie.spec Inv-loop μ-loop loop-holds subsection-requires enum-known-r returns enum-told returns-2 enum-known-id placed-requires cast-least add-least loop-less loop-again)
+judge-in-spec = tie.close (tie.spec Inv-loop μ-loop loop-holds subsection-requires enum-known-r returns enum-told returns-2 enum-known-id put-place-requires cast-least add-least loop-less loop-again)
