@@ -53,8 +53,9 @@ wm_answer wm_section(const uint8_t *module, size_t module_len, uint64_t position
 /* Where the payload lies of the first custom section of that name, compared byte by byte; NONE without one. */
 wm_answer wm_custom(const uint8_t *module, size_t module_len, const uint8_t *name, size_t name_len);
 
-/* Questions to a name payload. It is judged whole first; FOUND gives the very bytes of the payload, NONE exactly where
- * there is no name. An empty name is FOUND with length 0. */
+/* Questions to a name payload, in the first edition of names; the wider one stands at the end. The payload is judged whole
+ * first; FOUND gives the very bytes of the payload, NONE exactly where there is no name. An empty name is FOUND with
+ * length 0. */
 
 /* Is it accepted? FOUND with offset 0 and the payload's length. */
 wm_answer wm_names_judge(const uint8_t *payload, size_t payload_len);
@@ -130,6 +131,79 @@ uint32_t wm_hints_is_canonical(const uint8_t *payload, size_t payload_len);
  * is canonical; answers and output as for the rewritings. Refusals in this order: 14, all of 11, all of 4, 15, 13. */
 wm_answer wm_function_names_write(const uint32_t *indices, size_t indices_len, const uint32_t *lengths, size_t lengths_len,
                                   const uint8_t *text, size_t text_len, uint8_t *out, size_t out_len);
+
+/* The wider edition of names, which follows the extended name section proposal. It knows twelve ids: the six of the first
+ * edition, and 3 labels by function, 5 tables, 6 memories, 7 globals, 8 element segments and 9 data segments, which the
+ * first edition keeps as they are. The caller chooses an edition by the call. Every call on names above has its like here,
+ * with the same kinds of answer and the same refusals, and there are six questions more.
+ *
+ * A payload that the wider edition accepts is accepted by the first too, which finds the same names in what it knows. It
+ * is not so the other way round, and where both refuse, number and offset may differ: 07 01 FF 07 00 is refusal 9 at 3 in
+ * the first edition, and 2 at 2 in the wider. Canonical forms are comparable within one edition only: the empty map
+ * 07 01 00 is dropped by the wider edition and kept by the first. */
+
+/* Is it accepted? FOUND with offset 0 and the payload's length. */
+wm_answer wm_wide_names_judge(const uint8_t *payload, size_t payload_len);
+/* The module's name. */
+wm_answer wm_wide_module_name(const uint8_t *payload, size_t payload_len);
+/* A function's name. */
+wm_answer wm_wide_function_name(const uint8_t *payload, size_t payload_len, uint32_t function);
+/* The name of a local in a function. */
+wm_answer wm_wide_local_name(const uint8_t *payload, size_t payload_len, uint32_t function, uint32_t local);
+/* The name of a label in a function. */
+wm_answer wm_wide_label_name(const uint8_t *payload, size_t payload_len, uint32_t function, uint32_t label);
+/* A type's name. */
+wm_answer wm_wide_type_name(const uint8_t *payload, size_t payload_len, uint32_t type);
+/* A table's name. */
+wm_answer wm_wide_table_name(const uint8_t *payload, size_t payload_len, uint32_t table);
+/* A memory's name. */
+wm_answer wm_wide_memory_name(const uint8_t *payload, size_t payload_len, uint32_t memory);
+/* A global's name. */
+wm_answer wm_wide_global_name(const uint8_t *payload, size_t payload_len, uint32_t global);
+/* An element segment's name. */
+wm_answer wm_wide_element_name(const uint8_t *payload, size_t payload_len, uint32_t element);
+/* A data segment's name. */
+wm_answer wm_wide_data_name(const uint8_t *payload, size_t payload_len, uint32_t data);
+/* The name of a field in a type. */
+wm_answer wm_wide_field_name(const uint8_t *payload, size_t payload_len, uint32_t type, uint32_t field);
+/* A tag's name. */
+wm_answer wm_wide_tag_name(const uint8_t *payload, size_t payload_len, uint32_t tag);
+/* The contents of the kept subsection with an id; NONE for the ids 0 to 11, which have questions of their own. */
+wm_answer wm_wide_kept(const uint8_t *payload, size_t payload_len, uint8_t id);
+
+/* The same questions through a module: judged after the walk, offsets from the module's start, NONE without the section. */
+
+/* The module's name. */
+wm_answer wm_wide_module_name_in(const uint8_t *module, size_t module_len);
+/* A function's name. */
+wm_answer wm_wide_function_name_in(const uint8_t *module, size_t module_len, uint32_t function);
+/* The name of a local in a function. */
+wm_answer wm_wide_local_name_in(const uint8_t *module, size_t module_len, uint32_t function, uint32_t local);
+/* The name of a label in a function. */
+wm_answer wm_wide_label_name_in(const uint8_t *module, size_t module_len, uint32_t function, uint32_t label);
+/* A type's name. */
+wm_answer wm_wide_type_name_in(const uint8_t *module, size_t module_len, uint32_t type);
+/* A table's name. */
+wm_answer wm_wide_table_name_in(const uint8_t *module, size_t module_len, uint32_t table);
+/* A memory's name. */
+wm_answer wm_wide_memory_name_in(const uint8_t *module, size_t module_len, uint32_t memory);
+/* A global's name. */
+wm_answer wm_wide_global_name_in(const uint8_t *module, size_t module_len, uint32_t global);
+/* An element segment's name. */
+wm_answer wm_wide_element_name_in(const uint8_t *module, size_t module_len, uint32_t element);
+/* A data segment's name. */
+wm_answer wm_wide_data_name_in(const uint8_t *module, size_t module_len, uint32_t data);
+/* The name of a field in a type. */
+wm_answer wm_wide_field_name_in(const uint8_t *module, size_t module_len, uint32_t type, uint32_t field);
+/* A tag's name. */
+wm_answer wm_wide_tag_name_in(const uint8_t *module, size_t module_len, uint32_t tag);
+/* The contents of the kept subsection with an id. */
+wm_answer wm_wide_kept_in(const uint8_t *module, size_t module_len, uint8_t id);
+
+/* The canonical form of a name payload, in the wider edition. */
+wm_answer wm_wide_names_canonical(const uint8_t *payload, size_t payload_len, uint8_t *out, size_t out_len);
+/* Is a name payload canonical in the wider edition? 1 or 0. */
+uint32_t wm_wide_names_is_canonical(const uint8_t *payload, size_t payload_len);
 
 #ifdef __cplusplus
 }

@@ -3,11 +3,17 @@
 use comparison::random::Random;
 
 use crate::bytes::{list, number, sized, subsection};
+use crate::name_map::{FUNCTIONS, GLOBALS};
 use crate::payload::{Kind, Payload};
 use crate::texts;
 
-const FUNCTIONS: u8 = 1;
 const LOCALS: u8 = 2;
+const LABELS: u8 = 3;
+const DATA: u8 = 9;
+
+const LABELLED_FUNCTIONS: usize = 2_000;
+const NAMED_GLOBALS: usize = 10_000;
+const NAMED_SEGMENTS: usize = 10_000;
 
 const RUST_BYTES: usize = 172_000;
 const CHARACTERS_BYTES: usize = 100_000;
@@ -30,7 +36,7 @@ struct Recipe {
     make: fn(&mut Random) -> Vec<u8>,
 }
 
-const RECIPES: [Recipe; 10] = [
+const RECIPES: [Recipe; 11] = [
     names("go", |r| functions(&many(14_000, || texts::go(r)))),
     names("c++", |r| functions(&many(1_000, || texts::cpp(r)))),
     names("rust-v0", |r| {
@@ -50,6 +56,11 @@ const RECIPES: [Recipe; 10] = [
         name: "hints",
         kind: Kind::Hints,
         make: hints,
+    },
+    Recipe {
+        name: "wide",
+        kind: Kind::WideNames,
+        make: with_wide_names,
     },
 ];
 
@@ -115,11 +126,31 @@ fn in_characters(r: &mut Random, first: char, last: char) -> Vec<u8> {
 /// 2,000 functions with their names and those of one to eight locals.
 fn functions_with_locals(r: &mut Random) -> Vec<u8> {
     let names = many(2_000, || texts::identifier(r));
-    let locals = list(names.iter().map(|_| {
+    let locals = indirect_map(r, names.len());
+    [functions(&names), subsection(LOCALS, &locals)].concat()
+}
+
+/// So many groups, of one to eight names each.
+fn indirect_map(r: &mut Random, groups: usize) -> Vec<u8> {
+    list((0..groups).map(|_| {
         let count = 1 + r.below(8);
         name_map(&many(count, || texts::identifier(r)))
-    }));
-    [functions(&names), subsection(LOCALS, &locals)].concat()
+    }))
+}
+
+/// Functions with their names and those of their labels; globals and data segments.
+fn with_wide_names(r: &mut Random) -> Vec<u8> {
+    let names = functions(&many(LABELLED_FUNCTIONS, || texts::identifier(r)));
+    let labels = indirect_map(r, LABELLED_FUNCTIONS);
+    let globals = name_map(&many(NAMED_GLOBALS, || texts::identifier(r)));
+    let segments = name_map(&many(NAMED_SEGMENTS, || texts::identifier(r)));
+    [
+        names,
+        subsection(LABELS, &labels),
+        subsection(GLOBALS, &globals),
+        subsection(DATA, &segments),
+    ]
+    .concat()
 }
 
 fn hints(r: &mut Random) -> Vec<u8> {
@@ -137,7 +168,7 @@ fn hints(r: &mut Random) -> Vec<u8> {
 #[cfg(test)]
 mod tests {
     use super::*;
-    use crate::function_map::FunctionMap;
+    use crate::name_map::NameMap;
     use comparison::library::{self, Told, FOUND, NONE};
     use second_reader::Kind::{Likely, Unlikely};
 
@@ -151,6 +182,10 @@ mod tests {
             Kind::Names => [
                 library::names_judge(bytes),
                 second_reader::names_judge(bytes).into(),
+            ],
+            Kind::WideNames => [
+                library::wide_names_judge(bytes),
+                second_reader::wide_names_judge(bytes).into(),
             ],
             Kind::Hints => [
                 library::hints_judge(bytes),
@@ -186,12 +221,30 @@ mod tests {
             ("one-long-name", 1, 600_000),
         ] {
             let payload = payload(name).expect("there is such a payload");
-            let lists = FunctionMap::of(&payload.bytes).expect("functions").lists;
+            let lists = NameMap::of(&payload.bytes, FUNCTIONS)
+                .expect("functions")
+                .lists;
             let named = lists.indices.len() as f64;
             let mean = lists.text.len() as f64 / named;
             assert!(near(named, count), "{name}: {named} names");
             assert!(near(mean, length), "{name}: {mean} bytes a name");
         }
+    }
+
+    #[test]
+    fn wide_names_are_as_many_as_intended() {
+        let bytes = payload("wide").expect("there is such a payload").bytes;
+        for (id, count) in [
+            (FUNCTIONS, LABELLED_FUNCTIONS),
+            (GLOBALS, NAMED_GLOBALS),
+            (DATA, NAMED_SEGMENTS),
+        ] {
+            let map = NameMap::of(&bytes, id).expect("a map");
+            assert_eq!(map.lists.indices.len(), count, "id {id}");
+        }
+        let label = |function| library::wide_label_name(&bytes, function, 0).kind;
+        let functions = LABELLED_FUNCTIONS as u32;
+        assert_eq!((label(functions - 1), label(functions)), (FOUND, NONE));
     }
 
     #[test]

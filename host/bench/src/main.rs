@@ -5,9 +5,9 @@
 
 mod bytes;
 mod fixtures;
-mod function_map;
 mod made;
 mod measuring;
+mod name_map;
 mod operation;
 mod payload;
 mod region;

@@ -2,8 +2,8 @@
 
 use comparison::library;
 
-use crate::function_map::{FunctionMap, Lists};
 use crate::made::LAST_BRANCH;
+use crate::name_map::{Lists, NameMap, FUNCTIONS, GLOBALS};
 use crate::operation::{region, Operation, Who};
 use crate::payload::{Kind, Payload};
 use crate::region::counted;
@@ -50,6 +50,10 @@ pub fn measure(payload: &Payload) -> Result<Vec<Operation>, String> {
     let mut compared = vec![walk(&payload.module())];
     match payload.kind {
         Kind::Names => compared.extend(names(&payload.bytes)),
+        Kind::WideNames => {
+            compared.extend(names(&payload.bytes));
+            compared.extend(wide_names(&payload.bytes));
+        }
         Kind::Hints => compared.extend(hints(&payload.bytes)),
     }
     let agreed = |(operation, alike): Compared| match alike {
@@ -69,7 +73,7 @@ fn walk(module: &[u8]) -> Compared {
 
 fn names(payload: &[u8]) -> Vec<Compared> {
     let mut compared = vec![judge(payload), tell(payload)];
-    let map = FunctionMap::of(payload);
+    let map = NameMap::of(payload, FUNCTIONS);
     let last = map.as_ref().and_then(|map| map.lists.indices.last());
     compared.extend(last.map(|&last| look_up(payload, last)));
     compared.push(rewrite(payload));
@@ -102,6 +106,32 @@ fn write_from_lists(lists: &Lists, room: usize) -> Compared {
         function_names_write(indices, lengths, text, out)
         where (indices, lengths, text) = lists, out of room
     )
+}
+
+fn wide_names(payload: &[u8]) -> Vec<Compared> {
+    let globals = NameMap::of(payload, GLOBALS);
+    let last = globals.and_then(|map| map.lists.indices.last().copied());
+    let mut compared = vec![wide_judge(payload), wide_tell(payload)];
+    compared.extend(last.map(|last| wide_look_up(payload, last)));
+    compared.push(wide_rewrite(payload));
+    compared
+}
+
+fn wide_judge(payload: &[u8]) -> Compared {
+    asked!(Operation::WideJudge, wide_names_judge(lent) where lent = payload)
+}
+
+fn wide_tell(payload: &[u8]) -> Compared {
+    asked!(Operation::WideTell, wide_names_is_canonical(lent) where lent = payload)
+}
+
+fn wide_look_up(payload: &[u8], last: u32) -> Compared {
+    asked!(Operation::WideLookUp, wide_global_name(lent, last) where (lent, last) = (payload, last))
+}
+
+fn wide_rewrite(payload: &[u8]) -> Compared {
+    let room = payload.len();
+    written!(Operation::WideRewrite, wide_names_canonical(lent, out) where lent = payload, out of room)
 }
 
 fn hints(payload: &[u8]) -> Vec<Compared> {
@@ -151,6 +181,9 @@ mod tests {
             Operation::WriteFromLists,
             Operation::TellHints,
             Operation::RewriteHints,
+            Operation::WideTell,
+            Operation::WideLookUp,
+            Operation::WideRewrite,
         ] {
             assert!(operations.contains(&tried), "not tried: {}", tried.words());
         }

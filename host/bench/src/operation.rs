@@ -14,6 +14,10 @@ pub enum Operation {
     TellHints,
     LookHintUp,
     RewriteHints,
+    WideJudge,
+    WideTell,
+    WideLookUp,
+    WideRewrite,
 }
 
 impl Operation {
@@ -30,6 +34,10 @@ impl Operation {
             Operation::TellHints => "tell hints",
             Operation::LookHintUp => "judge hints, look last up",
             Operation::RewriteHints => "rewrite hints",
+            Operation::WideJudge => "wide judge",
+            Operation::WideTell => "wide tell",
+            Operation::WideLookUp => "wide judge, look last global up",
+            Operation::WideRewrite => "wide rewrite",
         }
     }
 }

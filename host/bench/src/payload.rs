@@ -2,10 +2,13 @@
 
 use crate::{bytes, fixtures, made};
 
-/// Which section a payload is of.
+/// Which section a payload is of, and how it is measured.
 #[derive(Clone, Copy, PartialEq, Eq, Debug)]
 pub enum Kind {
+    /// By the first edition of names.
     Names,
+    /// By the first edition, and by the wider one, which finds more in it.
+    WideNames,
     Hints,
 }
 
@@ -13,7 +16,7 @@ impl Kind {
     /// The name of the custom section that holds such a payload.
     pub fn section(self) -> &'static str {
         match self {
-            Kind::Names => "name",
+            Kind::Names | Kind::WideNames => "name",
             Kind::Hints => "metadata.code.branch_hint",
         }
     }

@@ -24,14 +24,34 @@ pub enum Contents {
     Kept(Vec<u8>),
 }
 
-/// What a name payload holds, by the ids of its subsections.
-pub type Names = BTreeMap<u8, Contents>;
+/// Which subsections hold maps. That of id 0 holds the module's name, and all others are kept.
+pub struct Edition {
+    /// The ids of subsections that hold a name map.
+    pub maps: &'static [u8],
+    /// The ids of subsections that hold an indirect name map.
+    pub indirect_maps: &'static [u8],
+}
 
-/// The ids of subsections that hold a name map.
-pub const MAPS: [u8; 3] = [1, 4, 11];
+/// The first edition.
+pub static FIRST: Edition = Edition {
+    maps: &[1, 4, 11],
+    indirect_maps: &[2, 10],
+};
 
-/// The ids of subsections that hold an indirect name map.
-pub const INDIRECT_MAPS: [u8; 2] = [2, 10];
+/// The wider edition.
+pub static WIDER: Edition = Edition {
+    maps: &[1, 4, 5, 6, 7, 8, 9, 11],
+    indirect_maps: &[2, 3, 10],
+};
+
+/// What a name payload holds.
+#[derive(Clone)]
+pub struct Names {
+    /// By which it is made.
+    pub edition: &'static Edition,
+    /// Its subsections, by their ids.
+    pub subsections: BTreeMap<u8, Contents>,
+}
 
 /// What a payload holds.
 pub trait Held: Sized {
@@ -106,10 +126,20 @@ fn spelled_entries(entries: &Entries, padding: Padding<'_>) -> Vec<u8> {
     bytes
 }
 
+impl Names {
+    /// The same with other contents in a subsection.
+    fn with(&self, id: u8, contents: Contents) -> Names {
+        Names {
+            subsections: with(&self.subsections, id, contents),
+            ..*self
+        }
+    }
+}
+
 impl Held for Names {
     fn spelled(&self, padding: Padding<'_>) -> Vec<u8> {
         let mut bytes = vec![];
-        for (id, contents) in self {
+        for (id, contents) in &self.subsections {
             let contents = match contents {
                 Contents::Name(text) => sized(text, padding),
                 Contents::Map(entries) => spelled_entries(entries, padding),
@@ -123,7 +153,7 @@ impl Held for Names {
     }
 
     fn without_empty_lists(self) -> Names {
-        let left = self.into_iter().filter_map(|(id, contents)| {
+        let left = self.subsections.into_iter().filter_map(|(id, contents)| {
             let left = match contents {
                 Contents::Map(entries) if entries.is_empty() => None,
                 Contents::Indirect(groups) => {
@@ -134,23 +164,26 @@ impl Held for Names {
             };
             Some((id, left?))
         });
-        left.collect()
+        Names {
+            subsections: left.collect(),
+            ..self
+        }
     }
 
     fn with_an_empty_list(&self) -> Vec<Names> {
         let mut all = vec![];
-        for id in MAPS {
-            if !self.contains_key(&id) {
-                all.push(with(self, id, Contents::Map(Entries::new())));
+        for id in self.edition.maps {
+            if !self.subsections.contains_key(id) {
+                all.push(self.with(*id, Contents::Map(Entries::new())));
             }
         }
-        for id in INDIRECT_MAPS {
-            let groups = match self.get(&id) {
+        for id in self.edition.indirect_maps {
+            let groups = match self.subsections.get(id) {
                 Some(Contents::Indirect(groups)) => groups.with_an_empty_list(),
                 _ => [vec![Groups::new()], Groups::new().with_an_empty_list()].concat(),
             };
             let contents = groups.into_iter().map(Contents::Indirect);
-            all.extend(contents.map(|contents| with(self, id, contents)));
+            all.extend(contents.map(|contents| self.with(*id, contents)));
         }
         all
     }
@@ -171,16 +204,21 @@ mod tests {
     use super::*;
 
     /// Function 0 called `a`.
-    fn one_function() -> Names {
+    fn one_function(edition: &'static Edition) -> Names {
         let entries = Entries::from([(0, b"a".to_vec())]);
-        Names::from([(1, Contents::Map(entries))])
+        let subsections = BTreeMap::from([(1, Contents::Map(entries))]);
+        Names {
+            edition,
+            subsections,
+        }
     }
 
     #[test]
     fn the_canonical_payload_of_one_function() {
         let empty_group = Groups::from([(3, Entries::new())]);
-        let mut held = with(&one_function(), 2, Contents::Indirect(empty_group));
-        held.insert(4, Contents::Map(Entries::new()));
+        let held = one_function(&FIRST)
+            .with(2, Contents::Indirect(empty_group))
+            .with(4, Contents::Map(Entries::new()));
         assert_eq!(held.canonical(), b"\x01\x04\x01\x00\x01a");
         assert_eq!(Groups::from([(3, Entries::new())]).canonical(), [0]);
     }
@@ -188,7 +226,7 @@ mod tests {
     /// The size, the count, the index and the length, each in two to five bytes.
     #[test]
     fn each_number_is_padded_alone() {
-        let padded = one_function().with_one_padded();
+        let padded = one_function(&FIRST).with_one_padded();
         assert_eq!(padded.len(), 4 * 4);
         for payload in [
             &b"\x01\x84\x00\x01\x00\x01a"[..],
@@ -201,13 +239,16 @@ mod tests {
         }
     }
 
-    /// Two maps, and two indirect ones: without groups, or with one that is empty.
+    /// The other maps, and the indirect ones: without groups, or with one that is empty.
     #[test]
     fn each_empty_list_is_added_alone() {
-        let more = one_function().with_an_empty_list();
-        assert_eq!(more.len(), 2 + 2 * (1 + KEYS.len()));
-        assert!(more.iter().all(|held| held.len() == 2));
-        let canonical = one_function().canonical();
-        assert!(more.into_iter().all(|held| held.canonical() == canonical));
+        for (edition, other_maps, indirect_maps) in [(&FIRST, 2, 2), (&WIDER, 7, 3)] {
+            let more = one_function(edition).with_an_empty_list();
+            let groups = indirect_maps * (1 + KEYS.len());
+            assert_eq!(more.len(), other_maps + groups);
+            assert!(more.iter().all(|held| held.subsections.len() == 2));
+            let canonical = one_function(edition).canonical();
+            assert!(more.into_iter().all(|held| held.canonical() == canonical));
+        }
     }
 }

@@ -77,12 +77,40 @@ questions! {
     local_name_in = wm_local_name_in(function: u32, local: u32) -> Told;
     field_name_in = wm_field_name_in(index: u32, field: u32) -> Told;
     kept_in = wm_kept_in(id: u8) -> Told;
+    wide_names_judge = wm_wide_names_judge() -> Told;
+    wide_module_name = wm_wide_module_name() -> Told;
+    wide_function_name = wm_wide_function_name(function: u32) -> Told;
+    wide_local_name = wm_wide_local_name(function: u32, local: u32) -> Told;
+    wide_label_name = wm_wide_label_name(function: u32, label: u32) -> Told;
+    wide_type_name = wm_wide_type_name(index: u32) -> Told;
+    wide_table_name = wm_wide_table_name(table: u32) -> Told;
+    wide_memory_name = wm_wide_memory_name(memory: u32) -> Told;
+    wide_global_name = wm_wide_global_name(global: u32) -> Told;
+    wide_element_name = wm_wide_element_name(element: u32) -> Told;
+    wide_data_name = wm_wide_data_name(data: u32) -> Told;
+    wide_field_name = wm_wide_field_name(index: u32, field: u32) -> Told;
+    wide_tag_name = wm_wide_tag_name(tag: u32) -> Told;
+    wide_kept = wm_wide_kept(id: u8) -> Told;
+    wide_module_name_in = wm_wide_module_name_in() -> Told;
+    wide_function_name_in = wm_wide_function_name_in(function: u32) -> Told;
+    wide_local_name_in = wm_wide_local_name_in(function: u32, local: u32) -> Told;
+    wide_label_name_in = wm_wide_label_name_in(function: u32, label: u32) -> Told;
+    wide_type_name_in = wm_wide_type_name_in(index: u32) -> Told;
+    wide_table_name_in = wm_wide_table_name_in(table: u32) -> Told;
+    wide_memory_name_in = wm_wide_memory_name_in(memory: u32) -> Told;
+    wide_global_name_in = wm_wide_global_name_in(global: u32) -> Told;
+    wide_element_name_in = wm_wide_element_name_in(element: u32) -> Told;
+    wide_data_name_in = wm_wide_data_name_in(data: u32) -> Told;
+    wide_field_name_in = wm_wide_field_name_in(index: u32, field: u32) -> Told;
+    wide_tag_name_in = wm_wide_tag_name_in(tag: u32) -> Told;
+    wide_kept_in = wm_wide_kept_in(id: u8) -> Told;
     metadata_judge = wm_metadata_judge() -> Told;
     hints_judge = wm_hints_judge() -> Told;
     metadata = wm_metadata(function: u32, offset: u32) -> Told;
     hint = wm_hint(function: u32, offset: u32) -> Told;
     hint_in = wm_hint_in(function: u32, offset: u32) -> Told;
     names_is_canonical = wm_names_is_canonical() -> u32;
+    wide_names_is_canonical = wm_wide_names_is_canonical() -> u32;
     metadata_is_canonical = wm_metadata_is_canonical() -> u32;
     hints_is_canonical = wm_hints_is_canonical() -> u32;
 }
@@ -107,6 +135,7 @@ macro_rules! rewritings {
 
 rewritings! {
     names_canonical = wm_names_canonical;
+    wide_names_canonical = wm_wide_names_canonical;
     metadata_canonical = wm_metadata_canonical;
     hints_canonical = wm_hints_canonical;
 }

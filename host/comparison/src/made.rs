@@ -1,6 +1,6 @@
 //! Payloads and modules made at random: well formed, with everything that the rules allow and few writers produce.
 
-use crate::held::{Contents, Entries, Groups, Held, Names, INDIRECT_MAPS, MAPS};
+use crate::held::{Contents, Edition, Entries, Groups, Held, Names, FIRST, WIDER};
 use crate::random::Random;
 use crate::spelling::{self, LONGEST_NUMBER};
 use crate::tally::KEYS;
@@ -11,8 +11,8 @@ const TEXTS: [&str; 7] = ["", "a", "main", "é", "漢", "🦀x", "core::fmt::wri
 /// The id of the subsection with the module's name.
 const MODULE_NAME: u8 = 0;
 
-/// The subsections that are made: every known id, and others between and behind them.
-const SUBSECTIONS: [u8; 13] = [0, 1, 2, 3, 4, 5, 7, 9, 10, 11, 12, 200, 255];
+/// The subsections that are made: every id that an edition knows, and others behind them.
+const SUBSECTIONS: [u8; 15] = [0, 1, 2, 3, 4, 5, 6, 7, 8, 9, 10, 11, 12, 200, 255];
 
 /// Of so many payloads one is made canonical; by chance only short ones are.
 const ONE_CANONICAL_IN: usize = 3;
@@ -55,20 +55,24 @@ fn groups(r: &mut Random, part: fn(&mut Random) -> Vec<u8>) -> Groups {
     keys.map(|key| (key, entries(r, part))).collect()
 }
 
-fn contents(r: &mut Random, id: u8) -> Contents {
+fn contents(r: &mut Random, edition: &Edition, id: u8) -> Contents {
     match id {
         MODULE_NAME => Contents::Name(text(r)),
-        map if MAPS.contains(&map) => Contents::Map(entries(r, text)),
-        map if INDIRECT_MAPS.contains(&map) => Contents::Indirect(groups(r, text)),
+        map if edition.maps.contains(&map) => Contents::Map(entries(r, text)),
+        map if edition.indirect_maps.contains(&map) => Contents::Indirect(groups(r, text)),
         _ => Contents::Kept(bytes(r, 5)),
     }
 }
 
-/// What a name payload holds.
-pub fn held_names(r: &mut Random) -> Names {
+/// What a name payload of an edition holds.
+pub fn held_names(r: &mut Random, edition: &'static Edition) -> Names {
     let ids = SUBSECTIONS.into_iter().filter(|_| r.once_in(3));
     let ids: Vec<u8> = ids.collect();
-    ids.into_iter().map(|id| (id, contents(r, id))).collect()
+    let subsections = ids.into_iter().map(|id| (id, contents(r, edition, id)));
+    Names {
+        edition,
+        subsections: subsections.collect(),
+    }
 }
 
 /// What a metadata payload holds; of branch hints, or with data of any size.
@@ -87,9 +91,10 @@ fn payload(r: &mut Random, held: impl Held) -> Vec<u8> {
     }
 }
 
-/// A name payload.
+/// A name payload, made for either edition.
 pub fn names(r: &mut Random) -> Vec<u8> {
-    let held = held_names(r);
+    let edition = r.one_of(&[&FIRST, &WIDER]);
+    let held = held_names(r, edition);
     payload(r, held)
 }
 

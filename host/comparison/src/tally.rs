@@ -1,9 +1,11 @@
 //! One call put to both readers, what they answer and leave compared, and counted.
 
+use std::collections::BTreeMap;
 use std::fmt;
+use std::ops::Range;
 
 use crate::guarded::Guarded;
-use crate::library::{self, Told, FOUND, REFUSED, YES};
+use crate::library::{self, Told, FOUND, NONE, REFUSED, YES};
 use second_reader::Answer;
 
 /// The name of the section with names.
@@ -49,15 +51,19 @@ pub const KEYS: [u32; 8] = [0, 1, 2, 3, 127, 128, 300, u32::MAX];
 /// Fewer of them, for questions with two.
 pub const FEW_KEYS: [u32; 5] = [0, 1, 3, 128, u32::MAX];
 
-/// Ids that are asked for as kept.
-pub const IDS: [u8; 12] = [0, 1, 2, 3, 4, 5, 7, 9, 10, 11, 12, 255];
+/// Ids that are asked for as kept: all that an edition knows, and two more.
+pub const IDS: [u8; 14] = [0, 1, 2, 3, 4, 5, 6, 7, 8, 9, 10, 11, 12, 255];
 
 /// Counts the calls that agreed, and holds the memory that is lent.
 pub struct Tally {
     /// How many calls agreed.
     pub calls: u64,
-    /// What they said of name payloads.
+    /// What they said of name payloads, by the first edition.
     pub names_said: Said,
+    /// What they said of name payloads, by the wider edition.
+    pub wide_said: Said,
+    /// What the questions of the wider edition were answered, by the names of the calls.
+    pub wide_met: BTreeMap<&'static str, Met>,
     /// What they said of metadata payloads, by the rules for any format.
     pub metadata_said: Said,
     /// What they said of metadata payloads, by the rules for hints.
@@ -73,6 +79,8 @@ impl Default for Tally {
         Tally {
             calls: 0,
             names_said: Said::default(),
+            wide_said: Said::default(),
+            wide_met: BTreeMap::new(),
             metadata_said: Said::default(),
             hints_said: Said::default(),
             lent: Guarded::new(ROOM),
@@ -101,6 +109,27 @@ impl Said {
             (_, false) => self.not_canonical += 1,
         }
         Judged { told, canonical }
+    }
+}
+
+/// How often a question was answered in each way.
+#[derive(Clone, Copy, Debug, Default)]
+pub struct Met {
+    /// With a name, or with what is kept.
+    pub found: u64,
+    /// With none.
+    pub none: u64,
+    /// With a refusal.
+    pub refused: u64,
+}
+
+impl Met {
+    fn count(&mut self, told: Told) {
+        match told.kind {
+            NONE => self.none += 1,
+            REFUSED => self.refused += 1,
+            _ => self.found += 1,
+        }
     }
 }
 
@@ -136,6 +165,11 @@ macro_rules! rewrite {
         )
     };
 }
+
+// It stands behind the macros, which it uses.
+mod wide;
+
+pub use wide::WIDE_QUESTIONS;
 
 impl Tally {
     fn ask<Answered: Copy + fmt::Debug + PartialEq, Read: Into<Answered>>(
@@ -181,8 +215,14 @@ impl Tally {
         self.judge_names(&payload[..text.len() + 3]);
     }
 
-    /// Every question to a name payload.
+    /// Every question to a name payload, in each edition.
     pub fn names(&mut self, p: &[u8]) {
+        self.first_names(p);
+        self.wide_names(p);
+    }
+
+    /// Every question of the first edition to a name payload.
+    pub fn first_names(&mut self, p: &[u8]) {
         self.judge_names(p);
         ask!(self, p, module_name);
         for key in KEYS {
@@ -245,17 +285,15 @@ impl Tally {
                 }
             }
         }
+        self.wide_module(m);
     }
 
     /// How a custom section of a module is judged, put through the module and on its own, with the offset from the
-    /// start of the module; none without the section.
+    /// start of the module; none without the section. Names are judged by the first edition.
     pub fn judgement(&mut self, m: &[u8], section: &[u8]) -> Option<Judged> {
-        let place = ask!(self, m, custom, section);
-        if place.kind != FOUND {
-            return None;
-        }
-        let payload = &m[place.offset as usize..][..place.length as usize];
-        let (through, mut alone) = match section {
+        let place = self.place(m, section)?;
+        let payload = &m[place.clone()];
+        let (through, alone) = match section {
             NAMES => (ask!(self, m, module_name_in), self.judge_names(payload)),
             HINTS => (ask!(self, m, hint_in, 0, 0), self.judge_hints(payload)),
             _ => {
@@ -268,13 +306,14 @@ impl Tally {
                 )
             }
         };
-        if alone.told.kind == REFUSED {
-            alone.told.offset += place.offset;
-            assert_eq!(through, alone.told, "a refusal in {m:02X?}");
-        } else {
-            assert_ne!(through.kind, REFUSED, "only through its module: {m:02X?}");
-        }
-        Some(alone)
+        Some(judged_in(m, place.start, through, alone))
+    }
+
+    /// Where the payload of a custom section lies in a module.
+    fn place(&mut self, m: &[u8], section: &[u8]) -> Option<Range<usize>> {
+        let place = ask!(self, m, custom, section);
+        let (start, length) = (place.offset as usize, place.length as usize);
+        (place.kind == FOUND).then(|| start..start + length)
     }
 
     fn rewrite(
@@ -343,6 +382,19 @@ impl Tally {
         self.calls += 1;
         (told.kind == FOUND).then(|| expected[..told.length as usize].to_vec())
     }
+}
+
+/// What is said of a payload on its own, with the offset from the start of its module. A question through the module is
+/// refused if the payload is, and alike.
+fn judged_in(m: &[u8], start: usize, through: Told, alone: Judged) -> Judged {
+    let mut judged = alone;
+    if judged.told.kind == REFUSED {
+        judged.told.offset += start as u64;
+        assert_eq!(through, judged.told, "a refusal in {m:02X?}");
+    } else {
+        assert_ne!(through.kind, REFUSED, "only through its module: {m:02X?}");
+    }
+    judged
 }
 
 /// An output of a length, untouched, with guard bytes before it and nothing mapped behind it.

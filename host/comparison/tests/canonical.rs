@@ -1,6 +1,6 @@
 //! Canonical payloads, and what one padded number or one empty list makes of them.
 
-use comparison::held::Held;
+use comparison::held::{Held, FIRST, WIDER};
 use comparison::made;
 use comparison::random::{seed, Random};
 use comparison::spelling::unpadded;
@@ -54,7 +54,14 @@ fn compare<Of: Held>(
 
 #[test]
 fn names() {
-    compare(made::held_names, Tally::names, |tally| tally.names_said);
+    let make = |r: &mut Random| made::held_names(r, &FIRST);
+    compare(make, Tally::first_names, |tally| tally.names_said);
+}
+
+#[test]
+fn names_of_the_wider_edition() {
+    let make = |r: &mut Random| made::held_names(r, &WIDER);
+    compare(make, Tally::wide_names, |tally| tally.wide_said);
 }
 
 #[test]

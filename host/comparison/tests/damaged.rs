@@ -1,9 +1,18 @@
 //! Inputs that were well formed until something happened to them.
 
+use comparison::held::{Contents, Entries, Groups, Held, Names, WIDER};
 use comparison::made;
 use comparison::random::{seed, Random};
 use comparison::spelling::{number, sized, unpadded};
-use comparison::tally::Tally;
+use comparison::tally::{Tally, WIDE_QUESTIONS};
+use std::collections::BTreeMap;
+
+/// The ids of two subsections with name maps: in each edition, and in the wider one.
+const FUNCTIONS: u8 = 1;
+const GLOBALS: u8 = 7;
+
+/// The first id that no edition knows.
+const KEPT: u8 = 12;
 
 /// What a byte is changed to: ends of ranges that the rules name, and its neighbours.
 fn changes(byte: u8) -> [u8; 8] {
@@ -58,7 +67,7 @@ fn name_payloads() {
     }
     println!("compared {} calls", tally.calls);
     assert!(
-        tally.calls >= 150_000,
+        tally.calls >= 400_000,
         "only {} calls were compared",
         tally.calls
     );
@@ -92,17 +101,59 @@ fn modules() {
     }
     println!("compared {} calls", tally.calls);
     assert!(
-        tally.calls >= 80_000,
+        tally.calls >= 150_000,
         "only {} calls were compared",
         tally.calls
     );
 }
 
-/// A name payload with one function name.
-fn one_name(text: &[u8]) -> Vec<u8> {
+/// What a subsection that the wider edition knows holds, with names under keys that are asked for.
+fn with_names(id: u8) -> Contents {
+    let entries = Entries::from([(0, b"a".to_vec()), (128, b"".to_vec())]);
+    if WIDER.maps.contains(&id) {
+        Contents::Map(entries)
+    } else if WIDER.indirect_maps.contains(&id) {
+        Contents::Indirect(Groups::from([(0, entries.clone()), (3, entries)]))
+    } else {
+        Contents::Name(b"m".to_vec())
+    }
+}
+
+/// A payload of one known subsection and one that is kept.
+fn one_known(id: u8) -> Vec<u8> {
+    let subsections = [(id, with_names(id)), (KEPT, Contents::Kept(vec![0]))];
+    let names = Names {
+        edition: &WIDER,
+        subsections: BTreeMap::from(subsections),
+    };
+    names.spelled(&mut unpadded)
+}
+
+/// A module of one section with names.
+fn module_of(payload: &[u8]) -> Vec<u8> {
+    let contents = [b"\x04name", payload].concat();
+    let section = sized(&contents, &mut unpadded);
+    [&b"\0asm\x01\0\0\0\0"[..], &section].concat()
+}
+
+/// Each id that the wider edition knows, damaged at every place, on its own and in a module.
+#[test]
+fn each_known_id() {
+    const LEAST: u64 = 20;
+    let mut tally = Tally::default();
+    for payload in (0..KEPT).flat_map(|id| damaged(&one_known(id))) {
+        tally.names(&payload);
+        tally.module(&module_of(&payload));
+    }
+    println!("compared {} calls", tally.calls);
+    tally.assert_wide_met(2 * WIDE_QUESTIONS, LEAST);
+}
+
+/// A name payload with one name in a map.
+fn one_name(id: u8, text: &[u8]) -> Vec<u8> {
     let mut contents = vec![1, 0];
     contents.extend(sized(text, &mut unpadded));
-    let mut payload = vec![1];
+    let mut payload = vec![id];
     payload.extend(sized(&contents, &mut unpadded));
     payload
 }
@@ -117,40 +168,52 @@ fn broken_texts() {
             for change in [0x80, 0xC0, 0xC3, 0xE0, 0xED, 0xF4, 0xFF] {
                 let mut broken = text.as_bytes().to_vec();
                 broken[at] = change;
-                tally.names(&one_name(&broken));
+                tally.names(&one_name(FUNCTIONS, &broken));
+                tally.wide_names(&one_name(GLOBALS, &broken));
             }
-            tally.names(&one_name(&text.as_bytes()[..at]));
+            tally.names(&one_name(FUNCTIONS, &text.as_bytes()[..at]));
+            tally.wide_names(&one_name(GLOBALS, &text.as_bytes()[..at]));
         }
     }
     println!("compared {} calls", tally.calls);
 }
 
+/// Numbers that take one to five bytes, up to the greatest.
+const NUMBERS: [u32; 10] = [
+    0,
+    1,
+    2,
+    127,
+    128,
+    16_384,
+    1 << 21,
+    1 << 28,
+    u32::MAX - 1,
+    u32::MAX,
+];
+
+/// What stands before a number that is a count, a length or a size.
+const BEFORE: [&[u8]; 11] = [
+    &[1, 8],
+    &[2, 8],
+    &[2, 8, 1, 0],
+    &[1, 9, 1, 0],
+    &[0, 9],
+    &[7],
+    &[7, 8],
+    &[7, 9, 1, 0],
+    &[3, 8],
+    &[3, 8, 1, 0],
+    &[1],
+];
+
 /// Counts and lengths up to the greatest, where a list or a part cannot have them.
 #[test]
 fn counts_and_lengths_up_to_the_greatest() {
     let mut tally = Tally::default();
-    for value in [
-        0,
-        1,
-        2,
-        127,
-        128,
-        16_384,
-        1 << 21,
-        1 << 28,
-        u32::MAX - 1,
-        u32::MAX,
-    ] {
+    for value in NUMBERS {
         let number = number(value, &mut unpadded);
-        for before in [
-            &[1, 8][..],
-            &[2, 8],
-            &[2, 8, 1, 0],
-            &[1, 9, 1, 0],
-            &[0, 9],
-            &[7],
-            &[1],
-        ] {
+        for before in BEFORE {
             for after in [&[][..], &[0], &[0, 1, b'a'], &[0, 0, 1, 0]] {
                 let bytes = [before, &number, after].concat();
                 tally.names(&bytes);

@@ -5,22 +5,23 @@ use comparison::library::{self, custom, section, walk, Told, FOUND, REFUSED};
 use comparison::tally::{Judged, Said, Tally, HINTS, NAMES};
 use std::fmt::Write;
 use std::fs;
-use std::path::Path;
+use std::path::{Path, PathBuf};
 
 /// How many fixtures are committed, so that none is lost unseen: a module, and its listing.
-const MODULES: usize = 77;
+const MODULES: usize = 96;
 /// Those that the walk accepts, which have judgements of their payloads.
-const WITH_PAYLOADS: usize = 49;
+const WITH_PAYLOADS: usize = 68;
 /// Their lines.
-const JUDGEMENTS: usize = 102;
-/// The accepted among them: of names, of hints, and of other metadata.
-const NAMES_SAID: Said = said(15, 7);
+const JUDGEMENTS: usize = 208;
+/// The accepted among them: of names in each edition, of hints, and of other metadata.
+const NAMES_SAID: Said = said(32, 7);
+const WIDE_SAID: Said = said(19, 10);
 const HINTS_SAID: Said = said(2, 2);
 const METADATA_SAID: Said = said(3, 0);
-/// Those with an accepted payload that has something to ask for.
-const WITH_ANSWERS: usize = 20;
-/// The questions to them.
-const QUESTIONS: usize = 1_058;
+/// Those with an accepted payload that has something to ask for; and the questions to them.
+const ANSWERED: (usize, usize) = (37, 1_128);
+/// The same of the wider edition of names.
+const ANSWERED_WIDELY: (usize, usize) = (26, 1_116);
 
 const fn said(canonical: u64, not_canonical: u64) -> Said {
     Said {
@@ -91,17 +92,18 @@ fn payloads() {
         let expected = fs::read_to_string(&path).expect("judgements can be read");
         for line in expected.lines() {
             let (word, expected) = line.split_once(' ').expect("a word and its judgement");
-            let section = match word {
-                "hints" => HINTS,
-                name => name.as_bytes(),
+            let judged = match word {
+                "wide-name" => tally.wide_judgement(&module),
+                "hints" => tally.judgement(&module, HINTS),
+                section => tally.judgement(&module, section.as_bytes()),
             };
-            let judged = judgement(tally.judgement(&module, section));
-            assert_eq!(judged, expected, "{word} in {}", path.display());
+            assert_eq!(judgement(judged), expected, "{word} in {}", path.display());
             judgements += 1;
         }
     }
     assert_eq!(judgements, JUDGEMENTS);
     assert_eq!(tally.names_said, NAMES_SAID);
+    assert_eq!(tally.wide_said, WIDE_SAID);
     assert_eq!(tally.hints_said, HINTS_SAID);
     assert_eq!(tally.metadata_said, METADATA_SAID);
     println!("compared {} calls", tally.calls);
@@ -161,24 +163,57 @@ fn asked(module: &[u8], words: &[&str]) -> Told {
     }
 }
 
+/// The same, asked by the wider edition.
+fn asked_widely(module: &[u8], words: &[&str]) -> Told {
+    let number = |at: usize| words[at].parse::<u32>().expect("a number");
+    match words[0] {
+        "module" => library::wide_module_name_in(module),
+        "function" => library::wide_function_name_in(module, number(1)),
+        "local" => library::wide_local_name_in(module, number(1), number(2)),
+        "label" => library::wide_label_name_in(module, number(1), number(2)),
+        "type" => library::wide_type_name_in(module, number(1)),
+        "table" => library::wide_table_name_in(module, number(1)),
+        "memory" => library::wide_memory_name_in(module, number(1)),
+        "global" => library::wide_global_name_in(module, number(1)),
+        "element" => library::wide_element_name_in(module, number(1)),
+        "data" => library::wide_data_name_in(module, number(1)),
+        "field" => library::wide_field_name_in(module, number(1), number(2)),
+        "tag" => library::wide_tag_name_in(module, number(1)),
+        "kept" => library::wide_kept_in(module, number(1) as u8),
+        other => panic!("no question of the fixtures: {other}"),
+    }
+}
+
+/// Asks what one file of expectations lists, and no other id is kept. How many questions there are.
+fn ask_file(path: &Path, asked: fn(&[u8], &[&str]) -> Told, kept: fn(&[u8], u8) -> Told) -> usize {
+    let module = module_of(path);
+    let expected = fs::read_to_string(path).expect("answers can be read");
+    for line in expected.lines() {
+        let words: Vec<&str> = line.split(' ').collect();
+        let (question, place) = words.split_at(words.len() - 2);
+        let told = asked(&module, question);
+        let place = [place[0], place[1]].map(|word| word.parse().expect("a number"));
+        let found = (told.kind, [told.offset, told.length]);
+        assert_eq!(found, (FOUND, place), "{line} in {}", path.display());
+    }
+    let listed = expected.lines().filter(|line| line.starts_with("kept "));
+    let found = (0..=u8::MAX).filter(|id| kept(&module, *id).kind == FOUND);
+    assert_eq!(found.count(), listed.count(), "kept in {}", path.display());
+    expected.lines().count()
+}
+
 #[test]
 fn answers() {
-    let mut asked_for = 0;
     let answers = files("answers");
-    assert_eq!(answers.len(), WITH_ANSWERS);
-    for path in answers {
-        let module = module_of(&path);
-        let expected = fs::read_to_string(&path).expect("answers can be read");
-        for line in expected.lines() {
-            let words: Vec<&str> = line.split(' ').collect();
-            let (question, place) = words.split_at(words.len() - 2);
-            let told = asked(&module, question);
-            let place = [place[0], place[1]].map(|word| word.parse().expect("a number"));
-            let expected = (FOUND, place);
-            let found = (told.kind, [told.offset, told.length]);
-            assert_eq!(found, expected, "{line} in {}", path.display());
-            asked_for += 1;
-        }
-    }
-    assert_eq!(asked_for, QUESTIONS);
+    let ask = |path: &PathBuf| ask_file(path, asked, library::kept_in);
+    let questions = answers.iter().map(ask).sum();
+    assert_eq!((answers.len(), questions), ANSWERED);
+}
+
+#[test]
+fn answers_of_the_wider_edition() {
+    let answers = files("wide-answers");
+    let ask = |path: &PathBuf| ask_file(path, asked_widely, library::wide_kept_in);
+    let questions = answers.iter().map(ask).sum();
+    assert_eq!((answers.len(), questions), ANSWERED_WIDELY);
 }

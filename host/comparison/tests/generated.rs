@@ -3,13 +3,16 @@
 use comparison::made;
 use comparison::random::{seed, Random};
 use comparison::spelling::{sized, unpadded};
-use comparison::tally::Tally;
+use comparison::tally::{Tally, WIDE_QUESTIONS};
 
 /// How many inputs of each kind are made.
 const ROUNDS: u64 = 700;
 
 /// How many of the accepted payloads are canonical at least, and how many are not.
 const LEAST_OF_EACH: u64 = 200;
+
+/// The same in the wider edition, which refuses more; and how often each of its questions is answered in each way.
+const LEAST_WIDE: u64 = 50;
 
 #[test]
 fn payloads_and_modules() {
@@ -27,7 +30,7 @@ fn payloads_and_modules() {
     }
     println!("compared {} calls", tally.calls);
     assert!(
-        tally.calls >= 200_000,
+        tally.calls >= 300_000,
         "only {} calls were compared",
         tally.calls
     );
@@ -35,6 +38,11 @@ fn payloads_and_modules() {
         assert!(said.canonical >= LEAST_OF_EACH, "{said:?}");
         assert!(said.not_canonical >= LEAST_OF_EACH, "{said:?}");
     }
+    let said = tally.wide_said;
+    let fewest = said.canonical.min(said.not_canonical);
+    assert!(fewest >= LEAST_WIDE, "{said:?}");
+    // Payloads that were made for the first edition are refused by the wider one, if they keep what is no map.
+    tally.assert_wide_met(2 * WIDE_QUESTIONS, LEAST_WIDE);
 }
 
 #[test]

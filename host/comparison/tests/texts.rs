@@ -40,6 +40,23 @@ fn one_to_three_bytes() {
     assert_eq!(tally.names_said, said);
 }
 
+/// In the wider edition, as the name of a global.
+#[test]
+fn one_and_two_bytes_in_the_wider_edition() {
+    let mut tally = Tally::default();
+    for a in 0..=u8::MAX {
+        tally.wide_text(&[a]);
+        for b in 0..=u8::MAX {
+            tally.wide_text(&[a, b]);
+        }
+    }
+    let said = Said {
+        canonical: TEXTS[0] + TEXTS[1],
+        not_canonical: 0,
+    };
+    assert_eq!(tally.wide_said, said);
+}
+
 /// Every first and second byte: the limits of four bytes, U+10000 and U+10FFFF, show in these two.
 #[test]
 fn four_bytes_around_each_limit() {
@@ -88,11 +105,14 @@ fn at_every_place_of_ascii() {
             for before in 0..=SHORT_TEXT - taken {
                 let mut text = ascii;
                 text[before..before + taken].copy_from_slice(&character[..taken]);
-                tally.text(&text);
-                tally.text(&text[..before + taken]);
+                for text in [&text[..], &text[..before + taken]] {
+                    tally.text(text);
+                    tally.wide_text(text);
+                }
             }
         }
     }
     println!("compared {} calls", tally.calls);
     assert_eq!(tally.names_said.not_canonical, 0);
+    assert_eq!(tally.wide_said, tally.names_said);
 }

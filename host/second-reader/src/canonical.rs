@@ -6,15 +6,23 @@
 //! so that no step has to claim that none can come.
 
 use crate::answer::{Answer, Refusal};
+use crate::edition::{id, Edition, Form, Shape};
 use crate::metadata::{self, Format};
-use crate::names::{self, id, Subsection, Subsections};
+use crate::names::{self, Subsection, Subsections};
 use crate::reading::Part;
 use crate::writing::{number_length, Length, Sink, Writer};
 
 /// Writes the canonical form of a name payload at the front of `out`. Found: the bytes written as
 /// the length.
 pub fn names_canonical(payload: &[u8], out: &mut [u8]) -> Answer {
-    Answer::counted(rewrite_names(Part::whole(payload), out))
+    let payload = Part::whole(payload);
+    Answer::counted(rewrite_names(payload, Edition::First, out))
+}
+
+/// Writes the canonical form of a name payload, by the wider edition, at the front of `out`.
+pub fn wide_names_canonical(payload: &[u8], out: &mut [u8]) -> Answer {
+    let payload = Part::whole(payload);
+    Answer::counted(rewrite_names(payload, Edition::Wider, out))
 }
 
 /// Writes the canonical form of a metadata payload of any format at the front of `out`.
@@ -29,9 +37,9 @@ pub fn hints_canonical(payload: &[u8], out: &mut [u8]) -> Answer {
     Answer::counted(rewrite_metadata(payload, Format::BranchHint, out))
 }
 
-fn rewrite_names(payload: Part<'_>, out: &mut [u8]) -> Result<u64, Refusal> {
-    names::judge(payload)?;
-    let measured = MeasuredNames::of(payload)?;
+fn rewrite_names(payload: Part<'_>, edition: Edition, out: &mut [u8]) -> Result<u64, Refusal> {
+    names::judge(payload, edition)?;
+    let measured = MeasuredNames::of(payload, edition)?;
     let mut writer = Writer::with_room(out, measured.needed)?;
     for subsection in Subsections::of(payload) {
         measured.write(subsection?, &mut writer)?;
@@ -48,34 +56,18 @@ fn rewrite_metadata(payload: Part<'_>, format: Format, out: &mut [u8]) -> Result
     Ok(writer.written())
 }
 
-/// How the contents of a subsection are built.
-enum Form {
-    Name,
-    List(Shape),
-    Kept,
-}
-
-impl Form {
-    fn of(subsection_id: u8) -> Form {
-        match subsection_id {
-            id::MODULE => Form::Name,
-            id::FUNCTIONS | id::TYPES | id::TAGS => Form::List(Shape::Flat),
-            id::LOCALS | id::FIELDS => Form::List(Shape::Nested),
-            _ => Form::Kept,
-        }
-    }
-}
-
 /// What is left of a name payload.
 struct MeasuredNames {
+    edition: Edition,
     /// By subsection id, for those that hold a list; the other places are not used.
     lists: [MeasuredList; id::TAGS as usize + 1],
     needed: u64,
 }
 
 impl MeasuredNames {
-    fn of(payload: Part<'_>) -> Result<Self, Refusal> {
+    fn of(payload: Part<'_>, edition: Edition) -> Result<Self, Refusal> {
         let mut measured = MeasuredNames {
+            edition,
             lists: [MeasuredList::EMPTY; id::TAGS as usize + 1],
             needed: 0,
         };
@@ -87,7 +79,7 @@ impl MeasuredNames {
 
     fn add(&mut self, subsection: Subsection<'_>) -> Result<(), Refusal> {
         let Subsection { id, mut contents } = subsection;
-        let size = match Form::of(id) {
+        let size = match self.edition.form(id) {
             Form::Name => sized_length(contents.sized()?.bytes()),
             Form::Kept => contents.bytes().len() as u64,
             Form::List(shape) => {
@@ -106,7 +98,7 @@ impl MeasuredNames {
     /// Sizes are never above those that were read, so they fit into 32 bits as those did.
     fn write(&self, subsection: Subsection<'_>, writer: &mut Writer<'_>) -> Result<(), Refusal> {
         let Subsection { id, mut contents } = subsection;
-        match Form::of(id) {
+        match self.edition.form(id) {
             Form::Name => {
                 let name = contents.sized()?.bytes();
                 writer.byte(id);
@@ -135,17 +127,8 @@ fn sized_length(bytes: &[u8]) -> u64 {
     number_length(bytes.len() as u32) + bytes.len() as u64
 }
 
-/// How the elements of a list are built. Names and the data of items are both sized parts, and are
-/// copied alike.
-#[derive(Clone, Copy)]
-enum Shape {
-    /// Each is a number and a sized part: a name map, or the items of a function.
-    Flat,
-    /// Each is a number and a flat list: an indirect map, or a metadata payload.
-    Nested,
-}
-
-/// What is left of a list: elements without anything in them are gone.
+/// What is left of a list: elements without anything in them are gone. Names and the data of items
+/// are both sized parts, and are copied alike.
 #[derive(Clone, Copy)]
 struct MeasuredList {
     shape: Shape,

@@ -9,6 +9,9 @@
 //! no prior check: a payload is judged whole before it is asked or rewritten, and a refusal changes
 //! no byte of an output.
 //!
+//! Names have two editions, which differ in the table of ids alone: `wide_` begins the calls of the
+//! wider one.
+//!
 //! ```
 //! use second_reader::{function_name, Kind};
 //!
@@ -23,6 +26,7 @@
 
 mod answer;
 mod canonical;
+mod edition;
 mod lists;
 mod metadata;
 mod names;
@@ -31,18 +35,29 @@ mod reading;
 mod telling;
 mod through;
 mod walk;
+mod wide;
 mod writing;
 
 pub use answer::{Answer, Kind, Reason};
-pub use canonical::{hints_canonical, metadata_canonical, names_canonical};
+pub use canonical::{hints_canonical, metadata_canonical, names_canonical, wide_names_canonical};
 pub use lists::function_names_write;
 pub use metadata::{hint, hints_judge, metadata, metadata_judge};
 pub use names::{
     field_name, function_name, kept, local_name, module_name, names_judge, tag_name, type_name,
 };
-pub use telling::{hints_is_canonical, metadata_is_canonical, names_is_canonical};
+pub use telling::{
+    hints_is_canonical, metadata_is_canonical, names_is_canonical, wide_names_is_canonical,
+};
 pub use through::{
     field_name_in, function_name_in, hint_in, kept_in, local_name_in, metadata_in, module_name_in,
     tag_name_in, type_name_in,
 };
 pub use walk::{custom, section, walk};
+pub use wide::{
+    wide_data_name, wide_data_name_in, wide_element_name, wide_element_name_in, wide_field_name,
+    wide_field_name_in, wide_function_name, wide_function_name_in, wide_global_name,
+    wide_global_name_in, wide_kept, wide_kept_in, wide_label_name, wide_label_name_in,
+    wide_local_name, wide_local_name_in, wide_memory_name, wide_memory_name_in, wide_module_name,
+    wide_module_name_in, wide_names_judge, wide_table_name, wide_table_name_in, wide_tag_name,
+    wide_tag_name_in, wide_type_name, wide_type_name_in,
+};

@@ -4,7 +4,7 @@
 use std::str;
 
 use crate::answer::{Answer, Reason, Refusal};
-use crate::names::id;
+use crate::edition::id;
 use crate::writing::{number_length, Sink, Writer};
 
 /// Writes a canonical name payload that names the listed functions, and nothing else, at the front

@@ -1,85 +1,90 @@
-//! The name payload: its subsections, its judgement, and the questions put to it.
+//! The name payload: its subsections, its judgement, and the questions put to it, in each edition.
+//!
+//! The calls here are those of the first edition.
 
 use crate::answer::{Answer, Reason, Refusal};
+use crate::edition::{id, Edition, Form, Shape};
 use crate::reading::Part;
-
-/// The ids of the subsections that are looked into.
-pub(crate) mod id {
-    pub const MODULE: u8 = 0;
-    pub const FUNCTIONS: u8 = 1;
-    pub const LOCALS: u8 = 2;
-    pub const TYPES: u8 = 4;
-    pub const FIELDS: u8 = 10;
-    /// The table and the text of the source say 11, and they decide over the one production that
-    /// prints 1.
-    pub const TAGS: u8 = 11;
-}
 
 /// Judges a name payload. Found, where it is accepted: offset 0 and the payload's length.
 pub fn names_judge(payload: &[u8]) -> Answer {
-    let judged = judge(Part::whole(payload));
-    Answer::counted(judged.map(|()| payload.len() as u64))
+    judged(payload, Edition::First)
 }
 
 /// The name of the module.
 pub fn module_name(payload: &[u8]) -> Answer {
-    Answer::of(ask(Part::whole(payload), Owner::Module))
+    asked(payload, Edition::First, Owner::Module)
 }
 
 /// The name of a function.
 pub fn function_name(payload: &[u8], function: u32) -> Answer {
-    Answer::of(ask(Part::whole(payload), Owner::Function(function)))
+    let wanted = Owner::Entry(id::FUNCTIONS, function);
+    asked(payload, Edition::First, wanted)
 }
 
 /// The name of a type.
 pub fn type_name(payload: &[u8], type_index: u32) -> Answer {
-    Answer::of(ask(Part::whole(payload), Owner::Type(type_index)))
+    let wanted = Owner::Entry(id::TYPES, type_index);
+    asked(payload, Edition::First, wanted)
 }
 
 /// The name of a tag.
 pub fn tag_name(payload: &[u8], tag: u32) -> Answer {
-    Answer::of(ask(Part::whole(payload), Owner::Tag(tag)))
+    let wanted = Owner::Entry(id::TAGS, tag);
+    asked(payload, Edition::First, wanted)
 }
 
 /// The name of a local in a function.
 pub fn local_name(payload: &[u8], function: u32, local: u32) -> Answer {
-    Answer::of(ask(Part::whole(payload), Owner::Local(function, local)))
+    let wanted = Owner::InGroup(id::LOCALS, function, local);
+    asked(payload, Edition::First, wanted)
 }
 
 /// The name of a field in a type.
 pub fn field_name(payload: &[u8], type_index: u32, field: u32) -> Answer {
-    Answer::of(ask(Part::whole(payload), Owner::Field(type_index, field)))
+    let wanted = Owner::InGroup(id::FIELDS, type_index, field);
+    asked(payload, Edition::First, wanted)
 }
 
 /// The contents of the kept subsection with an id. The six known ids are never kept.
 pub fn kept(payload: &[u8], id: u8) -> Answer {
-    Answer::of(ask(Part::whole(payload), Owner::Kept(id)))
+    asked(payload, Edition::First, Owner::Kept(id))
 }
 
 /// What a text in the payload belongs to, and so also what a question asks for.
 #[derive(Clone, Copy, PartialEq, Eq)]
 pub(crate) enum Owner {
     Module,
-    Function(u32),
-    Type(u32),
-    Tag(u32),
-    /// A function and a local in it.
-    Local(u32, u32),
-    /// A type and a field in it.
-    Field(u32, u32),
+    /// The id of a subsection with a name map, and an index in it.
+    Entry(u8, u32),
+    /// The id of a subsection with an indirect map, a primary index, and an index in its group.
+    InGroup(u8, u32, u32),
     /// Not a name: the contents of a subsection that is not looked into.
     Kept(u8),
 }
 
-pub(crate) fn judge(payload: Part<'_>) -> Result<(), Refusal> {
-    read(payload, |_, _| {})
+pub(crate) fn judged(payload: &[u8], edition: Edition) -> Answer {
+    let judged = judge(Part::whole(payload), edition);
+    Answer::counted(judged.map(|()| payload.len() as u64))
+}
+
+pub(crate) fn asked(payload: &[u8], edition: Edition, wanted: Owner) -> Answer {
+    Answer::of(ask(Part::whole(payload), edition, wanted))
+}
+
+pub(crate) fn judge(payload: Part<'_>, edition: Edition) -> Result<(), Refusal> {
+    read(payload, edition, |_, _| {})
 }
 
 /// The text of one owner. The payload is read to its end, past the answer, so that it is judged
 /// whole.
-pub(crate) fn ask(payload: Part<'_>, wanted: Owner) -> Result<Option<Part<'_>>, Refusal> {
+pub(crate) fn ask(
+    payload: Part<'_>,
+    edition: Edition,
+    wanted: Owner,
+) -> Result<Option<Part<'_>>, Refusal> {
     let mut found = None;
-    read(payload, |owner, text| {
+    read(payload, edition, |owner, text| {
         if owner == wanted {
             found = Some(text);
         }
@@ -89,31 +94,33 @@ pub(crate) fn ask(payload: Part<'_>, wanted: Owner) -> Result<Option<Part<'_>>, 
 
 /// Reads and checks the payload to its end. Every owner is met at most once, since ids and indices
 /// increase.
-fn read<'a>(payload: Part<'a>, mut meet: impl FnMut(Owner, Part<'a>)) -> Result<(), Refusal> {
+fn read<'a>(
+    payload: Part<'a>,
+    edition: Edition,
+    mut meet: impl FnMut(Owner, Part<'a>),
+) -> Result<(), Refusal> {
     for subsection in Subsections::of(payload) {
-        read_contents(subsection?, &mut meet)?;
+        read_contents(subsection?, edition, &mut meet)?;
     }
     Ok(())
 }
 
 fn read_contents<'a>(
     subsection: Subsection<'a>,
+    edition: Edition,
     mut meet: impl FnMut(Owner, Part<'a>),
 ) -> Result<(), Refusal> {
-    let mut contents = subsection.contents;
-    match subsection.id {
-        id::MODULE => meet(Owner::Module, contents.name()?),
-        id::FUNCTIONS => read_map(&mut contents, |i, text| meet(Owner::Function(i), text))?,
-        id::TYPES => read_map(&mut contents, |i, text| meet(Owner::Type(i), text))?,
-        id::TAGS => read_map(&mut contents, |i, text| meet(Owner::Tag(i), text))?,
-        id::LOCALS => read_indirect_map(&mut contents, |f, i, text| {
-            meet(Owner::Local(f, i), text);
+    let Subsection { id, mut contents } = subsection;
+    match edition.form(id) {
+        Form::Name => meet(Owner::Module, contents.name()?),
+        Form::List(Shape::Flat) => read_map(&mut contents, |index, text| {
+            meet(Owner::Entry(id, index), text);
         })?,
-        id::FIELDS => read_indirect_map(&mut contents, |t, i, text| {
-            meet(Owner::Field(t, i), text);
+        Form::List(Shape::Nested) => read_indirect_map(&mut contents, |primary, index, text| {
+            meet(Owner::InGroup(id, primary, index), text);
         })?,
-        kept => {
-            meet(Owner::Kept(kept), contents);
+        Form::Kept => {
+            meet(Owner::Kept(id), contents);
             return Ok(());
         }
     }

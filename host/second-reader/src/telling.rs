@@ -2,12 +2,20 @@
 //! compared.
 
 use crate::answer::{Answer, Kind};
-use crate::canonical::{hints_canonical, metadata_canonical, names_canonical};
+use crate::canonical::{
+    hints_canonical, metadata_canonical, names_canonical, wide_names_canonical,
+};
 
 /// Whether a name payload is accepted and equals its canonical rewriting.
 #[must_use]
 pub fn names_is_canonical(payload: &[u8]) -> bool {
     equals_its_rewriting(payload, names_canonical)
+}
+
+/// Whether a name payload is accepted by the wider edition and equals its canonical rewriting there.
+#[must_use]
+pub fn wide_names_is_canonical(payload: &[u8]) -> bool {
+    equals_its_rewriting(payload, wide_names_canonical)
 }
 
 /// Whether a metadata payload of any format is accepted and equals its canonical rewriting.

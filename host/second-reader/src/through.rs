@@ -1,9 +1,11 @@
 //! The questions put through a module: the walk judges it first, then the payload asked is judged
 //! where it lies.
 //!
-//! Offsets count from the module's start, and a module without the section gets none.
+//! Offsets count from the module's start, and a module without the section gets none. The calls for
+//! names here are those of the first edition.
 
 use crate::answer::{Answer, Kind, Refusal};
+use crate::edition::{id, Edition};
 use crate::metadata::{self, Format};
 use crate::names::{self, Owner};
 use crate::reading::Part;
@@ -14,37 +16,42 @@ const BRANCH_HINT: &[u8] = b"branch_hint";
 
 /// The name of the module, asked through the module.
 pub fn module_name_in(module: &[u8]) -> Answer {
-    Answer::of(ask_names(module, Owner::Module))
+    asked(module, Edition::First, Owner::Module)
 }
 
 /// The name of a function, asked through the module.
 pub fn function_name_in(module: &[u8], function: u32) -> Answer {
-    Answer::of(ask_names(module, Owner::Function(function)))
+    let wanted = Owner::Entry(id::FUNCTIONS, function);
+    asked(module, Edition::First, wanted)
 }
 
 /// The name of a type, asked through the module.
 pub fn type_name_in(module: &[u8], type_index: u32) -> Answer {
-    Answer::of(ask_names(module, Owner::Type(type_index)))
+    let wanted = Owner::Entry(id::TYPES, type_index);
+    asked(module, Edition::First, wanted)
 }
 
 /// The name of a tag, asked through the module.
 pub fn tag_name_in(module: &[u8], tag: u32) -> Answer {
-    Answer::of(ask_names(module, Owner::Tag(tag)))
+    let wanted = Owner::Entry(id::TAGS, tag);
+    asked(module, Edition::First, wanted)
 }
 
 /// The name of a local in a function, asked through the module.
 pub fn local_name_in(module: &[u8], function: u32, local: u32) -> Answer {
-    Answer::of(ask_names(module, Owner::Local(function, local)))
+    let wanted = Owner::InGroup(id::LOCALS, function, local);
+    asked(module, Edition::First, wanted)
 }
 
 /// The name of a field in a type, asked through the module.
 pub fn field_name_in(module: &[u8], type_index: u32, field: u32) -> Answer {
-    Answer::of(ask_names(module, Owner::Field(type_index, field)))
+    let wanted = Owner::InGroup(id::FIELDS, type_index, field);
+    asked(module, Edition::First, wanted)
 }
 
 /// The contents of the kept subsection with an id, asked through the module.
 pub fn kept_in(module: &[u8], id: u8) -> Answer {
-    Answer::of(ask_names(module, Owner::Kept(id)))
+    asked(module, Edition::First, Owner::Kept(id))
 }
 
 /// The data at an offset in a function, in the first section `metadata.code.T`, where T is the
@@ -60,11 +67,16 @@ pub fn hint_in(module: &[u8], function: u32, offset: u32) -> Answer {
     Answer::of(ask_hint(module, function, offset))
 }
 
-fn ask_names(module: &[u8], wanted: Owner) -> Result<Option<Part<'_>>, Refusal> {
+/// A question for a name, by either edition.
+pub(crate) fn asked(module: &[u8], edition: Edition, wanted: Owner) -> Answer {
+    Answer::of(ask_names(module, edition, wanted))
+}
+
+fn ask_names(module: &[u8], edition: Edition, wanted: Owner) -> Result<Option<Part<'_>>, Refusal> {
     let Some(payload) = payload_of(module, |name| name == NAMES)? else {
         return Ok(None);
     };
-    names::ask(payload, wanted)
+    names::ask(payload, edition, wanted)
 }
 
 fn ask_metadata<'a>(

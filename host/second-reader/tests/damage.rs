@@ -7,31 +7,47 @@
 mod support;
 
 use second_reader::*;
+use support::editions::*;
 use support::inputs::*;
 use support::random::{for_seeds, Random};
 use support::*;
 
 const INDICES: [u32; 4] = [0, 1, 127, u32::MAX];
 
+/// Ids that are asked for as kept: always known, known to the wider edition, and never known.
+const KEPT: [u8; 3] = [1, 3, 12];
+
 /// The calls on payloads of one kind.
-struct Calls {
+struct Calls<'a> {
     judge: fn(&[u8]) -> Answer,
-    ask: fn(&[u8]) -> Vec<Answer>,
+    ask: &'a dyn Fn(&[u8]) -> Vec<Answer>,
     rewrite: fn(&[u8], &mut [u8]) -> Answer,
     is_canonical: fn(&[u8]) -> bool,
 }
 
-/// Every question to a name payload, for a few indices.
-fn name_answers(payload: &[u8]) -> Vec<Answer> {
-    let mut answers = vec![module_name(payload), kept(payload, 3), kept(payload, 1)];
-    for index in INDICES {
-        answers.push(function_name(payload, index));
-        answers.push(type_name(payload, index));
-        answers.push(tag_name(payload, index));
-        answers.push(local_name(payload, 1, index));
-        answers.push(field_name(payload, index, 0));
+/// Every question of an edition for a name, with these indices.
+fn name_questions(edition: &Edition, indices: &[u32]) -> Vec<Question> {
+    let mut questions = vec![Question::Module];
+    for &index in indices {
+        let flat = |&id: &u8| Question::Flat(id, index);
+        questions.extend(edition.maps.iter().map(flat));
+        let nested = |&id: &u8| {
+            [
+                Question::Nested(id, 1, index),
+                Question::Nested(id, index, 0),
+            ]
+        };
+        questions.extend(edition.indirect_maps.iter().flat_map(nested));
     }
-    answers
+    questions
+}
+
+/// Every question of an edition to a name payload, for a few indices.
+fn name_answers(edition: &Edition, payload: &[u8]) -> Vec<Answer> {
+    let mut questions = name_questions(edition, &INDICES);
+    questions.extend(KEPT.map(Question::Kept));
+    let ask = |question| (edition.ask)(payload, question);
+    questions.into_iter().map(ask).collect()
 }
 
 fn metadata_answers(payload: &[u8]) -> Vec<Answer> {
@@ -49,7 +65,7 @@ fn said(lent: &[u8], answers: Vec<Answer>) -> Vec<(Kind, Option<&[u8]>)> {
 }
 
 /// Puts every question to one payload, whatever it is.
-fn check_payload(payload: &[u8], calls: Calls) {
+fn check_payload(payload: &[u8], calls: Calls<'_>) {
     let Calls {
         judge,
         ask,
@@ -79,26 +95,28 @@ fn check_payload(payload: &[u8], calls: Calls) {
 }
 
 fn check_names(payload: &[u8]) {
-    let calls = Calls {
-        judge: names_judge,
-        ask: name_answers,
-        rewrite: names_canonical,
-        is_canonical: names_is_canonical,
-    };
-    check_payload(payload, calls);
+    for edition in &EDITIONS {
+        let calls = Calls {
+            judge: edition.judge,
+            ask: &|lent| name_answers(edition, lent),
+            rewrite: edition.rewrite,
+            is_canonical: edition.is_canonical,
+        };
+        check_payload(payload, calls);
+    }
 }
 
 fn check_metadata(payload: &[u8]) {
     let of_any_format = Calls {
         judge: metadata_judge,
-        ask: metadata_answers,
+        ask: &metadata_answers,
         rewrite: metadata_canonical,
         is_canonical: metadata_is_canonical,
     };
     check_payload(payload, of_any_format);
     let of_hints = Calls {
         judge: hints_judge,
-        ask: hint_answers,
+        ask: &hint_answers,
         rewrite: hints_canonical,
         is_canonical: hints_is_canonical,
     };
@@ -127,19 +145,19 @@ fn check_module(module: &[u8]) {
     }
 }
 
-fn through_answers(module: &[u8]) -> [Answer; 10] {
-    [
-        module_name_in(module),
-        function_name_in(module, 0),
-        type_name_in(module, 0),
-        tag_name_in(module, 0),
-        local_name_in(module, 0, 0),
-        field_name_in(module, 0, 0),
-        kept_in(module, 3),
+fn through_answers(module: &[u8]) -> Vec<Answer> {
+    let mut answers = vec![
         hint_in(module, 0, 0),
         metadata_in(module, b"branch_hint", 0, 0),
         metadata_in(module, b"x", 0, 0),
-    ]
+    ];
+    for edition in &EDITIONS {
+        let mut questions = name_questions(edition, &[0]);
+        questions.extend(KEPT.map(Question::Kept));
+        let ask = |question| (edition.ask_in)(module, question);
+        answers.extend(questions.into_iter().map(ask));
+    }
+    answers
 }
 
 /// The sections lie one behind the other and fill the module.
@@ -185,8 +203,10 @@ fn small(most: usize, mut make: impl FnMut() -> Vec<u8>) -> Vec<u8> {
     }
 }
 
+/// A name payload made for either edition.
 fn names_input(random: &mut Random) -> Vec<u8> {
-    let names = random_names(random);
+    let edition = random.pick(&[&FIRST, &WIDER]);
+    let names = random_names(random, edition);
     encoded_names(&names, random)
 }
 
@@ -264,6 +284,42 @@ fn modules_with_a_byte_changed() {
     });
 }
 
+/// Which payloads one edition accepts and the other does not: made for either, every second damaged.
+#[test]
+fn the_first_edition_accepts_what_the_wider_accepts() {
+    const LEAST_OF_EACH: u64 = 1_000;
+    let (mut by_both, mut by_first_alone, mut by_none) = (0, 0, 0);
+    for_seeds(10_000, |random| {
+        let mut payload = names_input(random);
+        if random.one_in(2) && !payload.is_empty() {
+            let place = random.below(payload.len());
+            payload[place] = random.byte();
+        }
+        let judged = EDITIONS.map(|edition| (edition.judge)(&payload).kind);
+        match judged {
+            [Kind::Found, Kind::Found] => {
+                names_of_both_are_alike(&payload);
+                by_both += 1;
+            }
+            [Kind::Found, _] => by_first_alone += 1,
+            [_, Kind::Found] => panic!("by the wider edition alone: {payload:02X?}"),
+            _ => by_none += 1,
+        }
+    });
+    let met = [by_both, by_first_alone, by_none];
+    assert!(met.iter().all(|times| *times >= LEAST_OF_EACH), "{met:?}");
+}
+
+/// What both editions know and what both keep has the same place in each.
+fn names_of_both_are_alike(payload: &[u8]) {
+    let mut questions = name_questions(&FIRST, &INDICES);
+    questions.extend([12, 0x80, 0xFF].map(Question::Kept));
+    for question in questions {
+        let answers = EDITIONS.map(|edition| (edition.ask)(payload, question));
+        assert_eq!(answers[0], answers[1], "{question:?} of {payload:02X?}");
+    }
+}
+
 /// Small bytes are far more often a payload than any bytes are.
 #[test]
 fn bytes_of_no_plan() {
@@ -285,7 +341,7 @@ fn bytes_of_no_plan() {
 /// All payloads of up to four bytes, over the bytes that matter.
 #[test]
 fn every_short_payload() {
-    const BYTES: [u8; 9] = [0, 1, 2, 3, 4, 0x0B, 0x61, 0x80, 0xFF];
+    const BYTES: [u8; 10] = [0, 1, 2, 3, 4, 7, 0x0B, 0x61, 0x80, 0xFF];
     let mut payloads = vec![Vec::new()];
     for _ in 0..4 {
         let longer = payloads

@@ -3,44 +3,12 @@
 mod support;
 
 use second_reader::*;
+use support::editions::*;
 use support::inputs::*;
 use support::random::{for_seeds, Random};
 use support::*;
 
 const SEEDS: u64 = 3_000;
-
-/// A question to a name payload.
-#[derive(Clone, Copy, Debug)]
-enum Question {
-    Module,
-    Flat(u8, u32),
-    Nested(u8, u32, u32),
-    Kept(u8),
-}
-
-fn ask(payload: &[u8], question: Question) -> Answer {
-    match question {
-        Question::Module => module_name(payload),
-        Question::Flat(1, index) => function_name(payload, index),
-        Question::Flat(4, index) => type_name(payload, index),
-        Question::Flat(_, index) => tag_name(payload, index),
-        Question::Nested(2, primary, index) => local_name(payload, primary, index),
-        Question::Nested(_, primary, index) => field_name(payload, primary, index),
-        Question::Kept(id) => kept(payload, id),
-    }
-}
-
-fn ask_in(module: &[u8], question: Question) -> Answer {
-    match question {
-        Question::Module => module_name_in(module),
-        Question::Flat(1, index) => function_name_in(module, index),
-        Question::Flat(4, index) => type_name_in(module, index),
-        Question::Flat(_, index) => tag_name_in(module, index),
-        Question::Nested(2, primary, index) => local_name_in(module, primary, index),
-        Question::Nested(_, primary, index) => field_name_in(module, primary, index),
-        Question::Kept(id) => kept_in(module, id),
-    }
-}
 
 /// Every text in a name payload with the question that it answers.
 fn present(names: &Names) -> Vec<(Question, &[u8])> {
@@ -75,8 +43,8 @@ fn items(list: &Nested) -> Vec<(u32, u32, &[u8])> {
     all
 }
 
-/// Questions that lie beside those present, of every kind.
-fn beside(all: &[(Question, &[u8])], random: &mut Random) -> Vec<Question> {
+/// Questions of an edition that lie beside those present, of every kind.
+fn beside(all: &[(Question, &[u8])], edition: &Edition, random: &mut Random) -> Vec<Question> {
     let mut questions = vec![Question::Module];
     for id in 0..=u8::MAX {
         questions.push(Question::Kept(id));
@@ -87,12 +55,12 @@ fn beside(all: &[(Question, &[u8])], random: &mut Random) -> Vec<Question> {
     for (question, _) in all {
         match *question {
             Question::Flat(_, i) => {
-                questions.push(Question::Flat(random.pick(&[1, 4, 11]), near(i, random)));
+                questions.push(Question::Flat(random.pick(edition.maps), near(i, random)));
             }
             Question::Nested(_, p, i) => {
                 let (p, i) = (near(p, random), near(i, random));
-                questions.push(Question::Nested(random.pick(&[2, 10]), p, i));
-                questions.push(Question::Nested(random.pick(&[2, 10]), i, p));
+                questions.push(Question::Nested(random.pick(edition.indirect_maps), p, i));
+                questions.push(Question::Nested(random.pick(edition.indirect_maps), i, p));
             }
             _ => {}
         }
@@ -100,45 +68,53 @@ fn beside(all: &[(Question, &[u8])], random: &mut Random) -> Vec<Question> {
     questions
 }
 
+/// Runs a check under each seed in each edition, over names made for it and their payload.
+fn for_names(count: u64, mut check: impl FnMut(&Edition, &Names, &[u8], &mut Random)) {
+    for edition in &EDITIONS {
+        for_seeds(count, |random| {
+            let names = random_names(random, edition);
+            let payload = encoded_names(&names, random);
+            check(edition, &names, &payload, random);
+        });
+    }
+}
+
 #[test]
 fn names_answer_what_was_put_in() {
-    for_seeds(SEEDS, |random| {
-        let names = random_names(random);
-        let payload = encoded_names(&names, random);
-        assert_eq!(names_judge(&payload), found(0, payload.len() as u64));
-        for (question, text) in present(&names) {
-            let answer = ask(&payload, question);
-            assert_eq!(bytes_of(&payload, answer), Some(text), "{question:?}");
+    for_names(SEEDS, |edition, names, payload, _| {
+        assert_eq!((edition.judge)(payload), found(0, payload.len() as u64));
+        for (question, text) in present(names) {
+            let answer = (edition.ask)(payload, question);
+            assert_eq!(bytes_of(payload, answer), Some(text), "{question:?}");
         }
     });
 }
 
 #[test]
 fn names_are_rewritten_by_the_definition() {
-    for_seeds(SEEDS, |random| {
-        let names = random_names(random);
-        let payload = encoded_names(&names, random);
-        let canonical = rewritten(names_canonical, &payload).unwrap();
-        assert_eq!(canonical, canonical_names(&names));
-        assert_eq!(names_is_canonical(&payload), payload == canonical);
+    for_names(SEEDS, |edition, names, payload, _| {
+        let canonical = rewritten(edition.rewrite, payload).unwrap();
+        assert_eq!(canonical, canonical_names(names));
+        assert_eq!((edition.is_canonical)(payload), payload == canonical);
         assert!(canonical.len() <= payload.len());
-        assert_eq!(names_judge(&canonical), found(0, canonical.len() as u64));
-        assert_eq!(rewritten(names_canonical, &canonical), Ok(canonical));
+        assert_eq!(
+            (edition.judge)(&canonical),
+            found(0, canonical.len() as u64)
+        );
+        assert_eq!(rewritten(edition.rewrite, &canonical), Ok(canonical));
     });
 }
 
 #[test]
 fn rewritten_names_answer_alike() {
-    for_seeds(SEEDS, |random| {
-        let names = random_names(random);
-        let payload = encoded_names(&names, random);
-        let canonical = rewritten(names_canonical, &payload).unwrap();
-        let present = present(&names);
-        let mut questions = beside(&present, random);
+    for_names(SEEDS, |edition, names, payload, random| {
+        let canonical = rewritten(edition.rewrite, payload).unwrap();
+        let present = present(names);
+        let mut questions = beside(&present, edition, random);
         questions.extend(present.iter().map(|(question, _)| *question));
         for question in questions {
-            let before = bytes_of(&payload, ask(&payload, question));
-            let after = bytes_of(&canonical, ask(&canonical, question));
+            let before = bytes_of(payload, (edition.ask)(payload, question));
+            let after = bytes_of(&canonical, (edition.ask)(&canonical, question));
             assert_eq!(before, after, "{question:?}");
         }
     });
@@ -153,23 +129,22 @@ fn padded_section(name: &[u8], payload: &[u8], random: &mut Random) -> Vec<u8> {
 
 #[test]
 fn names_answer_alike_through_a_module() {
-    for_seeds(SEEDS / 4, |random| {
-        let names = random_names(random);
-        let payload = encoded_names(&names, random);
+    for_names(SEEDS / 4, |edition, names, payload, random| {
         let before = plain_section(random.below(12) as u8 + 1, b"\0\0");
-        let section = padded_section(b"name", &payload, random);
+        let section = padded_section(b"name", payload, random);
         let module = module(&[before, section, custom_section(b"other", b"name")]);
         let start = custom(&module, b"name").offset;
         assert_eq!(custom(&module, b"name"), found(start, payload.len() as u64));
-        let present = present(&names);
-        let mut questions = beside(&present, random);
+        let present = present(names);
+        let mut questions = beside(&present, edition, random);
         questions.extend(present.iter().map(|(question, _)| *question));
         for question in questions {
-            let mut expected = ask(&payload, question);
+            let mut expected = (edition.ask)(payload, question);
             if expected.kind == Kind::Found {
                 expected.offset += start;
             }
-            assert_eq!(ask_in(&module, question), expected, "{question:?}");
+            let through = (edition.ask_in)(&module, question);
+            assert_eq!(through, expected, "{question:?}");
         }
     });
 }

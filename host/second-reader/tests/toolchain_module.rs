@@ -79,7 +79,7 @@ fn its_names() {
     );
     assert_eq!(name(function_name_in(&MODULE, 1)), Some(&b"add"[..]));
     assert_eq!(function_name_in(&MODULE, 2), NONE);
-    // Names of globals are not among the known ones, so they are kept.
+    // The first edition does not know names of globals, so they are kept.
     assert_eq!(
         name(kept_in(&MODULE, 7)),
         Some(&b"\x01\x00\x0f__stack_pointer"[..])
@@ -88,9 +88,23 @@ fn its_names() {
 }
 
 #[test]
+fn its_names_by_the_wider_edition() {
+    let name = |answer| bytes_of(&MODULE, answer);
+    assert_eq!(name(wide_function_name_in(&MODULE, 1)), Some(&b"add"[..]));
+    assert_eq!(
+        name(wide_global_name_in(&MODULE, 0)),
+        Some(&b"__stack_pointer"[..])
+    );
+    assert_eq!(wide_global_name_in(&MODULE, 1), NONE);
+    assert_eq!(wide_data_name_in(&MODULE, 0), NONE);
+    assert_eq!(wide_kept_in(&MODULE, 7), NONE);
+}
+
+#[test]
 fn its_names_are_canonical() {
     assert_eq!(rewritten(names_canonical, names()), Ok(names().to_vec()));
     assert!(names_is_canonical(names()));
+    assert!(wide_names_is_canonical(names()));
 }
 
 /// Cut at any length it is refused, except between sections.

@@ -4,6 +4,9 @@ mod asked;
 
 use std::ffi::{OsStr, OsString};
 
+use wakemiono::{First, Wider};
+
+use crate::edition::Edition;
 use crate::escape;
 use crate::input::STANDARD_STREAM;
 use crate::options::{self, Given, Takes};
@@ -20,6 +23,8 @@ pub enum Invocation {
     Run {
         /// The command.
         command: Command,
+        /// Whether names are asked in their wider edition.
+        wide: bool,
         /// Whether the answer is to be JSON.
         json: bool,
     },
@@ -90,20 +95,11 @@ impl Topic {
 
     fn takes(self) -> Takes {
         let (flags, valued): (&[_], &[_]) = match self {
-            Topic::Names => (&["--json"], &["--kind"]),
-            Topic::Name => (
-                &["--json", "--module"],
-                &[
-                    "--function",
-                    "--local",
-                    "--type",
-                    "--field",
-                    "--tag",
-                    "--kept",
-                ],
-            ),
-            Topic::Canon => (&["--json"], &["-o"]),
-            Topic::List | Topic::Hints | Topic::Same | Topic::Judge => (&["--json"], &[]),
+            Topic::Names => (&["--json", "--wide"], &["--kind"]),
+            Topic::Name => (&["--json", "--wide", "--module"], asked::OPTIONS),
+            Topic::Canon => (&["--json", "--wide"], &["-o"]),
+            Topic::Same | Topic::Judge => (&["--json", "--wide"], &[]),
+            Topic::List | Topic::Hints => (&["--json"], &[]),
         };
         Takes { flags, valued }
     }
@@ -157,17 +153,21 @@ fn no_command(wrong: &str) -> String {
 
 fn run(topic: Topic, words: &[OsString]) -> Result<Invocation, String> {
     let given = Given::sorted(words, topic.takes())?;
-    let json = given.has("--json");
+    let (wide, json) = (given.has("--wide"), given.has("--json"));
     let command = match topic {
         Topic::List => Command::List(one_file(&given)?),
-        Topic::Names => Command::Names(one_file(&given)?, kind(&given)?),
-        Topic::Name => Command::Name(one_file(&given)?, asked::question(&given)?),
+        Topic::Names => Command::Names(one_file(&given)?, kind(&given, wide)?),
+        Topic::Name => Command::Name(one_file(&given)?, asked::question(&given, wide)?),
         Topic::Hints => Command::Hints(one_file(&given)?),
         Topic::Canon => Command::Canon(one_file(&given)?, output(&given)?),
         Topic::Same => two_files(&given)?,
         Topic::Judge => Command::Judge(one_file(&given)?),
     };
-    Ok(Invocation::Run { command, json })
+    Ok(Invocation::Run {
+        command,
+        wide,
+        json,
+    })
 }
 
 fn one_file(given: &Given) -> Result<OsString, String> {
@@ -198,19 +198,42 @@ fn two_files(given: &Given) -> Result<Command, String> {
     }
 }
 
-fn kind(given: &Given) -> Result<Option<Kind>, String> {
+fn kind(given: &Given, wide: bool) -> Result<Option<Kind>, String> {
     let Some(word) = given.value("--kind") else {
         return Ok(None);
     };
     let found = Kind::ALL.into_iter().find(|kind| word == kind.word());
-    found.map(Some).ok_or_else(|| {
-        let words: Vec<_> = Kind::ALL.into_iter().map(Kind::word).collect();
-        format!(
+    match found {
+        Some(kind) if may_be_asked(kind, wide) => Ok(Some(kind)),
+        Some(_) => Err(add_wide(&format!("--kind {}", escape::word(word)))),
+        None => Err(format!(
             "there is no kind {}: give one of {}",
             escape::quoted(word),
-            words.join(", ")
-        )
-    })
+            words_of_kinds(wide).join(", ")
+        )),
+    }
+}
+
+/// Whether the edition that is asked has names of a kind.
+fn may_be_asked(kind: Kind, wide: bool) -> bool {
+    if wide {
+        Wider::has(kind)
+    } else {
+        First::has(kind)
+    }
+}
+
+/// The words of the kinds that may be asked, in the order in which they are explained.
+fn words_of_kinds(wide: bool) -> Vec<&'static str> {
+    let asked = Kind::ALL
+        .into_iter()
+        .filter(|kind| may_be_asked(*kind, wide));
+    asked.map(Kind::word).collect()
+}
+
+/// What to do about a question that only the wider edition has.
+fn add_wide(question: &str) -> String {
+    format!("{question} asks for names that only the wider edition has: add --wide")
 }
 
 fn output(given: &Given) -> Result<Option<OsString>, String> {

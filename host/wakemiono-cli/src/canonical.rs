@@ -5,9 +5,10 @@
 //! here: whatever does not fit is answered by none. What is learned here is never printed; it only
 //! says what to ask.
 
-use wakemiono::{CodeOffset, FieldIndex, FunctionIndex, LocalIndex, TagIndex, TypeIndex};
+use wakemiono::{CodeOffset, FunctionIndex};
 
-use crate::question::{subsection, Question};
+use crate::edition::Edition;
+use crate::question::{Kind, Question};
 
 /// The most bytes that a number takes.
 const LONGEST_NUMBER: u32 = 5;
@@ -24,20 +25,35 @@ const GOES_ON: u8 = 0x80;
 /// A question, and the answer as the canonical payload holds it.
 #[derive(Clone, Copy, Debug, PartialEq, Eq)]
 pub struct Entry<'a> {
+    /// The id of the subsection that it stands in.
+    subsection: u8,
     /// The question.
     pub question: Question,
     /// The bytes that the payload gives to it.
-    pub bytes: &'a [u8],
+    bytes: &'a [u8],
 }
 
-/// All entries of a canonical name payload in their order; none where it is not canonical.
-pub fn name_entries(payload: &[u8]) -> Option<Vec<Entry<'_>>> {
+impl Entry<'_> {
+    /// Its place in the order of payloads: the subsection's id, and then the indices.
+    pub fn order(&self) -> (u8, Vec<u32>) {
+        (self.subsection, self.question.indices())
+    }
+}
+
+/// All entries of a name payload that is canonical in an edition, in their order; none where it is
+/// not canonical.
+pub fn name_entries<E: Edition>(payload: &[u8]) -> Option<Vec<Entry<'_>>> {
     let mut entries = Vec::new();
     let mut reader = Reader(payload);
     while !reader.is_at_end() {
-        let id = reader.byte()?;
+        let subsection = reader.byte()?;
         let mut contents = Reader(reader.sized()?);
-        contents.subsection(id, &mut entries)?;
+        let held = contents.subsection(subsection, E::kind(subsection))?;
+        entries.extend(held.into_iter().map(|(question, bytes)| Entry {
+            subsection,
+            question,
+            bytes,
+        }));
     }
     Some(entries)
 }
@@ -55,6 +71,9 @@ pub fn hint_places(payload: &[u8]) -> Option<Vec<(FunctionIndex, CodeOffset)>> {
     }
     reader.is_at_end().then_some(places)
 }
+
+/// A question, and the bytes that a subsection gives to it.
+type Held<'a> = (Question, &'a [u8]);
 
 /// What is still to be read. Nothing is reserved by a count before its elements are there.
 struct Reader<'a>(&'a [u8]);
@@ -89,64 +108,52 @@ impl<'a> Reader<'a> {
         Some(part)
     }
 
-    fn subsection(&mut self, id: u8, entries: &mut Vec<Entry<'a>>) -> Option<()> {
-        match id {
-            subsection::MODULE => entries.push(Entry {
-                question: Question::Module,
-                bytes: self.sized()?,
-            }),
-            subsection::FUNCTIONS => {
-                self.map(entries, |index| Question::Function(FunctionIndex(index)))?
-            }
-            subsection::LOCALS => self.maps(entries, |function, local| {
-                Question::Local(FunctionIndex(function), LocalIndex(local))
-            })?,
-            subsection::TYPES => self.map(entries, |index| Question::Type(TypeIndex(index)))?,
-            subsection::FIELDS => self.maps(entries, |type_, field| {
-                Question::Field(TypeIndex(type_), FieldIndex(field))
-            })?,
-            subsection::TAGS => self.map(entries, |index| Question::Tag(TagIndex(index)))?,
-            kept => entries.push(Entry {
-                question: Question::Kept(kept),
-                bytes: std::mem::take(&mut self.0),
-            }),
-        }
-        self.is_at_end().then_some(())
+    /// All that the subsection with an id holds, which is of one kind.
+    fn subsection(&mut self, id: u8, kind: Kind) -> Option<Vec<Held<'a>>> {
+        let held = match kind {
+            Kind::Module => vec![(Question::Module, self.sized()?)],
+            Kind::Function => self.map(|index| Question::Function(index.into()))?,
+            Kind::Local => self.maps(|one, two| Question::Local(one.into(), two.into()))?,
+            Kind::Label => self.maps(|one, two| Question::Label(one.into(), two.into()))?,
+            Kind::Type => self.map(|index| Question::Type(index.into()))?,
+            Kind::Table => self.map(|index| Question::Table(index.into()))?,
+            Kind::Memory => self.map(|index| Question::Memory(index.into()))?,
+            Kind::Global => self.map(|index| Question::Global(index.into()))?,
+            Kind::Element => self.map(|index| Question::Element(index.into()))?,
+            Kind::Data => self.map(|index| Question::Data(index.into()))?,
+            Kind::Field => self.maps(|one, two| Question::Field(one.into(), two.into()))?,
+            Kind::Tag => self.map(|index| Question::Tag(index.into()))?,
+            Kind::Kept => vec![(Question::Kept(id), std::mem::take(&mut self.0))],
+        };
+        self.is_at_end().then_some(held)
     }
 
-    fn map(
-        &mut self,
-        entries: &mut Vec<Entry<'a>>,
-        question: impl Fn(u32) -> Question,
-    ) -> Option<()> {
+    fn map(&mut self, question: impl Fn(u32) -> Question) -> Option<Vec<Held<'a>>> {
+        let mut held = Vec::new();
         for _ in 0..self.number()? {
-            entries.push(Entry {
-                question: question(self.number()?),
-                bytes: self.sized()?,
-            });
+            held.push((question(self.number()?), self.sized()?));
         }
-        Some(())
+        Some(held)
     }
 
-    fn maps(
-        &mut self,
-        entries: &mut Vec<Entry<'a>>,
-        question: impl Fn(u32, u32) -> Question,
-    ) -> Option<()> {
+    fn maps(&mut self, question: impl Fn(u32, u32) -> Question) -> Option<Vec<Held<'a>>> {
+        let mut held = Vec::new();
         for _ in 0..self.number()? {
-            let primary = self.number()?;
-            self.map(entries, |index| question(primary, index))?;
+            let outer = self.number()?;
+            held.extend(self.map(|index| question(outer, index))?);
         }
-        Some(())
+        Some(held)
     }
 }
 
 #[cfg(test)]
 mod tests {
+    use wakemiono::{First, Wider};
+
     use super::*;
 
-    fn questions(payload: &[u8]) -> Vec<String> {
-        let entries = name_entries(payload).expect("this is canonical");
+    fn questions<E: Edition>(payload: &[u8]) -> Vec<String> {
+        let entries = name_entries::<E>(payload).expect("this is canonical");
         let question = |entry: &Entry<'_>| entry.question.to_string();
         entries.iter().map(question).collect()
     }
@@ -164,17 +171,38 @@ mod tests {
             "field 2 1",
             "tag 0",
         ];
-        assert_eq!(questions(payload), all);
-        assert_eq!(questions(b""), [""; 0]);
+        assert_eq!(questions::<First>(payload), all);
+        assert_eq!(questions::<First>(b""), [""; 0]);
     }
 
     #[test]
-    fn entries_rise_in_the_order_of_questions() {
+    fn what_only_the_wider_edition_knows_is_found() {
+        let payload = b"\x03\x06\x01\x03\x01\x02\x01l\x05\x04\x01\x01\x01t\x06\x04\x01\x00\x01m\
+            \x07\x07\x02\x03\x01g\x04\x01h\x08\x04\x01\x05\x01e\x09\x04\x01\x06\x01d\x0C\x01\xFF";
+        let all = [
+            "label 3 2",
+            "table 1",
+            "memory 0",
+            "global 3",
+            "global 4",
+            "element 5",
+            "data 6",
+            "kept 12",
+        ];
+        assert_eq!(questions::<Wider>(payload), all);
+        let kept = [
+            "kept 3", "kept 5", "kept 6", "kept 7", "kept 8", "kept 9", "kept 12",
+        ];
+        assert_eq!(questions::<First>(payload), kept);
+    }
+
+    #[test]
+    fn entries_rise_in_the_order_of_payloads() {
         let payload = b"\x00\x01\x00\x01\x05\x02\x00\x00\x07\x00\x02\x05\x01\x03\x01\x00\x00\
             \x03\x00\x04\x03\x01\x02\x00\x05\x00\x09\x00\x0A\x05\x01\x02\x01\x01\x00\
             \x0B\x03\x01\x00\x00\x0C\x00\xFF\x00";
-        let entries = name_entries(payload).expect("this is canonical");
-        let orders: Vec<_> = entries.iter().map(|entry| entry.question.order()).collect();
+        let entries = name_entries::<First>(payload).expect("this is canonical");
+        let orders: Vec<_> = entries.iter().map(Entry::order).collect();
         let subsections: Vec<u8> = orders.iter().map(|(subsection, _)| *subsection).collect();
         assert_eq!(subsections, [0, 1, 1, 2, 3, 4, 5, 9, 10, 11, 12, 255]);
         assert!(orders.windows(2).all(|pair| pair[0] < pair[1]));
@@ -191,8 +219,11 @@ mod tests {
             b"\x01\x06\x80\x80\x80\x80\x80\x00",
             b"\x01\x05\xFF\xFF\xFF\xFF\x0F",
         ] {
-            assert_eq!(name_entries(payload), None, "{payload:02X?}");
+            assert_eq!(name_entries::<First>(payload), None, "{payload:02X?}");
         }
+        let no_map_of_globals = b"\x07\x01\xFF";
+        assert_eq!(questions::<First>(no_map_of_globals), ["kept 7"]);
+        assert_eq!(name_entries::<Wider>(no_map_of_globals), None);
     }
 
     #[test]

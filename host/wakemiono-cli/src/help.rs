@@ -18,6 +18,10 @@ Usage: wakemiono COMMAND FILE [OPTIONS]
 FILE may be - for standard input. `wakemiono COMMAND --help` says more of one command; --version
 says the version.
 
+Names are asked in their first edition. With --wide the commands names, name, canon, same and judge
+ask the wider one, which also has the names of labels, tables, memories, globals, element segments
+and data segments.
+
 The exit status is 0 where there is an answer, even none; 1 for a refusal, or where two modules
 are not the same; 2 where the program cannot do what it is asked, and says why on standard error.
 
@@ -47,26 +51,34 @@ Example: wakemiono list app.wasm
 const NAMES: &str = "\
 Lists all names of a module.
 
-Usage: wakemiono names FILE [--kind KIND] [--json]
+Usage: wakemiono names FILE [--kind KIND] [--wide] [--json]
 
 Each line is `KIND INDICES OFFSET NAME`, in the order of the name section: no index for module; one
 for function, type, tag and kept; two for local (its function first) and field (its type first).
 The offset counts from the start of the module. What is not printable in a name is escaped.
 
+Where the first edition has kept 3 and 5 to 9, the wider one has names: label with two indices (its
+function first), and table, memory, global, element and data with one.
+
 Each name is one question to the whole module, so that the time grows with the square of their
 number: on two processors 20,000 names took 3 seconds, and 50,000 took 16. --kind asks for fewer,
 and `wakemiono name` for one.
 
-  --kind KIND   only the names of a kind: module, function, type, tag, local, field or kept
+  --kind KIND   only the names of a kind: module, function, type, tag, local, field or kept; with
+                --wide also table, memory, global, element, data or label
+  --wide        ask the wider edition of names
 
 Example: wakemiono names app.wasm --kind local
   local 3 0 35 x
+
+Example: wakemiono names app.wasm --kind global --wide
+  global 3 49 g
 ";
 
 const NAME: &str = "\
 Prints one name of a module, or none.
 
-Usage: wakemiono name FILE QUESTION [--json]
+Usage: wakemiono name FILE QUESTION [--wide] [--json]
 
   --module                  the module's name
   --function N              the name of function N
@@ -76,12 +88,24 @@ Usage: wakemiono name FILE QUESTION [--json]
   --tag N                   the name of tag N
   --kept ID                 the contents of the kept subsection ID of the name section
 
+With --wide, which asks the wider edition of names, also:
+
+  --function N --label M    the name of label M in function N
+  --table N                 the name of table N
+  --memory N                the name of memory N
+  --global N                the name of global N
+  --element N               the name of element segment N
+  --data N                  the name of data segment N
+
 Numbers are decimal, or hexadecimal behind 0x. What is not printable in a name is escaped; a name
 that is itself none is shown as \\u{6e}one, so that `none` always means that there is no name. With
 --json no name is null.
 
 Example: wakemiono name app.wasm --function 3 --local 0
   x
+
+Example: wakemiono name app.wasm --global 3 --wide
+  g
 ";
 
 const HINTS: &str = "\
@@ -99,13 +123,14 @@ Example: wakemiono hints app.wasm
 const CANON: &str = "\
 Rewrites the name payload of a module in its canonical form: the same names in the fewest bytes.
 
-Usage: wakemiono canon FILE [-o OUT] [--json]
+Usage: wakemiono canon FILE [-o OUT] [--wide] [--json]
 
 Without -o it prints how many bytes the payload has before and after, and what that saves; where the
 payload is canonical already, it says so. A module without a name section has
 an empty canonical payload.
 
   -o OUT   write the canonical payload to the file OUT, over what is there; - is standard output
+  --wide   rewrite in the wider edition of names; canonical forms of two editions are not comparable
 
 OUT is not FILE itself. It is replaced as a whole, and stays as it was where that fails.
 
@@ -119,11 +144,13 @@ const SAME: &str = "\
 Says whether the name payloads of two modules would share one entry: whether every question about
 names gets the same answer from both, which is whether their canonical payloads are equal.
 
-Usage: wakemiono same A B [--json]
+Usage: wakemiono same A B [--wide] [--json]
 
 Where they are not the same, it prints the first question that tells them apart and both answers,
 and the exit status is 1. A module without a name section gives none to every question. One of the
 files may be - for standard input.
+
+  --wide   compare within the wider edition of names, with its questions
 
 Example: wakemiono same old.wasm new.wasm
   not the same
@@ -135,13 +162,15 @@ Example: wakemiono same old.wasm new.wasm
 const JUDGE: &str = "\
 Judges a module, its name payload and its branch hints, and says whether these two are canonical.
 
-Usage: wakemiono judge FILE [--json]
+Usage: wakemiono judge FILE [--wide] [--json]
 
 Each of the lines `module`, `name` and `hints` says accepted, none where there is no such section,
 or refused: with the reason, the offset from the start of the module, and the bytes around it. An
 accepted payload is `canonical already` where it equals its canonical form, and `not canonical`
 otherwise. The payloads of a module that is itself refused are not asked. The exit status is 1 where
 anything is refused; what is not canonical is not refused.
+
+  --wide   judge names in the wider edition; what it accepts the first edition accepts too
 
 Example: wakemiono judge app.wasm
   module accepted

@@ -3,9 +3,11 @@
 use std::ffi::{OsStr, OsString};
 use std::fs::File;
 use std::io::{self, ErrorKind, Read};
+use std::marker::PhantomData;
 
-use wakemiono::{Module, Refusal};
+use wakemiono::{First, Module, Refusal};
 
+use crate::edition::Edition;
 use crate::escape;
 use crate::json::Json;
 use crate::refused::Refused;
@@ -14,16 +16,17 @@ use crate::report::Failure;
 /// The word for standard input, and behind `-o` for standard output.
 pub const STANDARD_STREAM: &str = "-";
 
-/// What was read, and the word for it on the command line.
+/// What was read, the word for it on the command line, and the edition in which names are asked.
 #[derive(Debug)]
-pub struct Input {
+pub struct Input<E: Edition = First> {
     file: OsString,
     bytes: Vec<u8>,
+    edition: PhantomData<E>,
 }
 
-impl Input {
+impl<E: Edition> Input<E> {
     /// Reads a file, or standard input for `-`.
-    pub fn read(file: &OsStr) -> Result<Input, Failure> {
+    pub fn read(file: &OsStr) -> Result<Input<E>, Failure> {
         let read = if file == STANDARD_STREAM {
             read_all(io::stdin().lock())
         } else {
@@ -33,14 +36,15 @@ impl Input {
             Ok(bytes) => Ok(Input {
                 file: file.to_owned(),
                 bytes,
+                edition: PhantomData,
             }),
             Err(error) => Err(Failure::Misuse(unreadable(&quoted_label(file), &error))),
         }
     }
 
     /// The module, unchecked: each question to it checks it.
-    pub fn module(&self) -> Module<'_> {
-        Module::new(&self.bytes)
+    pub fn module(&self) -> Module<'_, E> {
+        Module::in_edition(&self.bytes)
     }
 
     /// The bytes.
@@ -56,6 +60,11 @@ impl Input {
     /// What scripts know it by: the word as it was given.
     pub fn file(&self) -> Json {
         Json::text(self.file.to_string_lossy())
+    }
+
+    /// What JSON says first: the file, and the edition where that is said.
+    pub fn members(&self) -> Vec<(&'static str, Json)> {
+        [vec![("file", self.file())], E::members()].concat()
     }
 
     /// What an answer of the library to this input means for a command: a refusal ends it.

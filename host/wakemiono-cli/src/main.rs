@@ -13,6 +13,7 @@ mod arguments;
 mod canonical;
 mod commands;
 mod dump;
+mod edition;
 mod escape;
 mod help;
 mod input;
@@ -35,9 +36,11 @@ fn main() -> ExitCode {
     let report = match arguments::parse(env::args_os().skip(1)) {
         Ok(Invocation::Help(topic)) => Report::good(help::text(topic)),
         Ok(Invocation::Version) => Report::good(format!("wakemiono {}\n", version())),
-        Ok(Invocation::Run { command, json }) => {
-            commands::run(&command, json).unwrap_or_else(|failure| failure.report(json))
-        }
+        Ok(Invocation::Run {
+            command,
+            wide,
+            json,
+        }) => commands::run(&command, wide, json).unwrap_or_else(|failure| failure.report(json)),
         Err(misuse) => Report::misuse(&misuse),
     };
     report.deliver()

@@ -1,6 +1,6 @@
 //! The payloads of a module, judged by the library, and their canonical forms.
 
-use wakemiono::{CodeOffset, FunctionIndex, Hints, Module, NamePayload, Refusal};
+use wakemiono::{CodeOffset, Edition, FunctionIndex, Hints, Module, NamePayload, Refusal};
 
 use crate::report::Failure;
 
@@ -8,20 +8,22 @@ use crate::report::Failure;
 ///
 /// It is judged by a question through the module, so that the offset of a refusal counts from the
 /// start of the file that the person has, and not from the start of a payload in it.
-pub fn names(module: Module<'_>) -> Result<Option<NamePayload<'_>>, Refusal> {
+pub fn names<E: Edition>(module: Module<'_, E>) -> Result<Option<NamePayload<'_, E>>, Refusal> {
     module.module_name()?;
     module.names()
 }
 
 /// The payload of branch hints of a module, judged in the same way; none without the section.
-pub fn hints(module: Module<'_>) -> Result<Option<Hints<'_>>, Refusal> {
+pub fn hints<E: Edition>(module: Module<'_, E>) -> Result<Option<Hints<'_>>, Refusal> {
     module.hint(FunctionIndex(0), CodeOffset(0))?;
     module.hints()
 }
 
 /// The canonical form of an accepted payload. That of no section is empty, since both give none to
 /// every question.
-pub fn canonical_names(payload: Option<NamePayload<'_>>) -> Result<Vec<u8>, Failure> {
+pub fn canonical_names<E: Edition>(
+    payload: Option<NamePayload<'_, E>>,
+) -> Result<Vec<u8>, Failure> {
     let canonical = payload.map(|payload| payload.to_canonical()).transpose();
     // What is accepted is never refused its rewriting.
     canonical

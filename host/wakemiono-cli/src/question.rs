@@ -3,27 +3,13 @@
 use std::fmt;
 
 use wakemiono::{
-    offset_in, FieldIndex, FunctionIndex, LocalIndex, Module, Name, Refusal, TagIndex, TypeIndex,
+    offset_in, DataIndex, ElementIndex, FieldIndex, FunctionIndex, GlobalIndex, LabelIndex,
+    LocalIndex, MemoryIndex, Module, Name, Refusal, TableIndex, TagIndex, TypeIndex,
 };
 
+use crate::edition::Edition;
 use crate::escape;
 use crate::json::Json;
-
-/// The ids of the subsections with names; those with any other id are kept as they are.
-pub mod subsection {
-    /// The module's name.
-    pub const MODULE: u8 = 0;
-    /// The names of functions.
-    pub const FUNCTIONS: u8 = 1;
-    /// The names of locals.
-    pub const LOCALS: u8 = 2;
-    /// The names of types.
-    pub const TYPES: u8 = 4;
-    /// The names of fields.
-    pub const FIELDS: u8 = 10;
-    /// The names of tags.
-    pub const TAGS: u8 = 11;
-}
 
 /// What a name belongs to.
 #[derive(Clone, Copy, Debug, PartialEq, Eq)]
@@ -34,8 +20,20 @@ pub enum Kind {
     Function,
     /// A local of a function.
     Local,
+    /// A label of a function.
+    Label,
     /// A type.
     Type,
+    /// A table.
+    Table,
+    /// A memory.
+    Memory,
+    /// A global.
+    Global,
+    /// An element segment.
+    Element,
+    /// A data segment.
+    Data,
     /// A field of a type.
     Field,
     /// A tag.
@@ -46,12 +44,18 @@ pub enum Kind {
 
 impl Kind {
     /// Every kind, in the order in which they are explained.
-    pub const ALL: [Kind; 7] = [
+    pub const ALL: [Kind; 13] = [
         Kind::Module,
         Kind::Function,
         Kind::Type,
         Kind::Tag,
+        Kind::Table,
+        Kind::Memory,
+        Kind::Global,
+        Kind::Element,
+        Kind::Data,
         Kind::Local,
+        Kind::Label,
         Kind::Field,
         Kind::Kept,
     ];
@@ -62,7 +66,13 @@ impl Kind {
             Kind::Module => "module",
             Kind::Function => "function",
             Kind::Local => "local",
+            Kind::Label => "label",
             Kind::Type => "type",
+            Kind::Table => "table",
+            Kind::Memory => "memory",
+            Kind::Global => "global",
+            Kind::Element => "element",
+            Kind::Data => "data",
             Kind::Field => "field",
             Kind::Tag => "tag",
             Kind::Kept => "kept",
@@ -79,8 +89,20 @@ pub enum Question {
     Function(FunctionIndex),
     /// The name of a local in a function.
     Local(FunctionIndex, LocalIndex),
+    /// The name of a label in a function.
+    Label(FunctionIndex, LabelIndex),
     /// A type's name.
     Type(TypeIndex),
+    /// A table's name.
+    Table(TableIndex),
+    /// A memory's name.
+    Memory(MemoryIndex),
+    /// A global's name.
+    Global(GlobalIndex),
+    /// An element segment's name.
+    Element(ElementIndex),
+    /// A data segment's name.
+    Data(DataIndex),
     /// The name of a field in a type.
     Field(TypeIndex, FieldIndex),
     /// A tag's name.
@@ -90,17 +112,12 @@ pub enum Question {
 }
 
 impl Question {
-    /// Puts the question to the library, through the module.
-    pub fn ask<'a>(&self, module: Module<'a>) -> Result<Option<Answer<'a>>, Refusal> {
-        let name = match *self {
-            Question::Module => module.module_name()?,
-            Question::Function(function) => module.function_name(function)?,
-            Question::Local(function, local) => module.local_name(function, local)?,
-            Question::Type(type_) => module.type_name(type_)?,
-            Question::Field(type_, field) => module.field_name(type_, field)?,
-            Question::Tag(tag) => module.tag_name(tag)?,
-            Question::Kept(id) => module.kept(id)?.map(Name::from),
-        };
+    /// Puts the question to the library, through the module and in its edition.
+    pub fn ask<'a, E: Edition>(
+        &self,
+        module: Module<'a, E>,
+    ) -> Result<Option<Answer<'a>>, Refusal> {
+        let name = E::ask(*self, module)?;
         Ok(name.map(|name| Answer {
             lent: module.as_bytes(),
             found: name,
@@ -114,7 +131,13 @@ impl Question {
             Question::Module => Kind::Module,
             Question::Function(_) => Kind::Function,
             Question::Local(..) => Kind::Local,
+            Question::Label(..) => Kind::Label,
             Question::Type(_) => Kind::Type,
+            Question::Table(_) => Kind::Table,
+            Question::Memory(_) => Kind::Memory,
+            Question::Global(_) => Kind::Global,
+            Question::Element(_) => Kind::Element,
+            Question::Data(_) => Kind::Data,
             Question::Field(..) => Kind::Field,
             Question::Tag(_) => Kind::Tag,
             Question::Kept(_) => Kind::Kept,
@@ -127,25 +150,17 @@ impl Question {
             Question::Module => vec![],
             Question::Function(function) => vec![function.0],
             Question::Local(function, local) => vec![function.0, local.0],
+            Question::Label(function, label) => vec![function.0, label.0],
             Question::Type(type_) => vec![type_.0],
+            Question::Table(table) => vec![table.0],
+            Question::Memory(memory) => vec![memory.0],
+            Question::Global(global) => vec![global.0],
+            Question::Element(element) => vec![element.0],
+            Question::Data(data) => vec![data.0],
             Question::Field(type_, field) => vec![type_.0, field.0],
             Question::Tag(tag) => vec![tag.0],
             Question::Kept(id) => vec![id.into()],
         }
-    }
-
-    /// Its place in the order of payloads: the subsection's id, and then the indices.
-    pub fn order(&self) -> (u8, Vec<u32>) {
-        let subsection = match *self {
-            Question::Module => subsection::MODULE,
-            Question::Function(_) => subsection::FUNCTIONS,
-            Question::Local(..) => subsection::LOCALS,
-            Question::Type(_) => subsection::TYPES,
-            Question::Field(..) => subsection::FIELDS,
-            Question::Tag(_) => subsection::TAGS,
-            Question::Kept(id) => id,
-        };
-        (subsection, self.indices())
     }
 
     /// Its kind and indices, as the first members of a JSON object.

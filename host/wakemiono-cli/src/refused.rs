@@ -3,6 +3,7 @@
 use wakemiono::Refusal;
 
 use crate::dump;
+use crate::edition::Edition;
 use crate::input::Input;
 use crate::json::Json;
 
@@ -10,7 +11,7 @@ use crate::json::Json;
 #[derive(Debug)]
 pub struct Refused {
     label: String,
-    file: Json,
+    input: Vec<(&'static str, Json)>,
     refusal: Refusal,
     rows: Vec<String>,
     bytes_from: usize,
@@ -19,11 +20,11 @@ pub struct Refused {
 
 impl Refused {
     /// The refusal of an input. Its offset counts from the start of the whole module.
-    pub fn new(input: &Input, refusal: Refusal) -> Refused {
+    pub fn new<E: Edition>(input: &Input<E>, refusal: Refusal) -> Refused {
         let around = dump::around(input.bytes(), refusal.offset()).unwrap_or_default();
         Refused {
             label: input.label(),
-            file: input.file(),
+            input: input.members(),
             refusal,
             rows: dump::rows(input.bytes(), refusal.offset()),
             bytes_from: around.start,
@@ -62,7 +63,8 @@ impl Refused {
 
     /// A whole JSON document.
     pub fn document(&self) -> Json {
-        Json::Object(vec![("file", self.file.clone()), ("refusal", self.json())])
+        let refusal = vec![("refusal", self.json())];
+        Json::Object([self.input.clone(), refusal].concat())
     }
 
     /// The refusal in JSON.

@@ -4,7 +4,7 @@ mod common;
 
 use std::fs;
 
-use common::{path, program, BARE, COMMANDS, MODULE, NO_SUCH_SECTION};
+use common::{path, program, BARE, COMMANDS, MODULE, NO_SUCH_SECTION, WIDE};
 
 const README: &str = include_str!("../README.md");
 
@@ -20,6 +20,7 @@ fn examples_print_what_they_say() {
     fs::create_dir_all(&folder).unwrap();
     for (name, module) in [
         ("app.wasm", MODULE),
+        ("wide.wasm", WIDE),
         ("bare.wasm", BARE),
         ("later.wasm", NO_SUCH_SECTION),
     ] {

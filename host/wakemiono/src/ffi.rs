@@ -10,12 +10,14 @@
 //!   them. A call stores into the output and nowhere else, and stores bytes, of which any is a
 //!   `u8`.
 
-use crate::FunctionIndex;
+use crate::{First, FunctionIndex, Wider};
 
 /// The answer of every call but those to a yes or no, by value: `wm_answer` of the header.
+///
+/// It is `pub` for the sake of [`NameCalls`], and cannot be named outside this crate.
 #[repr(C)]
 #[derive(Clone, Copy, Debug, PartialEq, Eq)]
-pub(crate) struct Answer {
+pub struct Answer {
     pub(crate) kind: u32,
     pub(crate) code: u32,
     pub(crate) offset: u64,
@@ -97,6 +99,69 @@ extern "C" {
         out: *mut u8,
         out_len: usize,
     ) -> Answer;
+
+    fn wm_wide_names_judge(payload: *const u8, payload_len: usize) -> Answer;
+    fn wm_wide_module_name(payload: *const u8, payload_len: usize) -> Answer;
+    fn wm_wide_function_name(payload: *const u8, payload_len: usize, function: u32) -> Answer;
+    fn wm_wide_local_name(
+        payload: *const u8,
+        payload_len: usize,
+        function: u32,
+        local: u32,
+    ) -> Answer;
+    fn wm_wide_label_name(
+        payload: *const u8,
+        payload_len: usize,
+        function: u32,
+        label: u32,
+    ) -> Answer;
+    fn wm_wide_type_name(payload: *const u8, payload_len: usize, type_: u32) -> Answer;
+    fn wm_wide_table_name(payload: *const u8, payload_len: usize, table: u32) -> Answer;
+    fn wm_wide_memory_name(payload: *const u8, payload_len: usize, memory: u32) -> Answer;
+    fn wm_wide_global_name(payload: *const u8, payload_len: usize, global: u32) -> Answer;
+    fn wm_wide_element_name(payload: *const u8, payload_len: usize, element: u32) -> Answer;
+    fn wm_wide_data_name(payload: *const u8, payload_len: usize, data: u32) -> Answer;
+    fn wm_wide_field_name(payload: *const u8, payload_len: usize, type_: u32, field: u32)
+        -> Answer;
+    fn wm_wide_tag_name(payload: *const u8, payload_len: usize, tag: u32) -> Answer;
+    fn wm_wide_kept(payload: *const u8, payload_len: usize, id: u8) -> Answer;
+
+    fn wm_wide_module_name_in(module: *const u8, module_len: usize) -> Answer;
+    fn wm_wide_function_name_in(module: *const u8, module_len: usize, function: u32) -> Answer;
+    fn wm_wide_local_name_in(
+        module: *const u8,
+        module_len: usize,
+        function: u32,
+        local: u32,
+    ) -> Answer;
+    fn wm_wide_label_name_in(
+        module: *const u8,
+        module_len: usize,
+        function: u32,
+        label: u32,
+    ) -> Answer;
+    fn wm_wide_type_name_in(module: *const u8, module_len: usize, type_: u32) -> Answer;
+    fn wm_wide_table_name_in(module: *const u8, module_len: usize, table: u32) -> Answer;
+    fn wm_wide_memory_name_in(module: *const u8, module_len: usize, memory: u32) -> Answer;
+    fn wm_wide_global_name_in(module: *const u8, module_len: usize, global: u32) -> Answer;
+    fn wm_wide_element_name_in(module: *const u8, module_len: usize, element: u32) -> Answer;
+    fn wm_wide_data_name_in(module: *const u8, module_len: usize, data: u32) -> Answer;
+    fn wm_wide_field_name_in(
+        module: *const u8,
+        module_len: usize,
+        type_: u32,
+        field: u32,
+    ) -> Answer;
+    fn wm_wide_tag_name_in(module: *const u8, module_len: usize, tag: u32) -> Answer;
+    fn wm_wide_kept_in(module: *const u8, module_len: usize, id: u8) -> Answer;
+
+    fn wm_wide_names_canonical(
+        payload: *const u8,
+        payload_len: usize,
+        out: *mut u8,
+        out_len: usize,
+    ) -> Answer;
+    fn wm_wide_names_is_canonical(payload: *const u8, payload_len: usize) -> u32;
 }
 
 pub(crate) fn walk(module: &[u8]) -> Answer {
@@ -113,81 +178,6 @@ pub(crate) fn custom(module: &[u8], name: &[u8]) -> Answer {
     // SAFETY: pointers and lengths of two live slices, both lent; being only read, they may
     // overlap.
     unsafe { wm_custom(module.as_ptr(), module.len(), name.as_ptr(), name.len()) }
-}
-
-pub(crate) fn names_judge(payload: &[u8]) -> Answer {
-    // SAFETY: pointer and length of one live slice, lent.
-    unsafe { wm_names_judge(payload.as_ptr(), payload.len()) }
-}
-
-pub(crate) fn module_name(payload: &[u8]) -> Answer {
-    // SAFETY: pointer and length of one live slice, lent.
-    unsafe { wm_module_name(payload.as_ptr(), payload.len()) }
-}
-
-pub(crate) fn function_name(payload: &[u8], function: u32) -> Answer {
-    // SAFETY: pointer and length of one live slice, lent; any index may be asked.
-    unsafe { wm_function_name(payload.as_ptr(), payload.len(), function) }
-}
-
-pub(crate) fn type_name(payload: &[u8], type_: u32) -> Answer {
-    // SAFETY: pointer and length of one live slice, lent; any index may be asked.
-    unsafe { wm_type_name(payload.as_ptr(), payload.len(), type_) }
-}
-
-pub(crate) fn tag_name(payload: &[u8], tag: u32) -> Answer {
-    // SAFETY: pointer and length of one live slice, lent; any index may be asked.
-    unsafe { wm_tag_name(payload.as_ptr(), payload.len(), tag) }
-}
-
-pub(crate) fn local_name(payload: &[u8], function: u32, local: u32) -> Answer {
-    // SAFETY: pointer and length of one live slice, lent; any indices may be asked.
-    unsafe { wm_local_name(payload.as_ptr(), payload.len(), function, local) }
-}
-
-pub(crate) fn field_name(payload: &[u8], type_: u32, field: u32) -> Answer {
-    // SAFETY: pointer and length of one live slice, lent; any indices may be asked.
-    unsafe { wm_field_name(payload.as_ptr(), payload.len(), type_, field) }
-}
-
-pub(crate) fn kept(payload: &[u8], id: u8) -> Answer {
-    // SAFETY: pointer and length of one live slice, lent; any id may be asked.
-    unsafe { wm_kept(payload.as_ptr(), payload.len(), id) }
-}
-
-pub(crate) fn module_name_in(module: &[u8]) -> Answer {
-    // SAFETY: pointer and length of one live slice, lent.
-    unsafe { wm_module_name_in(module.as_ptr(), module.len()) }
-}
-
-pub(crate) fn function_name_in(module: &[u8], function: u32) -> Answer {
-    // SAFETY: pointer and length of one live slice, lent; any index may be asked.
-    unsafe { wm_function_name_in(module.as_ptr(), module.len(), function) }
-}
-
-pub(crate) fn type_name_in(module: &[u8], type_: u32) -> Answer {
-    // SAFETY: pointer and length of one live slice, lent; any index may be asked.
-    unsafe { wm_type_name_in(module.as_ptr(), module.len(), type_) }
-}
-
-pub(crate) fn tag_name_in(module: &[u8], tag: u32) -> Answer {
-    // SAFETY: pointer and length of one live slice, lent; any index may be asked.
-    unsafe { wm_tag_name_in(module.as_ptr(), module.len(), tag) }
-}
-
-pub(crate) fn local_name_in(module: &[u8], function: u32, local: u32) -> Answer {
-    // SAFETY: pointer and length of one live slice, lent; any indices may be asked.
-    unsafe { wm_local_name_in(module.as_ptr(), module.len(), function, local) }
-}
-
-pub(crate) fn field_name_in(module: &[u8], type_: u32, field: u32) -> Answer {
-    // SAFETY: pointer and length of one live slice, lent; any indices may be asked.
-    unsafe { wm_field_name_in(module.as_ptr(), module.len(), type_, field) }
-}
-
-pub(crate) fn kept_in(module: &[u8], id: u8) -> Answer {
-    // SAFETY: pointer and length of one live slice, lent; any id may be asked.
-    unsafe { wm_kept_in(module.as_ptr(), module.len(), id) }
 }
 
 pub(crate) fn metadata_judge(payload: &[u8]) -> Answer {
@@ -230,11 +220,6 @@ pub(crate) fn hint_in(module: &[u8], function: u32, offset: u32) -> Answer {
     unsafe { wm_hint_in(module.as_ptr(), module.len(), function, offset) }
 }
 
-pub(crate) fn names_canonical(payload: &[u8], out: &mut [u8]) -> Answer {
-    // SAFETY: pointers and lengths of one live slice, lent, and of one `&mut` slice, the output.
-    unsafe { wm_names_canonical(payload.as_ptr(), payload.len(), out.as_mut_ptr(), out.len()) }
-}
-
 pub(crate) fn metadata_canonical(payload: &[u8], out: &mut [u8]) -> Answer {
     // SAFETY: pointers and lengths of one live slice, lent, and of one `&mut` slice, the output.
     unsafe { wm_metadata_canonical(payload.as_ptr(), payload.len(), out.as_mut_ptr(), out.len()) }
@@ -243,11 +228,6 @@ pub(crate) fn metadata_canonical(payload: &[u8], out: &mut [u8]) -> Answer {
 pub(crate) fn hints_canonical(payload: &[u8], out: &mut [u8]) -> Answer {
     // SAFETY: pointers and lengths of one live slice, lent, and of one `&mut` slice, the output.
     unsafe { wm_hints_canonical(payload.as_ptr(), payload.len(), out.as_mut_ptr(), out.len()) }
-}
-
-pub(crate) fn names_is_canonical(payload: &[u8]) -> u32 {
-    // SAFETY: pointer and length of one live slice, lent.
-    unsafe { wm_names_is_canonical(payload.as_ptr(), payload.len()) }
 }
 
 pub(crate) fn metadata_is_canonical(payload: &[u8]) -> u32 {
@@ -280,6 +260,122 @@ pub(crate) fn function_names_write(
             out.as_mut_ptr(),
             out.len(),
         )
+    }
+}
+
+/// The calls on names that every edition has, so that what is asked in both is written once.
+///
+/// It is `pub` for the sake of [`Edition`](crate::Edition), and cannot be named outside this crate,
+/// so that there are no other editions.
+pub trait NameCalls {
+    fn judge(payload: &[u8]) -> Answer;
+    fn module_name(payload: &[u8]) -> Answer;
+    fn function_name(payload: &[u8], function: u32) -> Answer;
+    fn type_name(payload: &[u8], type_: u32) -> Answer;
+    fn tag_name(payload: &[u8], tag: u32) -> Answer;
+    fn local_name(payload: &[u8], function: u32, local: u32) -> Answer;
+    fn field_name(payload: &[u8], type_: u32, field: u32) -> Answer;
+    fn kept(payload: &[u8], id: u8) -> Answer;
+
+    fn module_name_in(module: &[u8]) -> Answer;
+    fn function_name_in(module: &[u8], function: u32) -> Answer;
+    fn type_name_in(module: &[u8], type_: u32) -> Answer;
+    fn tag_name_in(module: &[u8], tag: u32) -> Answer;
+    fn local_name_in(module: &[u8], function: u32, local: u32) -> Answer;
+    fn field_name_in(module: &[u8], type_: u32, field: u32) -> Answer;
+    fn kept_in(module: &[u8], id: u8) -> Answer;
+
+    fn canonical(payload: &[u8], out: &mut [u8]) -> Answer;
+    fn is_canonical(payload: &[u8]) -> u32;
+}
+
+/// Safe functions, each with the C call that it makes: one that is lent a slice and told numbers.
+macro_rules! asking {
+    ($($vis:vis fn $name:ident($($number:ident: $type:ty),*) -> $answer:ty = $call:ident;)*) => {$(
+        $vis fn $name(lent: &[u8], $($number: $type),*) -> $answer {
+            // SAFETY: pointer and length of one live slice, lent; any index and any id may be
+            // asked.
+            unsafe { $call(lent.as_ptr(), lent.len(), $($number),*) }
+        }
+    )*};
+}
+
+impl NameCalls for First {
+    asking! {
+        fn judge() -> Answer = wm_names_judge;
+        fn module_name() -> Answer = wm_module_name;
+        fn function_name(function: u32) -> Answer = wm_function_name;
+        fn type_name(type_: u32) -> Answer = wm_type_name;
+        fn tag_name(tag: u32) -> Answer = wm_tag_name;
+        fn local_name(function: u32, local: u32) -> Answer = wm_local_name;
+        fn field_name(type_: u32, field: u32) -> Answer = wm_field_name;
+        fn kept(id: u8) -> Answer = wm_kept;
+
+        fn module_name_in() -> Answer = wm_module_name_in;
+        fn function_name_in(function: u32) -> Answer = wm_function_name_in;
+        fn type_name_in(type_: u32) -> Answer = wm_type_name_in;
+        fn tag_name_in(tag: u32) -> Answer = wm_tag_name_in;
+        fn local_name_in(function: u32, local: u32) -> Answer = wm_local_name_in;
+        fn field_name_in(type_: u32, field: u32) -> Answer = wm_field_name_in;
+        fn kept_in(id: u8) -> Answer = wm_kept_in;
+
+        fn is_canonical() -> u32 = wm_names_is_canonical;
+    }
+
+    fn canonical(payload: &[u8], out: &mut [u8]) -> Answer {
+        // SAFETY: pointers and lengths of one live slice, lent, and of one `&mut` slice, the
+        // output.
+        unsafe { wm_names_canonical(payload.as_ptr(), payload.len(), out.as_mut_ptr(), out.len()) }
+    }
+}
+
+impl NameCalls for Wider {
+    asking! {
+        fn judge() -> Answer = wm_wide_names_judge;
+        fn module_name() -> Answer = wm_wide_module_name;
+        fn function_name(function: u32) -> Answer = wm_wide_function_name;
+        fn type_name(type_: u32) -> Answer = wm_wide_type_name;
+        fn tag_name(tag: u32) -> Answer = wm_wide_tag_name;
+        fn local_name(function: u32, local: u32) -> Answer = wm_wide_local_name;
+        fn field_name(type_: u32, field: u32) -> Answer = wm_wide_field_name;
+        fn kept(id: u8) -> Answer = wm_wide_kept;
+
+        fn module_name_in() -> Answer = wm_wide_module_name_in;
+        fn function_name_in(function: u32) -> Answer = wm_wide_function_name_in;
+        fn type_name_in(type_: u32) -> Answer = wm_wide_type_name_in;
+        fn tag_name_in(tag: u32) -> Answer = wm_wide_tag_name_in;
+        fn local_name_in(function: u32, local: u32) -> Answer = wm_wide_local_name_in;
+        fn field_name_in(type_: u32, field: u32) -> Answer = wm_wide_field_name_in;
+        fn kept_in(id: u8) -> Answer = wm_wide_kept_in;
+
+        fn is_canonical() -> u32 = wm_wide_names_is_canonical;
+    }
+
+    fn canonical(payload: &[u8], out: &mut [u8]) -> Answer {
+        // SAFETY: pointers and lengths of one live slice, lent, and of one `&mut` slice, the
+        // output.
+        unsafe {
+            wm_wide_names_canonical(payload.as_ptr(), payload.len(), out.as_mut_ptr(), out.len())
+        }
+    }
+}
+
+/// The calls that only the wider edition has.
+impl Wider {
+    asking! {
+        pub(crate) fn label_name(function: u32, label: u32) -> Answer = wm_wide_label_name;
+        pub(crate) fn table_name(table: u32) -> Answer = wm_wide_table_name;
+        pub(crate) fn memory_name(memory: u32) -> Answer = wm_wide_memory_name;
+        pub(crate) fn global_name(global: u32) -> Answer = wm_wide_global_name;
+        pub(crate) fn element_name(element: u32) -> Answer = wm_wide_element_name;
+        pub(crate) fn data_name(data: u32) -> Answer = wm_wide_data_name;
+
+        pub(crate) fn label_name_in(function: u32, label: u32) -> Answer = wm_wide_label_name_in;
+        pub(crate) fn table_name_in(table: u32) -> Answer = wm_wide_table_name_in;
+        pub(crate) fn memory_name_in(memory: u32) -> Answer = wm_wide_memory_name_in;
+        pub(crate) fn global_name_in(global: u32) -> Answer = wm_wide_global_name_in;
+        pub(crate) fn element_name_in(element: u32) -> Answer = wm_wide_element_name_in;
+        pub(crate) fn data_name_in(data: u32) -> Answer = wm_wide_data_name_in;
     }
 }
 

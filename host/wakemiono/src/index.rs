@@ -55,6 +55,17 @@ number! {
 }
 
 number! {
+    /// Which label of a function, counted from 0.
+    ///
+    /// ```
+    /// use wakemiono::LabelIndex;
+    ///
+    /// assert_eq!(LabelIndex::from(2).0, 2);
+    /// ```
+    LabelIndex
+}
+
+number! {
     /// Which type of a module, counted from 0.
     ///
     /// ```
@@ -74,6 +85,61 @@ number! {
     /// assert_eq!(FieldIndex(1), FieldIndex::from(1));
     /// ```
     FieldIndex
+}
+
+number! {
+    /// Which table of a module, counted from 0 with its imported tables first.
+    ///
+    /// ```
+    /// use wakemiono::TableIndex;
+    ///
+    /// assert_eq!(TableIndex(1).to_string(), "1");
+    /// ```
+    TableIndex
+}
+
+number! {
+    /// Which memory of a module, counted from 0 with its imported memories first.
+    ///
+    /// ```
+    /// use wakemiono::MemoryIndex;
+    ///
+    /// assert_eq!(MemoryIndex::from(0), MemoryIndex(0));
+    /// ```
+    MemoryIndex
+}
+
+number! {
+    /// Which global of a module, counted from 0 with its imported globals first.
+    ///
+    /// ```
+    /// use wakemiono::GlobalIndex;
+    ///
+    /// assert!(GlobalIndex(2) < GlobalIndex(3));
+    /// ```
+    GlobalIndex
+}
+
+number! {
+    /// Which element segment of a module, counted from 0.
+    ///
+    /// ```
+    /// use wakemiono::ElementIndex;
+    ///
+    /// assert_eq!(format!("{:?}", ElementIndex(4)), "ElementIndex(4)");
+    /// ```
+    ElementIndex
+}
+
+number! {
+    /// Which data segment of a module, counted from 0.
+    ///
+    /// ```
+    /// use wakemiono::DataIndex;
+    ///
+    /// assert_eq!(format!("{:>3}", DataIndex(5)), "  5");
+    /// ```
+    DataIndex
 }
 
 number! {

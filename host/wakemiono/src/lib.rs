@@ -17,6 +17,10 @@
 //! and [`Hints`], and function names are written by [`function_names`]. Only the steps of
 //! [`Sections`] over a module that the library has accepted are taken here.
 //!
+//! Names are asked in one of two editions. [`Module::new`] and [`NamePayload::new`] open the
+//! [`First`]; [`Module::wider`] and [`NamePayload::wider`] open the [`Wider`], which also has the
+//! names of labels, tables, memories, globals, element segments and data segments.
+//!
 //! - Any bytes may be lent. No call asks a prior check, and bad input gets a [`Refusal`] that says
 //!   what is wrong and where.
 //! - What is found is borrowed from the very bytes that were lent; [`offset_in`] says where it
@@ -31,6 +35,7 @@
 #![deny(missing_docs)]
 
 mod answer;
+mod edition;
 #[allow(unsafe_code)]
 mod ffi;
 mod index;
@@ -40,8 +45,13 @@ mod module;
 mod name;
 mod name_payload;
 mod refusal;
+mod wider;
 
-pub use index::{CodeOffset, FieldIndex, FunctionIndex, LocalIndex, TagIndex, TypeIndex};
+pub use edition::{Edition, First, Wider};
+pub use index::{
+    CodeOffset, DataIndex, ElementIndex, FieldIndex, FunctionIndex, GlobalIndex, LabelIndex,
+    LocalIndex, MemoryIndex, TableIndex, TagIndex, TypeIndex,
+};
 pub use lists::{function_names, function_names_into};
 pub use metadata::{Hint, Hints, Metadata};
 pub use module::{Module, Section, Sections};

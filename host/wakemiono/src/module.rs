@@ -2,10 +2,11 @@
 
 use std::fmt;
 use std::iter::FusedIterator;
+use std::marker::PhantomData;
 
 use crate::{
-    ffi, CodeOffset, FieldIndex, FunctionIndex, Hint, Hints, LocalIndex, Name, NamePayload,
-    Refusal, TagIndex, TypeIndex,
+    ffi, CodeOffset, Edition, FieldIndex, First, FunctionIndex, Hint, Hints, LocalIndex, Name,
+    NamePayload, Refusal, TagIndex, TypeIndex,
 };
 
 /// A section, as the walk finds it.
@@ -27,7 +28,8 @@ pub struct Section {
     pub length: u64,
 }
 
-/// A whole module, borrowed from the caller.
+/// A whole module, borrowed from the caller, whose names are asked in an [`Edition`]: the first one
+/// where the type names none.
 ///
 /// Any bytes may be lent, and nothing is checked beforehand: each call walks over all sections
 /// first, and refuses a module that is damaged anywhere, whatever is asked. A payload is judged
@@ -44,10 +46,11 @@ pub struct Section {
 /// # Ok::<(), wakemiono::Refusal>(())
 /// ```
 #[derive(Clone, Copy)]
-pub struct Module<'a>(&'a [u8]);
+pub struct Module<'a, E: Edition = First>(&'a [u8], PhantomData<E>);
 
 impl<'a> Module<'a> {
-    /// Takes any bytes, and checks nothing.
+    /// Takes any bytes, for names in the first edition, and checks nothing. The wider edition is
+    /// opened by [`wider`](Module::wider).
     ///
     /// ```
     /// use wakemiono::Module;
@@ -56,7 +59,26 @@ impl<'a> Module<'a> {
     /// ```
     #[must_use]
     pub const fn new(module: &'a [u8]) -> Module<'a> {
-        Module(module)
+        Module::in_edition(module)
+    }
+}
+
+impl<'a, E: Edition> Module<'a, E> {
+    /// Takes any bytes, for names in the edition that the type names, and checks nothing. It is for
+    /// code that is written for both editions.
+    ///
+    /// ```
+    /// use wakemiono::{Edition, Module, Wider};
+    ///
+    /// fn accepts_names<E: Edition>(bytes: &[u8]) -> bool {
+    ///     Module::<E>::in_edition(bytes).module_name().is_ok()
+    /// }
+    ///
+    /// assert!(accepts_names::<Wider>(b"\0asm\x01\0\0\0\x00\x08\x04name\x07\x01\x00"));
+    /// ```
+    #[must_use]
+    pub const fn in_edition(module: &'a [u8]) -> Module<'a, E> {
+        Module(module, PhantomData)
     }
 
     /// The bytes that were lent.
@@ -147,7 +169,8 @@ impl<'a> Module<'a> {
         ffi::custom(self.0, name.as_ref()).part(self.0)
     }
 
-    /// The payload of the `name` section, not judged yet. Its offsets count from its own start.
+    /// The payload of the `name` section in the same edition, not judged yet. Its offsets count
+    /// from its own start.
     ///
     /// ```
     /// use wakemiono::{FunctionIndex, Module};
@@ -161,8 +184,8 @@ impl<'a> Module<'a> {
     /// # Errors
     ///
     /// As [`section_count`](Self::section_count).
-    pub fn names(&self) -> Result<Option<NamePayload<'a>>, Refusal> {
-        Ok(self.custom("name")?.map(NamePayload::new))
+    pub fn names(&self) -> Result<Option<NamePayload<'a, E>>, Refusal> {
+        Ok(self.custom("name")?.map(NamePayload::in_edition))
     }
 
     /// The payload of the section `metadata.code.branch_hint`, not judged yet. Its offsets count
@@ -198,7 +221,7 @@ impl<'a> Module<'a> {
     /// As [`section_count`](Self::section_count), and then the first fault of the name payload; all
     /// offsets count from the module's start.
     pub fn module_name(&self) -> Result<Option<Name<'a>>, Refusal> {
-        self.name(ffi::module_name_in(self.0))
+        self.name(E::module_name_in(self.0))
     }
 
     /// A function's name; none also without a `name` section.
@@ -216,7 +239,7 @@ impl<'a> Module<'a> {
     ///
     /// As [`module_name`](Self::module_name).
     pub fn function_name(&self, function: FunctionIndex) -> Result<Option<Name<'a>>, Refusal> {
-        self.name(ffi::function_name_in(self.0, function.0))
+        self.name(E::function_name_in(self.0, function.0))
     }
 
     /// A type's name; none also without a `name` section.
@@ -233,7 +256,7 @@ impl<'a> Module<'a> {
     ///
     /// As [`module_name`](Self::module_name).
     pub fn type_name(&self, type_: TypeIndex) -> Result<Option<Name<'a>>, Refusal> {
-        self.name(ffi::type_name_in(self.0, type_.0))
+        self.name(E::type_name_in(self.0, type_.0))
     }
 
     /// A tag's name; none also without a `name` section.
@@ -250,7 +273,7 @@ impl<'a> Module<'a> {
     ///
     /// As [`module_name`](Self::module_name).
     pub fn tag_name(&self, tag: TagIndex) -> Result<Option<Name<'a>>, Refusal> {
-        self.name(ffi::tag_name_in(self.0, tag.0))
+        self.name(E::tag_name_in(self.0, tag.0))
     }
 
     /// The name of a local in a function; none also without a `name` section.
@@ -272,7 +295,7 @@ impl<'a> Module<'a> {
         function: FunctionIndex,
         local: LocalIndex,
     ) -> Result<Option<Name<'a>>, Refusal> {
-        self.name(ffi::local_name_in(self.0, function.0, local.0))
+        self.name(E::local_name_in(self.0, function.0, local.0))
     }
 
     /// The name of a field in a type; none also without a `name` section.
@@ -294,11 +317,11 @@ impl<'a> Module<'a> {
         type_: TypeIndex,
         field: FieldIndex,
     ) -> Result<Option<Name<'a>>, Refusal> {
-        self.name(ffi::field_name_in(self.0, type_.0, field.0))
+        self.name(E::field_name_in(self.0, type_.0, field.0))
     }
 
-    /// The contents of the kept subsection of the `name` section with an id; none for the ids 0, 1,
-    /// 2, 4, 10 and 11, which have questions of their own, and none without a `name` section.
+    /// The contents of the kept subsection of the `name` section with an id; none for the ids that
+    /// the edition knows, as [`NamePayload::kept`] lists them, and none without a `name` section.
     ///
     /// ```
     /// use wakemiono::Module;
@@ -312,7 +335,7 @@ impl<'a> Module<'a> {
     ///
     /// As [`module_name`](Self::module_name).
     pub fn kept(&self, id: u8) -> Result<Option<&'a [u8]>, Refusal> {
-        ffi::kept_in(self.0, id).part(self.0)
+        E::kept_in(self.0, id).part(self.0)
     }
 
     /// The data that the first section `metadata.code.T`, where the format is T, gives to a place
@@ -361,12 +384,12 @@ impl<'a> Module<'a> {
         ffi::hint_in(self.0, function.0, at.0).hint()
     }
 
-    fn name(&self, answer: ffi::Answer) -> Result<Option<Name<'a>>, Refusal> {
+    pub(crate) fn name(&self, answer: ffi::Answer) -> Result<Option<Name<'a>>, Refusal> {
         Ok(answer.part(self.0)?.map(Name::from))
     }
 }
 
-impl fmt::Debug for Module<'_> {
+impl<E: Edition> fmt::Debug for Module<'_, E> {
     fn fmt(&self, f: &mut fmt::Formatter<'_>) -> fmt::Result {
         write!(f, "Module({} bytes)", self.0.len())
     }

@@ -1,11 +1,15 @@
 //! Name payloads: the questions, and the canonical form.
 
 use std::fmt;
+use std::marker::PhantomData;
 
 use crate::answer::is_yes;
-use crate::{ffi, FieldIndex, FunctionIndex, LocalIndex, Name, Refusal, TagIndex, TypeIndex};
+use crate::{
+    ffi, Edition, FieldIndex, First, FunctionIndex, LocalIndex, Name, Refusal, TagIndex, TypeIndex,
+};
 
-/// The payload of a `name` section, borrowed from the caller.
+/// The payload of a `name` section, borrowed from the caller, in an [`Edition`] of names: the first
+/// one where the type names none.
 ///
 /// Any bytes may be lent, and nothing is checked beforehand: each call judges the whole payload
 /// first, and refuses it where it is damaged anywhere.
@@ -20,10 +24,11 @@ use crate::{ffi, FieldIndex, FunctionIndex, LocalIndex, Name, Refusal, TagIndex,
 /// # Ok::<(), wakemiono::Refusal>(())
 /// ```
 #[derive(Clone, Copy)]
-pub struct NamePayload<'a>(&'a [u8]);
+pub struct NamePayload<'a, E: Edition = First>(&'a [u8], PhantomData<E>);
 
 impl<'a> NamePayload<'a> {
-    /// Takes any bytes, and checks nothing.
+    /// Takes any bytes in the first edition of names, and checks nothing. The wider edition is
+    /// opened by [`wider`](NamePayload::wider).
     ///
     /// ```
     /// use wakemiono::NamePayload;
@@ -33,7 +38,26 @@ impl<'a> NamePayload<'a> {
     /// ```
     #[must_use]
     pub const fn new(payload: &'a [u8]) -> NamePayload<'a> {
-        NamePayload(payload)
+        NamePayload::in_edition(payload)
+    }
+}
+
+impl<'a, E: Edition> NamePayload<'a, E> {
+    /// Takes any bytes in the edition that the type names, and checks nothing. It is for code that
+    /// is written for both editions.
+    ///
+    /// ```
+    /// use wakemiono::{Edition, NamePayload, Wider};
+    ///
+    /// fn accepts<E: Edition>(bytes: &[u8]) -> bool {
+    ///     NamePayload::<E>::in_edition(bytes).judge().is_ok()
+    /// }
+    ///
+    /// assert!(accepts::<Wider>(&[0x07, 0x01, 0x00]));
+    /// ```
+    #[must_use]
+    pub const fn in_edition(payload: &'a [u8]) -> NamePayload<'a, E> {
+        NamePayload(payload, PhantomData)
     }
 
     /// The bytes that were lent.
@@ -62,7 +86,7 @@ impl<'a> NamePayload<'a> {
     ///
     /// The first fault of the payload, read from left to right.
     pub fn judge(&self) -> Result<(), Refusal> {
-        ffi::names_judge(self.0).length().map(drop)
+        E::judge(self.0).length().map(drop)
     }
 
     /// The module's name.
@@ -79,7 +103,7 @@ impl<'a> NamePayload<'a> {
     ///
     /// As [`judge`](Self::judge).
     pub fn module_name(&self) -> Result<Option<Name<'a>>, Refusal> {
-        self.name(ffi::module_name(self.0))
+        self.name(E::module_name(self.0))
     }
 
     /// A function's name.
@@ -96,7 +120,7 @@ impl<'a> NamePayload<'a> {
     ///
     /// As [`judge`](Self::judge).
     pub fn function_name(&self, function: FunctionIndex) -> Result<Option<Name<'a>>, Refusal> {
-        self.name(ffi::function_name(self.0, function.0))
+        self.name(E::function_name(self.0, function.0))
     }
 
     /// A type's name.
@@ -113,7 +137,7 @@ impl<'a> NamePayload<'a> {
     ///
     /// As [`judge`](Self::judge).
     pub fn type_name(&self, type_: TypeIndex) -> Result<Option<Name<'a>>, Refusal> {
-        self.name(ffi::type_name(self.0, type_.0))
+        self.name(E::type_name(self.0, type_.0))
     }
 
     /// A tag's name.
@@ -130,7 +154,7 @@ impl<'a> NamePayload<'a> {
     ///
     /// As [`judge`](Self::judge).
     pub fn tag_name(&self, tag: TagIndex) -> Result<Option<Name<'a>>, Refusal> {
-        self.name(ffi::tag_name(self.0, tag.0))
+        self.name(E::tag_name(self.0, tag.0))
     }
 
     /// The name of a local in a function.
@@ -152,7 +176,7 @@ impl<'a> NamePayload<'a> {
         function: FunctionIndex,
         local: LocalIndex,
     ) -> Result<Option<Name<'a>>, Refusal> {
-        self.name(ffi::local_name(self.0, function.0, local.0))
+        self.name(E::local_name(self.0, function.0, local.0))
     }
 
     /// The name of a field in a type.
@@ -174,11 +198,11 @@ impl<'a> NamePayload<'a> {
         type_: TypeIndex,
         field: FieldIndex,
     ) -> Result<Option<Name<'a>>, Refusal> {
-        self.name(ffi::field_name(self.0, type_.0, field.0))
+        self.name(E::field_name(self.0, type_.0, field.0))
     }
 
-    /// The contents of the kept subsection with an id; none for the ids 0, 1, 2, 4, 10 and 11,
-    /// which have questions of their own.
+    /// The contents of the kept subsection with an id; none for the ids that the edition knows,
+    /// which have questions of their own: 0, 1, 2, 4, 10 and 11 in the first, 0 to 11 in the wider.
     ///
     /// ```
     /// use wakemiono::NamePayload;
@@ -193,7 +217,7 @@ impl<'a> NamePayload<'a> {
     ///
     /// As [`judge`](Self::judge).
     pub fn kept(&self, id: u8) -> Result<Option<&'a [u8]>, Refusal> {
-        ffi::kept(self.0, id).part(self.0)
+        E::kept(self.0, id).part(self.0)
     }
 
     /// Writes the canonical form to the front of an output, and answers its length. The rest of the
@@ -213,11 +237,12 @@ impl<'a> NamePayload<'a> {
     /// As [`judge`](Self::judge), and then [`OutputTooShort`](crate::Reason::OutputTooShort) with
     /// the needed length. A refusal leaves the output as it was.
     pub fn canonical_into(&self, out: &mut [u8]) -> Result<usize, Refusal> {
-        ffi::names_canonical(self.0, out).written(out.len())
+        E::canonical(self.0, out).written(out.len())
     }
 
-    /// The canonical form. Those of two payloads are equal exactly when every question gets the
-    /// same answer from both.
+    /// The canonical form. Those of two payloads in one edition are equal exactly when every
+    /// question gets the same answer from both. Those of two editions are not to be compared, since
+    /// each drops what is empty by its own ids.
     ///
     /// ```
     /// use wakemiono::NamePayload;
@@ -249,15 +274,15 @@ impl<'a> NamePayload<'a> {
     /// ```
     #[must_use]
     pub fn is_canonical(&self) -> bool {
-        is_yes(ffi::names_is_canonical(self.0))
+        is_yes(E::is_canonical(self.0))
     }
 
-    fn name(&self, answer: ffi::Answer) -> Result<Option<Name<'a>>, Refusal> {
+    pub(crate) fn name(&self, answer: ffi::Answer) -> Result<Option<Name<'a>>, Refusal> {
         Ok(answer.part(self.0)?.map(Name::from))
     }
 }
 
-impl fmt::Debug for NamePayload<'_> {
+impl<E: Edition> fmt::Debug for NamePayload<'_, E> {
     fn fmt(&self, f: &mut fmt::Formatter<'_>) -> fmt::Result {
         write!(f, "NamePayload({} bytes)", self.0.len())
     }

@@ -4,64 +4,78 @@
 
 mod common;
 
-use common::{custom, module, HINTS_NAME, P, SMALL};
+use common::{custom, module, AllQuestions, Asked, EVERY_ID, HINTS_NAME, ONLY_WIDER, P, SMALL};
 use wakemiono::{
-    offset_in, CodeOffset, FieldIndex, FunctionIndex, Hints, LocalIndex, Metadata, Module, Name,
-    NamePayload, Refusal, TagIndex, TypeIndex,
+    offset_in, CodeOffset, First, FunctionIndex, Hints, Metadata, Module, Name, NamePayload,
+    Refusal, Wider,
 };
 
 type Answers<'a> = Vec<Option<&'a [u8]>>;
 
+/// The indices that are asked, each with another within it.
+fn indices() -> impl Iterator<Item = (u32, u32)> {
+    (0..5).flat_map(|one| (0..3).map(move |two| (one, two)))
+}
+
 /// The answers to many questions; a payload that is refused is refused for each of them alike.
-fn names_asked(bytes: &[u8]) -> Result<Answers<'_>, Refusal> {
-    let payload = NamePayload::new(bytes);
+fn names_asked<E: AllQuestions>(payload: NamePayload<'_, E>) -> Result<Answers<'_>, Refusal> {
     let judged = payload.judge();
-    let mut asked = vec![payload.module_name()];
-    for one in 0..5 {
-        let (function, type_) = (FunctionIndex(one), TypeIndex(one));
-        asked.push(payload.function_name(function));
-        asked.push(payload.type_name(type_));
-        asked.push(payload.tag_name(TagIndex(one)));
-        for two in 0..3 {
-            asked.push(payload.local_name(function, LocalIndex(two)));
-            asked.push(payload.field_name(type_, FieldIndex(two)));
-        }
-    }
-    let mut answers = Vec::new();
-    for answer in asked {
-        assert_eq!(answer.map(drop), judged);
+    let named = indices().flat_map(|(one, two)| E::names(payload, one, two));
+    let texts = named.inspect(|answer| {
         if let Ok(Some(name)) = answer {
             assert!(name.to_str().is_ok());
         }
+    });
+    let kept = (0..=255).map(|id| payload.kept(id).map(|kept| kept.map(Name::from)));
+    let mut answers = Vec::new();
+    for answer in texts.chain(kept) {
+        assert_eq!(answer.map(drop), judged);
         answers.extend(answer.map(|name| name.map(|name| name.as_bytes())));
     }
-    for id in 0..=255 {
-        let answer = payload.kept(id);
-        assert_eq!(answer.map(drop), judged);
-        answers.extend(answer);
-    }
-    assert!(answers
-        .iter()
-        .flatten()
-        .all(|part| offset_in(bytes, part).is_some()));
+    let found = answers.iter().flatten();
+    let lent = payload.as_bytes();
+    assert!(found
+        .map(|part| offset_in(lent, part))
+        .all(|at| at.is_some()));
     judged.map(|()| answers)
 }
 
-fn names_agree(bytes: &[u8]) {
-    let asked = names_asked(bytes);
-    let canonical = NamePayload::new(bytes).to_canonical();
+fn names_agree<E: AllQuestions>(bytes: &[u8]) {
+    let payload = NamePayload::<E>::in_edition(bytes);
+    let asked = names_asked(payload);
+    let canonical = payload.to_canonical();
     assert_eq!(canonical.as_ref().err(), asked.as_ref().err());
     let unchanged = canonical.as_deref() == Ok(bytes);
-    assert_eq!(NamePayload::new(bytes).is_canonical(), unchanged);
+    assert_eq!(payload.is_canonical(), unchanged);
     if let (Ok(answers), Ok(canonical)) = (asked, canonical) {
         assert!(canonical.len() <= bytes.len());
-        assert_eq!(names_asked(&canonical), Ok(answers));
-        assert_eq!(
-            NamePayload::new(&canonical).to_canonical(),
-            Ok(canonical.clone())
-        );
-        assert!(NamePayload::new(&canonical).is_canonical());
+        let again = NamePayload::<E>::in_edition(&canonical);
+        assert_eq!(names_asked(again), Ok(answers));
+        assert_eq!(again.to_canonical().as_ref(), Ok(&canonical));
+        assert!(again.is_canonical());
     }
+}
+
+/// What the wider edition accepts is accepted by the first, with the same names and, but for what
+/// only the wider edition knows, the same kept subsections.
+fn editions_agree(bytes: &[u8]) {
+    let (first, wider) = (NamePayload::new(bytes), NamePayload::wider(bytes));
+    if wider.judge().is_err() {
+        return;
+    }
+    assert_eq!(first.judge(), Ok(()));
+    for (one, two) in indices() {
+        let in_first = First::names(first, one, two);
+        assert_eq!(Wider::names(wider, one, two)[..in_first.len()], in_first);
+    }
+    let mut known_alike = (0..=255).filter(|id| !ONLY_WIDER.contains(id));
+    assert!(known_alike.all(|id| wider.kept(id) == first.kept(id)));
+}
+
+fn names_agree_in_both(bytes: &[u8]) {
+    names_agree::<First>(bytes);
+    names_agree::<Wider>(bytes);
+    editions_agree(bytes);
 }
 
 fn metadata_agree(bytes: &[u8]) {
@@ -101,8 +115,8 @@ fn place(refusal: Refusal) -> Place {
 }
 
 /// The same of a refusal whose offset counts from the start of a payload in the module.
-fn place_in_payload(module: &Module<'_>, payload: &[u8], refusal: Refusal) -> Place {
-    let start = offset_in(module.as_bytes(), payload).expect("the payload lies in the module");
+fn place_in_payload(module: &[u8], payload: &[u8], refusal: Refusal) -> Place {
+    let start = offset_in(module, payload).expect("the payload lies in the module");
     (refusal.number(), refusal.offset() + start as u64)
 }
 
@@ -110,9 +124,10 @@ fn place_in_payload(module: &Module<'_>, payload: &[u8], refusal: Refusal) -> Pl
 fn module_agrees(bytes: &[u8]) {
     let module = Module::new(bytes);
     sections_agree(&module);
-    for one in 0..4 {
-        names_agree_through(&module, one);
-        hints_agree_through(&module, FunctionIndex(one));
+    names_agree_through(module);
+    names_agree_through(Module::wider(bytes));
+    for function in (0..4).map(FunctionIndex) {
+        hints_agree_through(&module, function);
     }
 }
 
@@ -127,31 +142,44 @@ fn sections_agree(module: &Module<'_>) {
     }
 }
 
-/// One question of each kind about names.
-macro_rules! asked_of {
-    ($names:expr, $index:expr) => {
-        [
-            $names.module_name(),
-            $names.function_name(FunctionIndex($index)),
-            $names.type_name(TypeIndex($index)),
-            $names.tag_name(TagIndex($index)),
-            $names.local_name(FunctionIndex($index), LocalIndex(0)),
-            $names.field_name(TypeIndex($index), FieldIndex(0)),
-            $names.kept($index as u8).map(|kept| kept.map(Name::from)),
-        ]
-    };
+/// What is kept among what is named.
+fn with_kept<'a>(
+    mut names: Vec<Asked<'a>>,
+    kept: Result<Option<&'a [u8]>, Refusal>,
+) -> Vec<Asked<'a>> {
+    names.push(kept.map(|kept| kept.map(Name::from)));
+    names
 }
 
-fn names_agree_through(module: &Module<'_>, index: u32) {
-    let through = asked_of!(module, index).map(|answer| answer.map_err(place));
-    let apart = match module.names() {
-        Err(refusal) => through.map(|_| Err(place(refusal))),
-        Ok(None) => through.map(|_| Ok(None)),
-        Ok(Some(names)) => asked_of!(names, index).map(|answer| {
-            answer.map_err(|refusal| place_in_payload(module, names.as_bytes(), refusal))
-        }),
-    };
-    assert_eq!(through, apart);
+/// Some of the indices that have names in the modules here, and some that have none.
+const ASKED_THROUGH: [(u32, u32); 4] = [(0, 0), (1, 2), (3, 0), (3, 2)];
+
+fn names_agree_through<E: AllQuestions>(module: Module<'_, E>) {
+    let names = module.names();
+    for (one, two) in ASKED_THROUGH {
+        let through = with_kept(E::names_in(module, one, two), module.kept(one as u8));
+        let through = counted(through, place);
+        let apart = match names {
+            Err(refusal) => vec![Err(place(refusal)); through.len()],
+            Ok(None) => vec![Ok(None); through.len()],
+            Ok(Some(names)) => {
+                let apart = with_kept(E::names(names, one, two), names.kept(one as u8));
+                counted(apart, |refusal| {
+                    place_in_payload(module.as_bytes(), names.as_bytes(), refusal)
+                })
+            }
+        };
+        assert_eq!(through, apart);
+    }
+}
+
+/// Answers whose refusals are places.
+fn counted<'a>(
+    answers: Vec<Asked<'a>>,
+    place: impl Fn(Refusal) -> Place,
+) -> Vec<Result<Option<Name<'a>>, Place>> {
+    let answers = answers.into_iter();
+    answers.map(|answer| answer.map_err(&place)).collect()
 }
 
 fn hints_agree_through(module: &Module<'_>, function: FunctionIndex) {
@@ -162,7 +190,7 @@ fn hints_agree_through(module: &Module<'_>, function: FunctionIndex) {
             Ok(None) => Ok(None),
             Ok(Some(hints)) => hints
                 .hint(function, at)
-                .map_err(|refusal| place_in_payload(module, hints.as_bytes(), refusal)),
+                .map_err(|refusal| place_in_payload(module.as_bytes(), hints.as_bytes(), refusal)),
         };
         assert_eq!(through, apart);
         let data = module.metadata("branch_hint", function, at).map_err(place);
@@ -178,7 +206,7 @@ fn near(bytes: &[u8]) -> impl Iterator<Item = Vec<u8>> + '_ {
     let prefixes = (0..=bytes.len()).map(|length| bytes[..length].to_vec());
     let changes = (0..bytes.len()).flat_map(move |at| {
         [
-            0x00, 0x01, 0x02, 0x04, 0x0A, 0x0B, 0x0D, 0x7F, 0x80, 0xC3, 0xFF,
+            0x00, 0x01, 0x02, 0x03, 0x04, 0x05, 0x09, 0x0A, 0x0B, 0x0D, 0x7F, 0x80, 0xC3, 0xFF,
         ]
         .map(|byte| {
             let mut changed = bytes.to_vec();
@@ -210,7 +238,8 @@ fn generated(count: usize) -> impl Iterator<Item = Vec<u8>> {
     })
 }
 
-const ALL_NAMES: [u8; 42] = [
+/// Every name that the first edition knows, and a subsection that only it keeps.
+const FIRST_NAMES: [u8; 42] = [
     0x00, 0x02, 0x01, 0x6D, 0x01, 0x04, 0x01, 0x01, 0x01, 0x66, 0x02, 0x06, 0x01, 0x01, 0x01, 0x02,
     0x01, 0x6C, 0x03, 0x02, 0xFF, 0xFE, 0x04, 0x04, 0x01, 0x02, 0x01, 0x74, 0x0A, 0x06, 0x01, 0x03,
     0x01, 0x00, 0x01, 0x64, 0x0B, 0x04, 0x01, 0x04, 0x01, 0x67,
@@ -222,11 +251,14 @@ const TWO_FUNCTIONS: [u8; 14] = [
 
 #[test]
 fn nothing_at_all() {
-    names_agree(&[]);
+    names_agree_in_both(&[]);
     metadata_agree(&[]);
     module_agrees(&[]);
-    assert_eq!(names_asked(&[]).unwrap().iter().flatten().count(), 0);
-    assert_eq!(NamePayload::new(&[]).canonical_into(&mut []), Ok(0));
+    let (first, wider) = (NamePayload::new(&[]), NamePayload::wider(&[]));
+    assert_eq!(names_asked(first).unwrap().iter().flatten().count(), 0);
+    assert_eq!(names_asked(wider).unwrap().iter().flatten().count(), 0);
+    assert_eq!(first.canonical_into(&mut []), Ok(0));
+    assert_eq!(wider.canonical_into(&mut []), Ok(0));
     let (function, at) = (FunctionIndex(0), CodeOffset(0));
     assert_eq!(Metadata::new(&[]).judge().unwrap_err().number(), 2);
     assert_eq!(
@@ -259,9 +291,10 @@ fn nothing_at_all() {
 #[test]
 fn name_payloads() {
     near(&P)
-        .chain(near(&ALL_NAMES))
-        .for_each(|bytes| names_agree(&bytes));
-    generated(2_000).for_each(|bytes| names_agree(&bytes));
+        .chain(near(&FIRST_NAMES))
+        .chain(near(&EVERY_ID))
+        .for_each(|bytes| names_agree_in_both(&bytes));
+    generated(2_000).for_each(|bytes| names_agree_in_both(&bytes));
 }
 
 #[test]
@@ -275,7 +308,7 @@ fn metadata_payloads() {
 fn modules() {
     near(SMALL).for_each(|bytes| module_agrees(&bytes));
     let hints = [0x01, 0x02, 0x01, 0x05, 0x01, 0x01];
-    let whole = module(&[custom(HINTS_NAME, &hints), custom("name", &ALL_NAMES)]);
+    let whole = module(&[custom(HINTS_NAME, &hints), custom("name", &EVERY_ID)]);
     near(&whole).for_each(|bytes| module_agrees(&bytes));
     generated(500).for_each(|bytes| module_agrees(&module(&[bytes])));
 }

@@ -11,9 +11,12 @@ fn bytes(hex: &str) -> Vec<u8> {
     hex.split_whitespace().map(byte).collect()
 }
 
+/// Whether a payload is accepted, and whether it is canonical.
+type Told = (Result<(), Refusal>, bool);
+
 /// What accepted payloads say, so that a no is never for a refusal: `told` judges and tells one.
 #[track_caller]
-fn all_say(expected: bool, rows: &[&str], told: fn(&[u8]) -> (Result<(), Refusal>, bool)) {
+fn all_say(expected: bool, rows: &[&str], told: fn(&[u8]) -> Told) {
     for row in rows {
         assert_eq!(told(&bytes(row)), (Ok(()), expected), "{row}");
     }

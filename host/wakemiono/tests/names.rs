@@ -5,7 +5,7 @@ mod common;
 use std::collections::HashMap;
 
 use common::{custom, module, P};
-use wakemiono::{offset_in, FunctionIndex, Module, Name, NamePayload, Reason};
+use wakemiono::{offset_in, Edition, FunctionIndex, Module, Name, NamePayload, Reason};
 
 #[test]
 fn a_name_outlives_what_was_asked_and_not_the_bytes() {
@@ -28,13 +28,16 @@ fn a_name_outlives_what_was_asked_and_not_the_bytes() {
 
 #[test]
 fn names_and_modules_go_to_other_threads() {
+    fn asked_there<E: Edition>(module: Module<'_, E>) -> Name<'_> {
+        let asked = std::thread::scope(|scope| {
+            let asked = scope.spawn(|| module.function_name(FunctionIndex(0)));
+            asked.join().unwrap()
+        });
+        asked.unwrap().unwrap()
+    }
     let bytes = module(&[custom("name", &P)]);
-    let module = Module::new(&bytes);
-    let asked = std::thread::scope(|scope| {
-        let asked = scope.spawn(|| module.function_name(FunctionIndex(0)));
-        asked.join().unwrap()
-    });
-    assert_eq!(asked.unwrap().unwrap().to_str(), Ok("a"));
+    assert_eq!(asked_there(Module::new(&bytes)).as_bytes(), b"a");
+    assert_eq!(asked_there(Module::wider(&bytes)).as_bytes(), b"a");
 }
 
 fn shown(bytes: &[u8]) -> (String, String) {

@@ -2,7 +2,7 @@
 
 mod common;
 
-use common::{refused, P};
+use common::{refused, EVERY_ID, P};
 use wakemiono::{function_names_into, FunctionIndex, Hints, Metadata, NamePayload, Refusal};
 
 const GUARD: usize = 16;
@@ -60,6 +60,25 @@ fn names_are_rewritten_between_guards() {
 }
 
 #[test]
+fn names_of_the_wider_edition_are_rewritten_between_guards() {
+    let padded = [0x07, 0x85, 0x00, 0x01, 0x00, 0x81, 0x00, 0x61];
+    let canonical = [0x07, 0x04, 0x01, 0x00, 0x01, 0x61];
+    writes(&canonical, |out| {
+        NamePayload::wider(&padded).canonical_into(out)
+    });
+    writes(&EVERY_ID, |out| {
+        NamePayload::wider(&EVERY_ID).canonical_into(out)
+    });
+    let empty_map = [0x07, 0x01, 0x00];
+    writes(&[], |out| {
+        NamePayload::wider(&empty_map).canonical_into(out)
+    });
+    writes(&empty_map, |out| {
+        NamePayload::new(&empty_map).canonical_into(out)
+    });
+}
+
+#[test]
 fn metadata_and_hints_are_rewritten_between_guards() {
     let padded = [
         0x82, 0x00, 0x01, 0x00, 0x02, 0x81, 0x00, 0x85, 0x00, 0x81, 0x00, 0x01,
@@ -86,6 +105,12 @@ fn lists_are_written_between_guards() {
 fn a_refusal_writes_nothing() {
     refuses((10, 3), |out| {
         NamePayload::new(&[0x01, 0x02, 0x00, 0x00]).canonical_into(out)
+    });
+    let labels_fall = [
+        0x03, 0x09, 0x01, 0x03, 0x02, 0x02, 0x01, 0x61, 0x01, 0x01, 0x62,
+    ];
+    refuses((11, 8), |out| {
+        NamePayload::wider(&labels_fall).canonical_into(out)
     });
     refuses((2, 0), |out| Metadata::new(&[]).canonical_into(out));
     refuses((12, 4), |out| {

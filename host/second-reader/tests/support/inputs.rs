@@ -2,6 +2,7 @@
 //!
 //! The encoder here is the plainest possible and knows nothing of the crate under test.
 
+use super::editions::Edition;
 use super::random::Random;
 
 /// A list of (number, sized bytes): a name map, or the items of a function.
@@ -186,20 +187,27 @@ pub fn random_metadata(random: &mut Random) -> Nested {
     random_nested(random, |random| any_bytes(random, 3))
 }
 
-pub fn random_names(random: &mut Random) -> Names {
+pub fn random_names(random: &mut Random, edition: &Edition) -> Names {
+    const IDS: [u8; 15] = [0, 1, 2, 3, 4, 5, 6, 7, 8, 9, 10, 11, 12, 0x80, 0xFF];
     let mut subsections = Vec::new();
-    for id in [0, 1, 2, 3, 4, 5, 9, 10, 11, 12, 0x80, 0xFF] {
+    for id in IDS {
         if random.one_in(2) {
-            let contents = match id {
-                0 => Contents::Module(text(random)),
-                1 | 4 | 11 => Contents::Map(random_flat(random, text)),
-                2 | 10 => Contents::Indirect(random_nested(random, text)),
-                _ => Contents::Kept(any_bytes(random, 5)),
-            };
-            subsections.push((id, contents));
+            subsections.push((id, random_contents(random, edition, id)));
         }
     }
     subsections
+}
+
+fn random_contents(random: &mut Random, edition: &Edition, id: u8) -> Contents {
+    if id == 0 {
+        Contents::Module(text(random))
+    } else if edition.maps.contains(&id) {
+        Contents::Map(random_flat(random, text))
+    } else if edition.indirect_maps.contains(&id) {
+        Contents::Indirect(random_nested(random, text))
+    } else {
+        Contents::Kept(any_bytes(random, 5))
+    }
 }
 
 /// The mode of an encoding picked at random: padded here and there, or in the fewest bytes.

@@ -3,6 +3,7 @@
 // Every test file uses some of these, and none uses all.
 #![allow(dead_code)]
 
+pub mod editions;
 pub mod inputs;
 pub mod random;
 

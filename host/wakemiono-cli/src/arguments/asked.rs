@@ -1,25 +1,53 @@
 //! The question that the options of `name` ask.
 
-use wakemiono::{FieldIndex, FunctionIndex, LocalIndex, TagIndex, TypeIndex};
-
+use super::{add_wide, may_be_asked};
 use crate::escape;
 use crate::options::Given;
-use crate::question::Question;
+use crate::question::{Kind, Question};
+
+/// The options that a number follows.
+pub const OPTIONS: &[&str] = &[
+    "--function",
+    "--local",
+    "--label",
+    "--type",
+    "--field",
+    "--tag",
+    "--table",
+    "--memory",
+    "--global",
+    "--element",
+    "--data",
+    "--kept",
+];
+
+/// Those of them that say what lies within something else, and within what.
+const WITHIN: [(&str, &str); 3] = [
+    ("--local", "function"),
+    ("--label", "function"),
+    ("--field", "type"),
+];
 
 /// The one question that the options ask.
-pub fn question(given: &Given) -> Result<Question, String> {
+pub fn question(given: &Given, wide: bool) -> Result<Question, String> {
+    check_edition(given, wide)?;
     let number = |option: &str| index(given, option);
     let asked = [
         given.has("--module").then_some(Question::Module),
-        number("--function")?.map(|it| Question::Function(FunctionIndex(it))),
-        number("--type")?.map(|it| Question::Type(TypeIndex(it))),
-        number("--tag")?.map(|it| Question::Tag(TagIndex(it))),
+        number("--function")?.map(|it| Question::Function(it.into())),
+        number("--type")?.map(|it| Question::Type(it.into())),
+        number("--tag")?.map(|it| Question::Tag(it.into())),
+        number("--table")?.map(|it| Question::Table(it.into())),
+        number("--memory")?.map(|it| Question::Memory(it.into())),
+        number("--global")?.map(|it| Question::Global(it.into())),
+        number("--element")?.map(|it| Question::Element(it.into())),
+        number("--data")?.map(|it| Question::Data(it.into())),
         kept(given)?.map(Question::Kept),
     ];
     let mut asked = asked.into_iter().flatten();
     let question = match (asked.next(), asked.next()) {
         (Some(one), None) => one,
-        (None, _) => return Err(no_question(given)),
+        (None, _) => return Err(no_question(given, wide)),
         (Some(one), Some(other)) => {
             return Err(format!(
                 "one name is asked at a time, and --{} and --{} are both given: leave one out",
@@ -28,33 +56,65 @@ pub fn question(given: &Given) -> Result<Question, String> {
             ));
         }
     };
-    inner(question, number("--local")?, number("--field")?)
+    let (local, label, field) = (number("--local")?, number("--label")?, number("--field")?);
+    within(question, local, label, field)
 }
 
-/// The question with the local or field that goes with it.
-fn inner(outer: Question, local: Option<u32>, field: Option<u32>) -> Result<Question, String> {
-    match (outer, local, field) {
-        (_, None, None) => Ok(outer),
-        (Question::Function(function), Some(local), None) => {
-            Ok(Question::Local(function, LocalIndex(local)))
+/// Only the wider edition is asked for what only it has.
+fn check_edition(given: &Given, wide: bool) -> Result<(), String> {
+    let mut options = Kind::ALL
+        .into_iter()
+        .filter(|kind| !may_be_asked(*kind, wide))
+        .map(option);
+    match options.find(|option| given.has(option)) {
+        Some(option) => Err(add_wide(&option)),
+        None => Ok(()),
+    }
+}
+
+/// The option that asks for a name of a kind.
+fn option(kind: Kind) -> String {
+    format!("--{}", kind.word())
+}
+
+/// The question with the local, label or field that goes with it.
+fn within(
+    outer: Question,
+    local: Option<u32>,
+    label: Option<u32>,
+    field: Option<u32>,
+) -> Result<Question, String> {
+    match (outer, local, label, field) {
+        (_, None, None, None) => Ok(outer),
+        (Question::Function(function), Some(local), None, None) => {
+            Ok(Question::Local(function, local.into()))
         }
-        (Question::Type(type_), None, Some(field)) => Ok(Question::Field(type_, FieldIndex(field))),
-        (Question::Function(_), _, Some(_)) | (_, None, Some(_)) => {
+        (Question::Function(function), None, Some(label), None) => {
+            Ok(Question::Label(function, label.into()))
+        }
+        (Question::Type(type_), None, None, Some(field)) => {
+            Ok(Question::Field(type_, field.into()))
+        }
+        (Question::Function(_), _, _, Some(_)) | (_, None, None, Some(_)) => {
             Err("a field belongs to a type: give --field together with --type alone".to_owned())
         }
-        (_, Some(_), _) => Err(
+        (_, Some(_), _, _) => Err(
             "a local belongs to a function: give --local together with --function alone".to_owned(),
+        ),
+        (_, None, Some(_), _) => Err(
+            "a label belongs to a function: give --label together with --function alone".to_owned(),
         ),
     }
 }
 
-fn no_question(given: &Given) -> String {
-    if given.has("--local") {
-        "--local needs its function: give --function too".to_owned()
-    } else if given.has("--field") {
-        "--field needs its type: give --type too".to_owned()
-    } else {
-        "nothing is asked: give --module, --function, --type, --tag or --kept".to_owned()
+fn no_question(given: &Given, wide: bool) -> String {
+    let lone = WITHIN.iter().find(|(inner, _)| given.has(inner));
+    match lone {
+        Some((inner, outer)) => format!("{inner} needs its {outer}: give --{outer} too"),
+        None if wide => "nothing is asked: give --module, --function, --type, --tag, --table, \
+             --memory, --global, --element, --data or --kept"
+            .to_owned(),
+        None => "nothing is asked: give --module, --function, --type, --tag or --kept".to_owned(),
     }
 }
 
@@ -97,6 +157,11 @@ fn unsigned(word: &str) -> Option<u64> {
 mod tests {
     use std::ffi::OsString;
 
+    use wakemiono::{
+        DataIndex, ElementIndex, FieldIndex, FunctionIndex, GlobalIndex, LabelIndex, LocalIndex,
+        MemoryIndex, TableIndex, TagIndex, TypeIndex,
+    };
+
     use super::*;
     use crate::arguments::{parse, Command, Invocation};
 
@@ -105,10 +170,19 @@ mod tests {
     }
 
     #[track_caller]
+    fn asks_in(wide: bool, line: &str, question: Question) {
+        let asked = Invocation::Run {
+            command: Command::Name("f".into(), question),
+            wide,
+            json: false,
+        };
+        assert_eq!(parsed(line), Ok(asked));
+    }
+
+    #[track_caller]
     fn asks(line: &str, question: Question) {
-        let command = Command::Name("f".into(), question);
-        let json = false;
-        assert_eq!(parsed(line), Ok(Invocation::Run { command, json }));
+        asks_in(false, line, question);
+        asks_in(true, &format!("{line} --wide"), question);
     }
 
     #[test]
@@ -127,6 +201,18 @@ mod tests {
         );
         asks("name f --tag 4294967295", Question::Tag(TagIndex(u32::MAX)));
         asks("name f --kept 0xff", Question::Kept(255));
+    }
+
+    #[test]
+    fn every_question_of_the_wider_edition_can_be_asked() {
+        let wide = |line: &str, question| asks_in(true, &format!("name f --wide {line}"), question);
+        let label = Question::Label(FunctionIndex(7), LabelIndex(2));
+        wide("--function 7 --label 0x2", label);
+        wide("--table 1", Question::Table(TableIndex(1)));
+        wide("--memory=0", Question::Memory(MemoryIndex(0)));
+        wide("--global 3", Question::Global(GlobalIndex(3)));
+        wide("--element 4", Question::Element(ElementIndex(4)));
+        wide("--data 4294967295", Question::Data(DataIndex(u32::MAX)));
     }
 
     #[test]

@@ -4,6 +4,7 @@ use std::ffi::OsStr;
 
 use wakemiono::NamePayload;
 
+use crate::edition::Edition;
 use crate::input::{Input, STANDARD_STREAM};
 use crate::json::Json;
 use crate::output;
@@ -11,11 +12,11 @@ use crate::payloads;
 use crate::report::{Failure, Report, Status};
 
 /// Writes the canonical payload where an output is given, and says what it saves otherwise.
-pub fn run(file: &OsStr, out: Option<&OsStr>, json: bool) -> Result<Report, Failure> {
+pub fn run<E: Edition>(file: &OsStr, out: Option<&OsStr>, json: bool) -> Result<Report, Failure> {
     if let Some(out) = out {
         output::check_apart(file, out)?;
     }
-    let input = &Input::read(file)?;
+    let input = &Input::<E>::read(file)?;
     let payload = input.accepted(payloads::names(input.module()))?;
     let canonical = payloads::canonical_names(payload)?;
     let note = match payload {
@@ -50,7 +51,7 @@ struct Saving {
 }
 
 impl Saving {
-    fn of(payload: Option<NamePayload<'_>>, canonical: &[u8]) -> Saving {
+    fn of<E: Edition>(payload: Option<NamePayload<'_, E>>, canonical: &[u8]) -> Saving {
         Saving {
             before: payload.map_or(0, |payload| payload.as_bytes().len()),
             after: canonical.len(),
@@ -86,10 +87,9 @@ impl Saving {
     }
 }
 
-fn document(input: &Input, saving: &Saving, out: Option<&OsStr>) -> Json {
+fn document<E: Edition>(input: &Input<E>, saving: &Saving, out: Option<&OsStr>) -> Json {
     let written = out.map_or(Json::Null, |out| Json::text(out.to_string_lossy()));
-    Json::Object(vec![
-        ("file", input.file()),
+    let said = vec![
         ("section", Json::Bool(saving.is_canonical.is_some())),
         (
             "canonical",
@@ -99,5 +99,6 @@ fn document(input: &Input, saving: &Saving, out: Option<&OsStr>) -> Json {
         ("after", Json::size(saving.after)),
         ("saves", Json::size(saving.saved())),
         ("written_to", written),
-    ])
+    ];
+    Json::Object([input.members(), said].concat())
 }

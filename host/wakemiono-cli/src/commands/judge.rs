@@ -2,6 +2,7 @@
 
 use wakemiono::Refusal;
 
+use crate::edition::Edition;
 use crate::input::Input;
 use crate::json::Json;
 use crate::payloads;
@@ -24,7 +25,7 @@ enum Verdict {
 }
 
 impl Verdict {
-    fn of(input: &Input, judged: Result<Verdict, Refusal>) -> Verdict {
+    fn of<E: Edition>(input: &Input<E>, judged: Result<Verdict, Refusal>) -> Verdict {
         judged.unwrap_or_else(|refusal| Verdict::Refused(Refused::new(input, refusal)))
     }
 
@@ -78,7 +79,7 @@ impl Verdict {
 }
 
 /// Judges the module and then its payloads, each whatever is wrong with the other.
-pub fn run(input: &Input, json: bool) -> Report {
+pub fn run<E: Edition>(input: &Input<E>, json: bool) -> Report {
     let verdicts = verdicts(input);
     let accepted = !verdicts.iter().any(|(_, verdict)| verdict.is_refused());
     let status = Status::good_if(accepted);
@@ -89,7 +90,7 @@ pub fn run(input: &Input, json: bool) -> Report {
     Report::ending(status, verdicts.iter().map(line).collect::<String>())
 }
 
-fn verdicts(input: &Input) -> [(&'static str, Verdict); 3] {
+fn verdicts<E: Edition>(input: &Input<E>) -> [(&'static str, Verdict); 3] {
     let module = input.module();
     let of_module = Verdict::of(input, module.section_count().map(|_| Verdict::Accepted));
     let (name, hints) = if of_module.is_refused() {
@@ -105,8 +106,13 @@ fn verdicts(input: &Input) -> [(&'static str, Verdict); 3] {
     [("module", of_module), ("name", name), ("hints", hints)]
 }
 
-fn document(input: &Input, accepted: bool, verdicts: &[(&'static str, Verdict)]) -> Json {
-    let mut members = vec![("file", input.file()), ("accepted", Json::Bool(accepted))];
+fn document<E: Edition>(
+    input: &Input<E>,
+    accepted: bool,
+    verdicts: &[(&'static str, Verdict)],
+) -> Json {
+    let mut members = input.members();
+    members.push(("accepted", Json::Bool(accepted)));
     let judged = verdicts.iter();
     members.extend(judged.map(|(word, verdict)| (*word, verdict.json())));
     Json::Object(members)

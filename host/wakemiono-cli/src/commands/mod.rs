@@ -9,19 +9,30 @@ mod name;
 mod names;
 mod same;
 
+use wakemiono::{First, Wider};
+
 use crate::arguments::Command;
+use crate::edition::Edition;
 use crate::input::Input;
 use crate::report::{Failure, Report};
 
-/// Runs a command.
-pub fn run(command: &Command, json: bool) -> Result<Report, Failure> {
+/// Runs a command, in the wider edition of names or in the first.
+pub fn run(command: &Command, wide: bool, json: bool) -> Result<Report, Failure> {
+    if wide {
+        run_in::<Wider>(command, json)
+    } else {
+        run_in::<First>(command, json)
+    }
+}
+
+fn run_in<E: Edition>(command: &Command, json: bool) -> Result<Report, Failure> {
     match command {
         Command::List(file) => list::run(&Input::read(file)?, json),
-        Command::Names(file, kind) => names::run(&Input::read(file)?, *kind, json),
-        Command::Name(file, question) => name::run(&Input::read(file)?, *question, json),
+        Command::Names(file, kind) => names::run(&Input::<E>::read(file)?, *kind, json),
+        Command::Name(file, question) => name::run(&Input::<E>::read(file)?, *question, json),
         Command::Hints(file) => hints::run(&Input::read(file)?, json),
-        Command::Canon(file, out) => canon::run(file, out.as_deref(), json),
-        Command::Same(a, b) => same::run(&Input::read(a)?, &Input::read(b)?, json),
-        Command::Judge(file) => Ok(judge::run(&Input::read(file)?, json)),
+        Command::Canon(file, out) => canon::run::<E>(file, out.as_deref(), json),
+        Command::Same(a, b) => same::run(&Input::<E>::read(a)?, &Input::read(b)?, json),
+        Command::Judge(file) => Ok(judge::run(&Input::<E>::read(file)?, json)),
     }
 }

@@ -1,6 +1,7 @@
 //! `names`: all names of a module.
 
 use crate::canonical::{self, Entry};
+use crate::edition::Edition;
 use crate::escape;
 use crate::input::Input;
 use crate::json::Json;
@@ -12,11 +13,15 @@ use crate::report::{Failure, Report, Status};
 type Row<'a> = (Question, Answer<'a>);
 
 /// Lists the names of a kind, or all.
-pub fn run(input: &Input, kind: Option<Kind>, json: bool) -> Result<Report, Failure> {
+pub fn run<E: Edition>(
+    input: &Input<E>,
+    kind: Option<Kind>,
+    json: bool,
+) -> Result<Report, Failure> {
     let payload = input.accepted(payloads::names(input.module()))?;
     let has_section = payload.is_some();
     let canonical = payloads::canonical_names(payload)?;
-    let entries = canonical::name_entries(&canonical).ok_or(Failure::Misfit)?;
+    let entries = canonical::name_entries::<E>(&canonical).ok_or(Failure::Misfit)?;
     let rows = rows(input, &entries, kind)?;
     if json {
         return Ok(Report::json(Status::Good, &document(input, &rows)));
@@ -31,8 +36,8 @@ pub fn run(input: &Input, kind: Option<Kind>, json: bool) -> Result<Report, Fail
 }
 
 /// Asks the library through the module for each entry that the canonical payload holds.
-fn rows<'a>(
-    input: &'a Input,
+fn rows<'a, E: Edition>(
+    input: &'a Input<E>,
     entries: &[Entry<'_>],
     kind: Option<Kind>,
 ) -> Result<Vec<Row<'a>>, Failure> {
@@ -61,12 +66,11 @@ fn note(has_section: bool, kind: Option<Kind>, rows: &[Row<'_>]) -> &'static str
     }
 }
 
-fn document(input: &Input, rows: &[Row<'_>]) -> Json {
+fn document<E: Edition>(input: &Input<E>, rows: &[Row<'_>]) -> Json {
     let row = |(question, answer): &Row<'_>| {
         Json::Object([question.members(), answer.members()].concat())
     };
-    Json::Object(vec![
-        ("file", input.file()),
-        ("names", rows.iter().map(row).collect()),
-    ])
+    let mut members = input.members();
+    members.push(("names", rows.iter().map(row).collect()));
+    Json::Object(members)
 }

@@ -1,19 +1,20 @@
 //! `same`: whether two modules have the same names.
 
-use crate::canonical::{self, Entry};
+use crate::canonical;
+use crate::edition::Edition;
 use crate::input::Input;
 use crate::json::Json;
 use crate::payloads;
 use crate::question::{self, Answer, Question};
 use crate::report::{Failure, Report, Status};
 
-/// Compares the names of two modules.
-pub fn run(a: &Input, b: &Input, json: bool) -> Result<Report, Failure> {
+/// Compares the names of two modules, within one edition.
+pub fn run<E: Edition>(a: &Input<E>, b: &Input<E>, json: bool) -> Result<Report, Failure> {
     let (in_a, in_b) = (canonical_of(a)?, canonical_of(b)?);
     let difference = if in_a == in_b {
         None
     } else {
-        let question = first_that_differs(&in_a, &in_b).ok_or(Failure::Misfit)?;
+        let question = first_that_differs::<E>(&in_a, &in_b).ok_or(Failure::Misfit)?;
         Some(Difference::asked(question, a, b)?)
     };
     let status = Status::good_if(difference.is_none());
@@ -24,7 +25,7 @@ pub fn run(a: &Input, b: &Input, json: bool) -> Result<Report, Failure> {
     })
 }
 
-fn canonical_of(input: &Input) -> Result<Vec<u8>, Failure> {
+fn canonical_of<E: Edition>(input: &Input<E>) -> Result<Vec<u8>, Failure> {
     payloads::canonical_names(input.accepted(payloads::names(input.module()))?)
 }
 
@@ -37,8 +38,12 @@ struct Difference<'a> {
 
 impl<'a> Difference<'a> {
     /// The answers as the library gives them.
-    fn asked(question: Question, a: &'a Input, b: &'a Input) -> Result<Difference<'a>, Failure> {
-        let ask = |input: &'a Input| input.accepted(question.ask(input.module()));
+    fn asked<E: Edition>(
+        question: Question,
+        a: &'a Input<E>,
+        b: &'a Input<E>,
+    ) -> Result<Difference<'a>, Failure> {
+        let ask = |input: &'a Input<E>| input.accepted(question.ask(input.module()));
         let (of_a, of_b) = (ask(a)?, ask(b)?);
         if of_a.map(|found| found.bytes()) == of_b.map(|found| found.bytes()) {
             return Err(Failure::Misfit);
@@ -53,16 +58,17 @@ impl<'a> Difference<'a> {
 
 /// The first question, in the order of payloads, to which two canonical payloads give different
 /// answers.
-fn first_that_differs(a: &[u8], b: &[u8]) -> Option<Question> {
-    let (a, b) = (canonical::name_entries(a)?, canonical::name_entries(b)?);
+fn first_that_differs<E: Edition>(a: &[u8], b: &[u8]) -> Option<Question> {
+    let a = canonical::name_entries::<E>(a)?;
+    let b = canonical::name_entries::<E>(b)?;
     let alike = a.iter().zip(&b).take_while(|(a, b)| a == b).count();
-    // Both lists rise, so that of two questions here the lower one is nowhere in the other list.
-    let question = |entry: &Entry<'_>| entry.question;
-    let here = [a.get(alike).map(question), b.get(alike).map(question)];
-    here.into_iter().flatten().min_by_key(Question::order)
+    // Both lists rise, so that of two entries here the lower one is nowhere in the other list.
+    let here = [a.get(alike), b.get(alike)].into_iter().flatten();
+    let lower = here.min_by_key(|entry| entry.order())?;
+    Some(lower.question)
 }
 
-fn lines(a: &Input, b: &Input, difference: Option<&Difference<'_>>) -> String {
+fn lines<E: Edition>(a: &Input<E>, b: &Input<E>, difference: Option<&Difference<'_>>) -> String {
     let Some(difference) = difference else {
         return "same\n".to_owned();
     };
@@ -76,12 +82,11 @@ fn lines(a: &Input, b: &Input, difference: Option<&Difference<'_>>) -> String {
     )
 }
 
-fn document(a: &Input, b: &Input, difference: Option<&Difference<'_>>) -> Json {
+fn document<E: Edition>(a: &Input<E>, b: &Input<E>, difference: Option<&Difference<'_>>) -> Json {
     let files = [a.file(), b.file()];
-    let mut members = vec![
-        ("files", files.into_iter().collect()),
-        ("same", Json::Bool(difference.is_none())),
-    ];
+    let mut members = vec![("files", files.into_iter().collect())];
+    members.extend(E::members());
+    members.push(("same", Json::Bool(difference.is_none())));
     if let Some(difference) = difference {
         let answers = [difference.of_a, difference.of_b].map(question::json);
         members.push(("question", Json::Object(difference.question.members())));

@@ -13,6 +13,11 @@ use std::process::{Command, Output, Stdio};
 pub const MODULE: &[u8] = b"\0asm\x01\0\0\0\x00\x1A\x04name\
     \x00\x02\x01m\x01\x07\x02\x00\x01a\x03\x01b\x02\x06\x01\x03\x01\x00\x01x";
 
+/// The same with a label and a global, which only the wider edition of names knows.
+pub const WIDE: &[u8] = b"\0asm\x01\0\0\0\x00\x28\x04name\
+    \x00\x02\x01m\x01\x07\x02\x00\x01a\x03\x01b\x02\x06\x01\x03\x01\x00\x01x\
+    \x03\x06\x01\x03\x01\x02\x01l\x07\x04\x01\x03\x01g";
+
 /// A module without sections.
 pub const BARE: &[u8] = b"\0asm\x01\0\0\0";
 
@@ -22,9 +27,19 @@ pub const NO_SUCH_SECTION: &[u8] = b"\0asm\x01\0\0\0\x0E\x00";
 /// The words of all commands.
 pub const COMMANDS: [&str; 7] = ["list", "names", "name", "hints", "canon", "same", "judge"];
 
-/// A name payload with every kind of name.
+/// The words of those that ask names, and so take `--wide`.
+pub const ASK_NAMES: [&str; 5] = ["names", "name", "canon", "same", "judge"];
+
+/// A name payload with every kind of name that the first edition knows.
 pub const EVERY_KIND: &[u8] = b"\x00\x02\x01m\x01\x04\x01\x00\x01a\x02\x06\x01\x03\x01\x00\x01x\
     \x03\x01\xFF\x04\x04\x01\x02\x01t\x0A\x06\x01\x02\x01\x01\x01f\x0B\x04\x01\x00\x01e";
+
+/// A name payload with every kind of name that the wider edition knows.
+pub const EVERY_WIDE_KIND: &[u8] =
+    b"\x00\x02\x01m\x01\x04\x01\x00\x01a\x02\x06\x01\x03\x01\x00\x01x\
+    \x03\x06\x01\x03\x01\x02\x01l\x04\x04\x01\x02\x01t\x05\x04\x01\x01\x01b\x06\x04\x01\x00\x01y\
+    \x07\x04\x01\x03\x01g\x08\x04\x01\x04\x01s\x09\x04\x01\x05\x01d\
+    \x0A\x06\x01\x02\x01\x01\x01f\x0B\x04\x01\x00\x01e\x0C\x01\xFF";
 
 /// A module whose only section is custom and small.
 pub fn custom(name: &str, payload: &[u8]) -> Vec<u8> {

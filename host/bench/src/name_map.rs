@@ -1,8 +1,12 @@
-//! The function names of an accepted payload, for the operations that need to know them beforehand.
+//! The names in one map of an accepted payload, for the operations that need to know them beforehand.
 
-const FUNCTIONS: u8 = 1;
+/// The id of the subsection with the names of functions.
+pub const FUNCTIONS: u8 = 1;
 
-/// Function names as three lists: indices, lengths, and the texts joined.
+/// The id of the subsection with the names of globals.
+pub const GLOBALS: u8 = 7;
+
+/// Names as three lists: indices, lengths, and the texts joined.
 #[derive(Default)]
 pub struct Lists {
     pub indices: Vec<u32>,
@@ -10,16 +14,16 @@ pub struct Lists {
     pub text: Vec<u8>,
 }
 
-/// What a name payload says about functions.
-pub struct FunctionMap {
+/// What a name payload says under one id.
+pub struct NameMap {
     pub lists: Lists,
     /// There is no other subsection, so that the lists hold all that the payload says.
     pub alone: bool,
 }
 
-impl FunctionMap {
-    /// Reads an accepted payload; none without a function map.
-    pub fn of(payload: &[u8]) -> Option<FunctionMap> {
+impl NameMap {
+    /// Reads a payload that is accepted by an edition which knows a name map under that id; none without the map.
+    pub fn of(payload: &[u8], map_id: u8) -> Option<NameMap> {
         let mut rest = Accepted(payload);
         let mut lists = None;
         let mut subsections = 0;
@@ -27,11 +31,11 @@ impl FunctionMap {
             let id = rest.bytes(1)[0];
             let contents = rest.sized();
             subsections += 1;
-            if id == FUNCTIONS {
+            if id == map_id {
                 lists = Some(Accepted(contents).lists());
             }
         }
-        lists.map(|lists| FunctionMap {
+        lists.map(|lists| NameMap {
             lists,
             alone: subsections == 1,
         })
@@ -87,7 +91,7 @@ mod tests {
     #[test]
     fn the_lists_of_a_plain_map_say_all_of_it() {
         let payload = made::payload("go").expect("there is such a payload").bytes;
-        let map = FunctionMap::of(&payload).expect("functions");
+        let map = NameMap::of(&payload, FUNCTIONS).expect("functions");
         assert!(map.alone);
         let Lists {
             indices,
@@ -102,13 +106,20 @@ mod tests {
     #[test]
     fn a_map_with_others_beside_it_is_not_alone() {
         let payload = made::payload("locals").expect("there is such a payload");
-        let map = FunctionMap::of(&payload.bytes).expect("functions");
+        let map = NameMap::of(&payload.bytes, FUNCTIONS).expect("functions");
         assert_eq!((map.alone, map.lists.indices.len()), (false, 2_000));
     }
 
     #[test]
+    fn a_map_is_found_by_its_id() {
+        let payload = b"\x01\x04\x01\x03\x01f\x07\x04\x01\x05\x01g";
+        let indices = |id| NameMap::of(payload, id).expect("a map").lists.indices;
+        assert_eq!((indices(FUNCTIONS), indices(GLOBALS)), (vec![3], vec![5]));
+    }
+
+    #[test]
     fn no_functions() {
-        assert!(FunctionMap::of(&[]).is_none());
-        assert!(FunctionMap::of(&[0, 2, 1, b'm']).is_none());
+        assert!(NameMap::of(&[], FUNCTIONS).is_none());
+        assert!(NameMap::of(&[0, 2, 1, b'm'], FUNCTIONS).is_none());
     }
 }
