@@ -347,32 +347,34 @@ twelve = "00 02 01 6D 01 04 01 00 01 66 02 06 01 00 01 00 01 6C 03 06 01 00 01 0
 pub editions : List Example
 editions =
     -- the six questions, by index; none where the index has no name
-    wideAre twelve gives isAccepted ∷
-    wideIs (label 0 2) twelve gives found 25 1 ∷
-    wideIs (label 0 3) twelve gives isNone ∷
-    wideIs (label 1 2) twelve gives isNone ∷
-    wideIs (TableName (record { 0 = 0 })) twelve gives found 37 1 ∷
-    wideIs (MemoryName (record { 0 = 0 })) twelve gives found 43 1 ∷
+    wideIs (label 0 2) "03 06 01 00 01 02 01 62" gives found 7 1 ∷
+    wideIs (label 0 3) "03 06 01 00 01 02 01 62" gives isNone ∷
+    wideIs (label 1 2) "03 06 01 00 01 02 01 62" gives isNone ∷
+    wideIs (TableName (record { 0 = 0 })) "05 04 01 00 01 54" gives found 5 1 ∷
+    wideIs (MemoryName (record { 0 = 0 })) "06 04 01 00 01 4D" gives found 5 1 ∷
+    wideIs (global 7) "07 04 01 07 01 67" gives found 5 1 ∷
+    wideIs (global 0) "07 04 01 07 01 67" gives isNone ∷
+    wideIs (ElementName (record { 0 = 1 })) "08 04 01 01 01 65" gives found 5 1 ∷
+    wideIs (dataSegment 2) "09 04 01 02 01 64" gives found 5 1 ∷
+    -- each at its own place among the twelve
     wideIs (global 7) twelve gives found 49 1 ∷
-    wideIs (global 0) twelve gives isNone ∷
-    wideIs (ElementName (record { 0 = 1 })) twelve gives found 55 1 ∷
     wideIs (dataSegment 2) twelve gives found 61 1 ∷
     -- the others as in the first edition
-    wideIs ModuleName twelve gives found 3 1 ∷
-    wideIs (function 0) twelve gives found 9 1 ∷
-    wideIs (localIn 0 0) twelve gives found 17 1 ∷
-    wideIs (TypeName (record { 0 = 1 })) twelve gives found 31 1 ∷
-    wideIs (FieldName (record { 0 = 1 }) (record { 0 = 3 })) twelve gives found 69 1 ∷
-    wideIs (tag 0) twelve gives found 75 1 ∷
+    wideIs ModuleName "00 02 01 6D" gives found 3 1 ∷
+    wideIs (function 3) P gives found 12 1 ∷
+    wideIs (localIn 3 0) P gives found 20 1 ∷
+    wideIs (TypeName (record { 0 = 1 })) "04 04 01 01 01 74" gives found 5 1 ∷
+    wideIs (FieldName (record { 0 = 1 }) (record { 0 = 3 })) "0A 06 01 01 01 03 01 78" gives found 7 1 ∷
+    wideIs (tag 0) "0B 04 01 00 01 65" gives found 5 1 ∷
     -- as kept the twelve are none, and the next is not; the first edition keeps six of them
-    wideIs (KeptContents 0) twelve gives isNone ∷
-    wideIs (KeptContents 3) twelve gives isNone ∷
-    wideIs (KeptContents 7) twelve gives isNone ∷
-    wideIs (KeptContents 9) twelve gives isNone ∷
+    wideIs (KeptContents 0) "00 02 01 6D" gives isNone ∷
+    wideIs (KeptContents 3) "03 06 01 00 01 02 01 62" gives isNone ∷
+    wideIs (KeptContents 7) "07 04 01 07 01 67" gives isNone ∷
+    wideIs (KeptContents 9) "09 04 01 02 01 64" gives isNone ∷
     wideIs (KeptContents 12) twelve gives found 78 1 ∷
-    answerIs (KeptContents 3) twelve gives found 20 6 ∷
+    answerIs (KeptContents 3) "03 06 01 00 01 02 01 62" gives found 2 6 ∷
     answerIs (KeptContents 7) twelve gives found 46 4 ∷
-    answerIs (global 7) twelve gives isNone ∷
+    answerIs (global 7) "07 04 01 07 01 67" gives isNone ∷
     -- an empty map of id 7 is dropped by the one and kept by the other
     wideCanonicalIs "07 01 00" gives bytes [] ∷
     canonicalIs "07 01 00" gives bytes (hex "07 01 00") ∷
@@ -383,7 +385,6 @@ editions =
     wideCanonicalIs "03 08 02 00 00 03 01 00 01 62" gives bytes (hex "03 06 01 03 01 00 01 62") ∷
     wideCanonicalIs "03 01 00" gives bytes [] ∷
     wideTold twelve gives yes ∷
-    wideCanonicalIs twelve gives bytes (hex twelve) ∷
     -- an empty name is found
     wideIs (global 0) "07 03 01 00 00" gives found 5 0 ∷
     -- where both refuse, number and place may differ; what the wider edition refuses the first may keep
@@ -402,7 +403,7 @@ editions =
     []
 
 pub editions-hold : map computed editions ≡ map stated editions
-unfolding editions computed stated yesNo yes not wideAre wideIs wideCanonicalIs wideTold namesAre answerIs canonicalIs namesTold label global dataSegment twelve tag function localIn hex digit of place same number groups shortest fewest utf8 characters character completes sized name remaining lookup size mapTable rows table known knownKind wider widerKind contents subsections payload judgeNames answer asked askAt ask writePart writeRows writeTable unlessEmpty keepRows bare writeContent writeSubsections rewriteNames canonicalNames isItsRewriting namesAreCanonical
+unfolding editions computed stated yesNo yes not wideAre wideIs wideCanonicalIs wideTold namesAre answerIs canonicalIs namesTold label global dataSegment twelve tag function localIn P hex digit of place same number groups shortest fewest utf8 characters character completes sized name remaining lookup size mapTable rows table known knownKind wider widerKind contents subsections payload judgeNames answer asked askAt ask writePart writeRows writeTable unlessEmpty keepRows bare writeContent writeSubsections rewriteNames canonicalNames isItsRewriting namesAreCanonical
 editions-hold = refl
 
 -- The listing
