@@ -21,7 +21,7 @@
  *    4  text is not UTF-8                                                   first byte of the text (from lists: where the name starts)
  *    5  section id above 13                                                 id byte
  *    6  section repeated or out of order                                    id byte
- *    7  second section `name` or `metadata.code.branch_hint`                its id byte
+ *    7  second section `name`, `metadata.code.branch_hint` or `branchHints`  its id byte
  *    8  data after `name`; hints after code                                 id byte of the later section
  *    9  subsection id not above the one before                              id byte
  *   10  bytes left over in a subsection or a metadata payload               first of them

@@ -1,16 +1,20 @@
 -- An arm of a match that binds nothing gives the tag alone: which case it is.
-use mathlib.Core.Path.{_≡_, refl}
+use Prim.Native.Nat.{ℕ, suc}
+use mathlib.Core.Path.{_≡_, refl, sym, ap, _∙_}
 use native.Mathlib.Omega.{arith}
 use borrow.Author.Needs.{needs}
 use denote.Enum.Declared.{tagOf}
 use Rattle.format.specs.declared.Answer.{Answer}
+use Rattle.format.specs.Refusals.{numberOf}
 use Rattle.format.specs.Verdicts.{refusalIn}
 use Rattle.format.specs.declared.Answer.the-variants.{None, Found, Refused as NotAnswered}
-use Rattle.format.specs.declared.Reason.the-variants.{NoPreamble}
+use Rattle.format.specs.declared.Reason.{Reason}
+use Rattle.format.specs.declared.Reason.the-variants.{NoPreamble, PastItsPart, NumberTooLarge, NotText, SectionUnknown, SectionOrder, SectionTwice, SectionTooLate, SubsectionOrder, LeftOver, NotAbove, NotHint, OutputTooShort, ListsDisagree, SubsectionTooLarge, InputTooLarge, NotZero}
 use Rattle.format.specs.declared.Refusal.{Refusal}
 use Rattle.format.specs.declared.Verdict.{Verdict}
 use Rattle.format.specs.declared.Verdict.the-variants.{Accepted, Refused}
 use Rattle.format.proofs.Answer as answer-type
+use Rattle.format.proofs.Reason as reason-type
 use Rattle.format.proofs.Verdict as verdict-type
 
 pub as-accepted : (v : Verdict) → tagOf verdict-type.the-type v ≡ 0 → v ≡ Accepted
@@ -33,3 +37,28 @@ pub no-answer : (a : Answer) → tagOf answer-type.the-type a ≡ 0 → a ≡ No
 no-answer None h = refl
 no-answer (Found p) h = absurd (omega arith)
 no-answer (NotAnswered r) h = absurd (omega arith)
+
+-- reasons are declared in the order of their numbers
+by-tag : (r : Reason) → numberOf r ≡ suc (tagOf reason-type.the-type r)
+by-tag NoPreamble = refl
+by-tag PastItsPart = refl
+by-tag NumberTooLarge = refl
+by-tag NotText = refl
+by-tag SectionUnknown = refl
+by-tag SectionOrder = refl
+by-tag SectionTwice = refl
+by-tag SectionTooLate = refl
+by-tag SubsectionOrder = refl
+by-tag LeftOver = refl
+by-tag NotAbove = refl
+by-tag NotHint = refl
+by-tag OutputTooShort = refl
+by-tag ListsDisagree = refl
+by-tag SubsectionTooLarge = refl
+by-tag InputTooLarge = refl
+by-tag NotZero = refl
+
+pub number-told : (r : Reason) (tag : ℕ) → tagOf reason-type.the-type r ≡ tag → suc tag ≡ numberOf r
+number-told r tag e = sym (by-tag r ∙ ap suc e)
+
+pub ruleset numbers-told = (number-told, needs)

@@ -18,6 +18,7 @@ use Rattle.format.specs.declared.Question.{Question}
 use Rattle.format.specs.declared.Question.the-variants.{ModuleName, LabelName, TypeName, TableName, MemoryName, GlobalName, ElementName, DataName, FieldName, TagName, KeptContents}
 use Rattle.format.specs.Metadata.{hintOf, anyItem, hintItem, metadata, judgeMetadata, itemAt, askMetadata, hintIn, askHint}
 use Rattle.format.specs.Canonical.{writePart, writeRows, writeTable, unlessEmpty, keepRows, bare, writeContent, writeSubsections, rewriteNames, canonicalNames, rewriteMetadata, canonicalOf, canonicalMetadata, canonicalHints}
+use Rattle.format.specs.Older.{times, vector, zeroByte, olderKind, olderHint, olderEntry, judgeOlder, firstAt, firstIn, askOlder, putFirst, amend, withHints, sortedFrom, writeOlderHints, writeOlder, notTooLong, canonicalOlder}
 use Rattle.format.specs.Telling.{asFew, isItsRewriting, namesAreCanonical, itemsAreCanonical}
 use Rattle.format.specs.Outputs.{fitting, writeAnswer, outputAfter}
 use Rattle.format.specs.Lists.{sum, listed, unsortedAt, badTextAt, subsection, functionNames}
@@ -203,9 +204,14 @@ modules =
     walkIs (customSection "name" "" ++ customSection "name" "") gives refusal 7 15 ∷
     walkIs (theHints "" ++ ordinary 10 "" ++ theHints "") gives refusal 7 38 ∷
     walkIs (ordinary 10 "" ++ theHints "") gives refusal 8 10 ∷
-    -- every custom name is judged; `branchHints` and a second `metadata.code.x` are ordinary custom sections
+    -- K2: `branchHints` is counted by itself, so a module may have both editions; it is 7 before 8 as well, and not after code
+    walkIs (customSection "branchHints" "" ++ theHints "") gives value 2 0 ∷
+    walkIs (customSection "branchHints" "" ++ theHints "" ++ customSection "branchHints" "") gives refusal 7 50 ∷
+    walkIs (customSection "branchHints" "" ++ ordinary 10 "" ++ customSection "branchHints" "") gives refusal 7 24 ∷
+    walkIs (ordinary 10 "" ++ customSection "branchHints" "") gives refusal 8 10 ∷
+    walkIs (customSection "branchHint" "" ++ customSection "branchHint" "") gives value 2 0 ∷
+    -- every custom name is judged; a second `metadata.code.x` is an ordinary custom section
     walkIs (0 ∷ 2 ∷ 1 ∷ 0xFF ∷ []) gives refusal 4 11 ∷
-    walkIs (ordinary 10 "" ++ customSection "branchHints" "" ++ customSection "branchHints" "") gives value 3 0 ∷
     walkIs (customSection "metadata.code.x" "" ++ customSection "metadata.code.x" "") gives value 2 0 ∷
     -- a section's name may have a padded length; the first of a name answers; none past the last
     payloadIs "x" (0 ∷ 5 ∷ 0x81 ∷ 0 ∷ 0x78 ∷ 7 ∷ 7 ∷ []) gives found 13 2 ∷
@@ -405,6 +411,62 @@ editions =
 pub editions-hold : map computed editions ≡ map stated editions
 unfolding editions computed stated yesNo yes not wideAre wideIs wideCanonicalIs wideTold namesAre answerIs canonicalIs namesTold label global dataSegment twelve tag function localIn P hex digit of place same number groups shortest fewest utf8 characters character completes sized name remaining lookup size mapTable rows table known knownKind wider widerKind contents subsections payload judgeNames answer asked askAt ask writePart writeRows writeTable unlessEmpty keepRows bare writeContent writeSubsections rewriteNames canonicalNames isItsRewriting namesAreCanonical
 editions-hold = refl
+
+-- K2: the older edition of hints
+olderAre : String → Result
+olderAre s = of (λ _. isAccepted) (judgeOlder 0 (hex s))
+
+olderIs : (function offset : ℕ) → String → Result
+olderIs f at s = of likelihood (askOlder (record { 0 = f }) (record { 0 = at }) 0 (hex s))
+
+olderCanonicalIs : String → Result
+olderCanonicalIs s = of bytes (canonicalOlder (hex s))
+
+pub older : List Example
+older =
+    -- one hint; none for another function or offset; an entry for a function without hints
+    olderIs 0 5 "01 00 00 01 01 05" gives isLikely ∷
+    olderIs 0 5 "01 00 00 01 00 05" gives isUnlikely ∷
+    olderIs 0 6 "01 00 00 01 01 05" gives isNone ∷
+    olderIs 1 5 "01 00 00 01 01 05" gives isNone ∷
+    olderIs 1 5 "01 01 00 00" gives isNone ∷
+    olderAre "00" gives isAccepted ∷
+    -- functions in any order; a pair twice with other kinds, in one entry and over two: the first answers
+    olderIs 1 2 "02 07 00 01 01 05 01 00 01 00 02" gives isUnlikely ∷
+    olderIs 0 5 "01 00 00 02 01 05 00 05" gives isLikely ∷
+    olderIs 0 5 "02 00 00 01 00 05 00 00 01 01 05" gives isUnlikely ∷
+    olderIs 0 6 "02 00 00 01 00 05 00 00 01 01 06" gives isLikely ∷
+    -- a padded kind is that kind
+    olderIs 0 5 "01 00 00 01 80 00 05" gives isUnlikely ∷
+    olderIs 0 5 "01 00 00 01 81 00 05" gives isLikely ∷
+    -- kind 2 with no offset behind it is 12, and not 2; a kind that cannot be read is 2 or 3
+    olderAre "01 00 00 01 02" gives refusal 12 4 ∷
+    olderAre "01 00 00 01 82 00" gives refusal 12 4 ∷
+    olderAre "01 00 00 01" gives refusal 2 4 ∷
+    olderAre "01 00 00 01 80 80 80 80 10" gives refusal 3 4 ∷
+    olderAre "01 00 00 01 01" gives refusal 2 5 ∷
+    -- the byte 80 in the place of 00 is 17; without it 2 at its place
+    olderAre "01 00 80 00 00" gives refusal 17 2 ∷
+    olderAre "01 00 01" gives refusal 17 2 ∷
+    olderAre "01 00" gives refusal 2 2 ∷
+    -- the count, a function, a list that runs out; a byte behind the list
+    olderAre "" gives refusal 2 0 ∷
+    olderAre "01" gives refusal 2 1 ∷
+    olderAre "02 00 00 00" gives refusal 2 4 ∷
+    olderAre "00 00" gives refusal 10 1 ∷
+    -- canonical: functions rising, each once; offsets rising, each once with the kind that answers; nothing left is 00
+    olderCanonicalIs "02 07 00 01 01 05 01 00 01 00 02" gives bytes (hex "02 01 00 01 00 02 07 00 01 01 05") ∷
+    olderCanonicalIs "01 00 00 02 01 05 01 05" gives bytes (hex "01 00 00 01 01 05") ∷
+    olderCanonicalIs "02 03 00 01 00 09 03 00 02 01 02 01 09" gives bytes (hex "01 03 00 02 01 02 00 09") ∷
+    olderCanonicalIs "02 00 00 00 07 00 00" gives bytes (hex "00") ∷
+    olderCanonicalIs "81 00 80 00 00 81 00 81 00 85 00" gives bytes (hex "01 00 00 01 01 05") ∷
+    -- the order is that of numbers: 128 is behind 5, though 80 01 begins with a smaller byte than 85 00 ends
+    olderCanonicalIs "01 00 00 02 00 80 01 01 05" gives bytes (hex "01 00 00 02 01 05 00 80 01") ∷
+    []
+
+pub older-hold : map computed older ≡ map stated older
+unfolding older computed stated olderAre olderIs olderCanonicalIs hex digit of likelihood number groups shortest fewest size writeTable writeRows times vector zeroByte olderKind olderHint olderEntry judgeOlder firstAt firstIn askOlder putFirst amend withHints sortedFrom writeOlderHints writeOlder notTooLong canonicalOlder
+older-hold = refl
 
 -- The listing
 pub listings : List Example

@@ -14,6 +14,7 @@ pub mod Holding
 pub mod Metadata
 pub mod Through
 pub mod Canonical
+pub mod Older
 pub mod Telling
 pub mod Forms
 pub mod Outputs

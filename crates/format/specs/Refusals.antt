@@ -1,7 +1,7 @@
 -- Refusal numbers: what each is given for. Where its offset points is said where it is given. Assumes nothing.
 use Prim.Native.Nat.{ℕ}
 use Rattle.format.specs.declared.Reason.{Reason}
-use Rattle.format.specs.declared.Reason.the-variants.{NoPreamble, PastItsPart, NumberTooLarge, NotText, SectionUnknown, SectionOrder, SectionTwice, SectionTooLate, SubsectionOrder, LeftOver, NotAbove, NotHint, OutputTooShort, ListsDisagree, SubsectionTooLarge, InputTooLarge}
+use Rattle.format.specs.declared.Reason.the-variants.{NoPreamble, PastItsPart, NumberTooLarge, NotText, SectionUnknown, SectionOrder, SectionTwice, SectionTooLate, SubsectionOrder, LeftOver, NotAbove, NotHint, OutputTooShort, ListsDisagree, SubsectionTooLarge, InputTooLarge, NotZero}
 
 abbrev pub numberOf : Reason → ℕ
 -- preamble missing or different
@@ -16,17 +16,17 @@ numberOf NotText = 4
 numberOf SectionUnknown = 5
 -- section repeated or out of order
 numberOf SectionOrder = 6
--- second `name` or `metadata.code.branch_hint`
+-- second `name`, `metadata.code.branch_hint` or `branchHints`
 numberOf SectionTwice = 7
 -- data after `name`; hints after code
 numberOf SectionTooLate = 8
 -- subsection id not above the one before
 numberOf SubsectionOrder = 9
--- bytes left over in a subsection or a metadata payload
+-- bytes left over in a subsection, a metadata payload or older hints
 numberOf LeftOver = 10
 -- index or offset not above the one before
 numberOf NotAbove = 11
--- hint of size other than 1, or data above 1
+-- hint of size other than 1, or data above 1; kind of an older hint above 1
 numberOf NotHint = 12
 -- output shorter than needed
 numberOf OutputTooShort = 13
@@ -36,3 +36,5 @@ numberOf ListsDisagree = 14
 numberOf SubsectionTooLarge = 15
 -- program input above 65,536 bytes
 numberOf InputTooLarge = 16
+-- the byte behind a function index of the older hints not zero
+numberOf NotZero = 17

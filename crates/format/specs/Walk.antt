@@ -79,6 +79,10 @@ branchHint = ascii "branch_hint"
 unfoldable pub hintSection : List ℕ
 hintSection = metadataPrefix ++ branchHint
 
+-- K2: "hints in a section called `branchHints`", the older edition's
+abbrev pub olderHintSection : List ℕ
+olderHintSection = ascii "branchHints"
+
 -- The custom sections that the walk tracks, a row each: what they are called, and whether they must stand before code
 pub record Tracked : Type 0 where
   pub name : List ℕ
@@ -88,6 +92,7 @@ abbrev pub tracked : List Tracked
 tracked =
     record { name = nameSection; beforeCode = false }
     ∷ record { name = hintSection; beforeCode = true }
+    ∷ record { name = olderHintSection; beforeCode = true }
     ∷ []
 
 -- the row of `name`; rows are counted from 0

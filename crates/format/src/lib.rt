@@ -31,6 +31,9 @@ pub struct DataIndex(pub u32);
 // Where in a function a piece of code metadata belongs: a byte offset within that function.
 pub struct CodeOffset(pub u32);
 
+// K2: the same counted from the function's first instruction, as the older edition of hints counts.
+pub struct InstructionOffset(pub u32);
+
 // By which table of ids a name payload is read: the specification's, or the extended name section's as well (K9).
 pub enum Edition {
     First,
@@ -88,7 +91,7 @@ pub const FIELD_NAMES: u8 = 10;
 
 pub const TAG_NAMES: u8 = 11;
 
-// Why an input is refused, in the order of the numbers 1 to 16.
+// Why an input is refused, in the order of the numbers 1 to 17.
 pub enum Reason {
     NoPreamble,
     PastItsPart,
@@ -106,6 +109,7 @@ pub enum Reason {
     ListsDisagree,
     SubsectionTooLarge,
     InputTooLarge,
+    NotZero,
 }
 
 pub struct Refusal {
@@ -186,6 +190,7 @@ impl Reason {
             Reason::ListsDisagree => 14,
             Reason::SubsectionTooLarge => 15,
             Reason::InputTooLarge => 16,
+            Reason::NotZero => 17,
         }
     }
 }

@@ -8,6 +8,7 @@ use Rattle.format.specs.Tables.{Table, mapTable}
 use Rattle.format.specs.Names.{Kind, Content, judgeNames}
 use Rattle.format.specs.Metadata.{judgeMetadata}
 use Rattle.format.specs.Canonical.{bare, bareItems}
+use Rattle.format.specs.Older.{OlderEntry, judgeOlder}
 use Rattle.format.specs.Walk.{Custom, Section, walk}
 use Rattle.grammar.specs.Modules.{Custom as BareCustom, Section as BareSection}
 
@@ -16,6 +17,10 @@ namesRead kindOf at p = mapJudged (mapTable bare) (judgeNames kindOf at p)
 
 abbrev pub metadataRead : Reader Part → ℕ → List ℕ → Judged (Table (Table (List ℕ)))
 metadataRead item at p = mapJudged bareItems (judgeMetadata item at p)
+
+-- older hints have no places to forget
+abbrev pub olderRead : ℕ → List ℕ → Judged (List OlderEntry)
+olderRead at p = mapJudged (λ v. v) (judgeOlder at p)
 
 abbrev pub bareCustom : Custom → BareCustom
 bareCustom c = record { name = c .name .bytes; payload = c .payload .bytes }

@@ -16,7 +16,8 @@ use Rattle.grammar.specs.Texts.{Text}
 use Rattle.grammar.specs.Names.{SourceIds, WiderIds, NamePayload}
 use Rattle.grammar.specs.Metadata.{CodeMetadata, Unknown, BranchHint}
 use Rattle.grammar.specs.Modules.{Module}
-use Rattle.grammar.specs.Forgetting.{namesRead, metadataRead, sectionsRead}
+use Rattle.grammar.specs.Older.{OlderHints}
+use Rattle.grammar.specs.Forgetting.{namesRead, metadataRead, olderRead, sectionsRead}
 use Rattle.grammar.specs.Laws.Judgements.{means-exactly, meaningless-exactly, means-one}
 use Rattle.grammar.specs.Laws.Numbers.{number-exactly, number-one-value}
 use Rattle.grammar.specs.Laws.CodePoints.{utf8-text, text-utf8, same-text}
@@ -26,6 +27,7 @@ use Rattle.grammar.specs.Ranges.{byRanges}
 use Rattle.grammar.specs.Laws.Encodings.{text-one-reading}
 use Rattle.grammar.specs.Laws.Names.{SameIds, source-ids, wider-ids, names-sound, names-complete}
 use Rattle.grammar.specs.Laws.Metadata.{any-exact, hint-exact, metadata-sound, metadata-complete}
+use Rattle.grammar.specs.Laws.Older.{older-sound, older-complete}
 use Rattle.grammar.specs.Laws.Modules.{walk-sound, walk-complete}
 
 -- "Unsigned 32-bit numbers are LEB128": a number is read exactly where the bytes begin with one, and it ends where the reading goes on.
@@ -78,6 +80,10 @@ metadata-exact at = exact (metadata-sound any-exact at) (metadata-complete any-e
 
 pub hints-exact : (at : ℕ) → Accepts (metadataRead hintItem at) (CodeMetadata BranchHint)
 hints-exact at = exact (metadata-sound hint-exact at) (metadata-complete hint-exact at)
+
+-- K2: hints of the older edition
+pub older-exact : (at : ℕ) → Accepts (olderRead at) OlderHints
+older-exact at = exact (older-sound at) (older-complete at)
 
 -- the frame of a module
 pub modules-exact : Accepts sectionsRead Module

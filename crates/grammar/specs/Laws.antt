@@ -8,6 +8,7 @@ pub mod Encodings
 pub mod Lists
 pub mod Names
 pub mod Metadata
+pub mod Older
 pub mod Ranks
 pub mod Rows
 pub mod Order

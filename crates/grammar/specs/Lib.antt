@@ -4,6 +4,7 @@ pub mod Ranges
 pub mod Lists
 pub mod Names
 pub mod Metadata
+pub mod Older
 pub mod Modules
 pub mod Forgetting
 pub mod Laws

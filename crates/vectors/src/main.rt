@@ -75,6 +75,20 @@ fn names() {
     say(b"text past its part", of_part(name(b"\x05\xFF\x61")));
 }
 
+// K2: the section of the older edition of hints.
+fn older_hints() {
+    say(
+        b"K2 a second branchHints",
+        of_count(walk::count(
+            b"\x00asm\x01\x00\x00\x00\x00\x0C\x0BbranchHints\x00\x0C\x0BbranchHints",
+        )),
+    );
+    say(
+        b"K2 branchHints after code",
+        of_count(walk::count(b"\x00asm\x01\x00\x00\x00\x0A\x00\x00\x0C\x0BbranchHints")),
+    );
+}
+
 fn modules() {
     let m =
         b"\x00asm\x01\x00\x00\x00\x00\x1A\x04name\x00\x02\x01\x6D\x01\x07\x02\x00\x01\x61\x03\x01\x62\x02\x06\x01\x03\x01\x00\x01\x78";
@@ -112,6 +126,7 @@ fn modules() {
         b"data after name",
         of_count(walk::count(b"\x00asm\x01\x00\x00\x00\x00\x05\x04name\x0B\x00")),
     );
+    older_hints();
     say(
         b"a module damaged behind the section asked for",
         of_answer(walk::custom(b"\x00asm\x01\x00\x00\x00\x00\x03\x01x\x01\x0E\x00", b"x")),

@@ -13,14 +13,19 @@ pub const METADATA: [u8; 14] = *b"metadata.code.";
 
 pub const BRANCH_HINT: [u8; 11] = *b"branch_hint";
 
+// K2: the section of the older edition of hints.
+pub const BRANCH_HINTS: [u8; 11] = *b"branchHints";
+
 // The rows, counted from 0.
 pub const NAME: u8 = 0;
 
 const HINTS: u8 = 1;
 
-const ROWS: usize = 2;
+const OLDER_HINTS: u8 = 2;
 
-pub const BEFORE_CODE: [bool; ROWS] = [false, true];
+const ROWS: usize = 3;
+
+pub const BEFORE_CODE: [bool; ROWS] = [false, true, true];
 
 // The row that a part of `s` is the name of.
 pub fn called(s: &[u8], part: Cursor) -> Called
@@ -32,6 +37,9 @@ pub fn called(s: &[u8], part: Cursor) -> Called
     }
     if is_joined(s, part, &METADATA, &BRANCH_HINT) {
         return Called::Row(HINTS);
+    }
+    if is_called(s, part, &BRANCH_HINTS) {
+        return Called::Row(OLDER_HINTS);
     }
     Called::Other
 }

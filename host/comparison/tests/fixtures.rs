@@ -8,7 +8,7 @@ use std::fs;
 use std::path::{Path, PathBuf};
 
 /// How many fixtures are committed, so that none is lost unseen: a module, and its listing.
-const MODULES: usize = 96;
+const MODULES: usize = 98;
 /// Those that the walk accepts, which have judgements of their payloads.
 const WITH_PAYLOADS: usize = 68;
 /// Their lines.

@@ -18,6 +18,9 @@ pub(crate) const NAMES: &[u8] = b"name";
 /// The name of the section that holds branch hints.
 pub(crate) const HINTS: &[u8] = b"metadata.code.branch_hint";
 
+/// The name of the section that holds hints of the older edition.
+const OLDER_HINTS: &[u8] = b"branchHints";
+
 /// The walk over a whole module. Found: the count of its sections as the length.
 pub fn walk(module: &[u8]) -> Answer {
     Answer::counted(count_sections(module))
@@ -94,6 +97,7 @@ struct Sections<'a> {
     seen_code: bool,
     seen_names: bool,
     seen_hints: bool,
+    seen_older_hints: bool,
 }
 
 impl<'a> Sections<'a> {
@@ -107,6 +111,7 @@ impl<'a> Sections<'a> {
             seen_code: false,
             seen_names: false,
             seen_hints: false,
+            seen_older_hints: false,
         })
     }
 
@@ -150,11 +155,20 @@ impl<'a> Sections<'a> {
             first_time(&mut self.seen_names, id_at)?;
         } else if name == HINTS {
             first_time(&mut self.seen_hints, id_at)?;
-            if self.seen_code {
-                return Err(Reason::TooLate.at(id_at));
-            }
+            self.before_code(id_at)?;
+        } else if name == OLDER_HINTS {
+            first_time(&mut self.seen_older_hints, id_at)?;
+            self.before_code(id_at)?;
         }
         Ok(Custom { name, payload })
+    }
+
+    /// Hints of either edition stand before the code that they are about.
+    fn before_code(&self, id_at: usize) -> Result<(), Refusal> {
+        if self.seen_code {
+            return Err(Reason::TooLate.at(id_at));
+        }
+        Ok(())
     }
 }
 

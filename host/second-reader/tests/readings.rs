@@ -123,20 +123,33 @@ fn r08_only_data_is_barred_after_names_and_only_hints_after_code() {
 
 #[test]
 fn r08_other_custom_sections_may_repeat_and_the_first_answers() {
-    let old = custom_section(b"branchHints", &[0xFF]);
     let code = plain_section(10, &[]);
     let first = custom_section(b"metadata.code.x", &[1, 0, 1, 7, 1, 9]);
     let second = custom_section(b"metadata.code.x", &[0xFF]);
-    let module = module(&[old.clone(), code, old, first, second]);
-    assert_eq!(walk(&module), found(0, 5));
-    assert_eq!(
-        bytes_of(&module, custom(&module, b"branchHints")),
-        Some(&[0xFF][..])
-    );
+    let module = module(&[code, first, second]);
+    assert_eq!(walk(&module), found(0, 3));
     assert_eq!(
         bytes_of(&module, metadata_in(&module, b"x", 0, 7)),
         Some(&[9][..])
     );
+}
+
+#[test]
+fn k2_older_hints_come_once_and_before_code_counted_by_themselves() {
+    let older = custom_section(b"branchHints", &[0xFF]);
+    let hints = custom_section(HINTS, &[0]);
+    let code = plain_section(10, &[]);
+    let both = module(&[hints.clone(), older.clone(), code.clone()]);
+    assert_eq!(walk(&both), found(0, 3));
+    assert_eq!(
+        bytes_of(&both, custom(&both, b"branchHints")),
+        Some(&[0xFF][..])
+    );
+    let twice = module(&[older.clone(), hints, older.clone()]);
+    assert_eq!(walk(&twice), refused(7, 52));
+    let seven_before_eight = module(&[older.clone(), code.clone(), older.clone()]);
+    assert_eq!(walk(&seven_before_eight), refused(7, 25));
+    assert_eq!(walk(&module(&[code, older])), refused(8, 10));
 }
 
 #[test]

@@ -31,7 +31,8 @@ pub enum Reason {
     SectionId = 5,
     /// 6: a section is repeated or out of order. The offset is that of its id.
     SectionOrder = 6,
-    /// 7: a second section `name` or `metadata.code.branch_hint`. The offset is that of its id.
+    /// 7: a second section `name`, `metadata.code.branch_hint` or `branchHints`. The offset is that of
+    /// its id.
     SecondSection = 7,
     /// 8: a data section after `name`, or branch hints after code. The offset is that of the later
     /// section's id.
@@ -171,7 +172,7 @@ impl fmt::Display for Reason {
             Reason::SectionId => "a section id is above 13",
             Reason::SectionOrder => "a section is repeated or out of order",
             Reason::SecondSection => {
-                "a section `name` or `metadata.code.branch_hint` is the second"
+                "a section `name`, `metadata.code.branch_hint` or `branchHints` is the second"
             }
             Reason::SectionTooLate => "a data section follows `name`, or branch hints follow code",
             Reason::SubsectionOrder => "a subsection id is not above the one before",

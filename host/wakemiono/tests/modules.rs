@@ -98,8 +98,11 @@ fn sections_that_come_once_or_not_so_late() {
     assert_eq!(walk_refused(&seven_before_eight), (7, 40));
     let second_runs_past = [name.clone(), vec![0, 9, 4], b"name".to_vec()];
     assert_eq!(walk_refused(&second_runs_past), (2, 16));
-    let others = [name, code, custom("branchHints", &[7])];
-    assert_eq!(Module::new(&module(&others)).section_count(), Ok(3));
+    let older = custom("branchHints", &[7]);
+    assert_eq!(walk_refused(&[code.clone(), older.clone()]), (8, 11));
+    assert_eq!(walk_refused(&[older.clone(), older.clone()]), (7, 23));
+    let others = [older, name, code, custom("metadata.code.x", &[7])];
+    assert_eq!(Module::new(&module(&others)).section_count(), Ok(4));
 }
 
 #[test]

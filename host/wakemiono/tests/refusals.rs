@@ -41,7 +41,7 @@ fn of_modules() {
     says(
         count(&module(&[custom("name", &[]), custom("name", &[])])),
         Reason::SecondSection,
-        "a section `name` or `metadata.code.branch_hint` is the second: its id stands at byte 0xF \
+        "a section `name`, `metadata.code.branch_hint` or `branchHints` is the second: its id stands at byte 0xF \
          (15)",
     );
     says(

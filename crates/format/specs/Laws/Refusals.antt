@@ -11,10 +11,10 @@ use Rattle.format.specs.declared.Refusal.{Refusal}
 use Rattle.format.specs.declared.Verdict.{Verdict}
 use Rattle.format.specs.declared.Verdict.the-variants.{Accepted, Refused}
 use Rattle.format.specs.declared.Reason.{Reason}
-use Rattle.format.specs.declared.Reason.the-variants.{NoPreamble, PastItsPart, NumberTooLarge, NotText, SectionUnknown, SectionOrder, SectionTwice, SectionTooLate, SubsectionOrder, LeftOver, NotAbove, NotHint, OutputTooShort, ListsDisagree, SubsectionTooLarge, InputTooLarge}
+use Rattle.format.specs.declared.Reason.the-variants.{NoPreamble, PastItsPart, NumberTooLarge, NotText, SectionUnknown, SectionOrder, SectionTwice, SectionTooLate, SubsectionOrder, LeftOver, NotAbove, NotHint, OutputTooShort, ListsDisagree, SubsectionTooLarge, InputTooLarge, NotZero}
 
 reasons : List Reason
-reasons = NoPreamble ∷ PastItsPart ∷ NumberTooLarge ∷ NotText ∷ SectionUnknown ∷ SectionOrder ∷ SectionTwice ∷ SectionTooLate ∷ SubsectionOrder ∷ LeftOver ∷ NotAbove ∷ NotHint ∷ OutputTooShort ∷ ListsDisagree ∷ SubsectionTooLarge ∷ InputTooLarge ∷ []
+reasons = NoPreamble ∷ PastItsPart ∷ NumberTooLarge ∷ NotText ∷ SectionUnknown ∷ SectionOrder ∷ SectionTwice ∷ SectionTooLate ∷ SubsectionOrder ∷ LeftOver ∷ NotAbove ∷ NotHint ∷ OutputTooShort ∷ ListsDisagree ∷ SubsectionTooLarge ∷ InputTooLarge ∷ NotZero ∷ []
 
 -- the reason with a number, counted from 1
 numbered : ℕ → Reason
@@ -38,6 +38,7 @@ numbered-is OutputTooShort = refl
 numbered-is ListsDisagree = refl
 numbered-is SubsectionTooLarge = refl
 numbered-is InputTooLarge = refl
+numbered-is NotZero = refl
 
 pub told-apart : (r s : Reason) → numberOf r ≡ numberOf s → r ≡ s
 told-apart r s e = sym (numbered-is r) ∙ ap numbered e ∙ numbered-is s

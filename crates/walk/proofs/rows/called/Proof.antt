@@ -27,9 +27,19 @@ returns-2 : tie.Need-returns-2
 unfolding ascii nameSection hintSection
 returns-2 c = search rows-compared
 
+slice-aggregate-is-called-2 : tie.Need-slice-aggregate-is-called-2
+slice-aggregate-is-called-2 c = search rows-compared
+
+is-called-requires-2 : tie.Need-is-called-requires-2
+is-called-requires-2 c κs = search rows-compared
+
 returns-3 : tie.Need-returns-3
 unfolding ascii nameSection hintSection
 returns-3 c = search rows-compared
+
+returns-4 : tie.Need-returns-4
+unfolding ascii nameSection hintSection
+returns-4 c = search rows-compared
 
 pub called-spec : {M : Type 1} → statement M
 called-spec =
@@ -42,4 +52,7 @@ called-spec =
     slice-aggregate-is-joined-2
     is-joined-requires
     returns-2
-    returns-3)
+    slice-aggregate-is-called-2
+    is-called-requires-2
+    returns-3
+    returns-4)
