@@ -8,6 +8,7 @@ pub mod Walk
 pub mod Lists
 pub mod Names
 pub mod Metadata
+pub mod Older
 pub mod Rewrite
 pub mod Through
 pub mod Wakemiono
