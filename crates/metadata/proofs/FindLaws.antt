@@ -1,26 +1,23 @@
 -- What a search of both lists says of the payload that they must fill: its judgement.
-use Prim.Native.Nat.{ℕ, suc, _≤_, _<_}
+use Prim.Native.Nat.{ℕ, _≤_, _<_}
 use mathlib.Core.List.{List, [], _∷_}
 use mathlib.Core.Option.{Option}
-use mathlib.Core.Path.{_≡_, sym, ap}
-use native.Mathlib.Omega.{arith}
+use mathlib.Core.Path.{_≡_, sym}
 use borrow.Author.Needs.{needs}
 use borrow.Author.Tests.{ltb-true, ltb-false, le-ltb, lt-ltb}
 use lib.Dec.{ltb}
-use lib.ListN.{getD}
-use lib.Seq.{slice, slice-cons, slice-empty}
 use Rattle.format.specs.Reading.{got, stop, Reader, accepted, refused}
-use Rattle.format.specs.Options.{thenSome}
 use Rattle.format.specs.Parts.{Part}
 use Rattle.format.specs.Tables.{table}
 use Rattle.format.specs.Metadata.{metadata, judgeMetadata}
-use Rattle.format.specs.Laws.Outcomes.{not-got, got-value, got-next, got-rest, byOutcome, byTest, stop-refused}
+use Rattle.format.specs.Laws.Outcomes.{byTest, filling-stops, filling-fills, filling-leaves}
 use Rattle.format.specs.declared.Reason.the-variants.{LeftOver}
 use Rattle.format.specs.declared.Refusal.{Refusal}
+use Rattle.reading.proofs.Laws.{nothing-left, something-left}
 use Rattle.reading.specs.Cursors.{Inside, left}
 use Rattle.reading.specs.declared.Cursor.{Cursor}
 use Rattle.tables.specs.Finding.{heldInside}
-use Rattle.tables.specs.Seeking.{wantedIn, soughtWithin, Seeks}
+use Rattle.tables.specs.Seeking.{soughtWithin, Seeks}
 use Rattle.tables.specs.declared.Wanted.{Wanted}
 use Rattle.tables.specs.declared.Seek.{Seek}
 use Rattle.tables.specs.declared.Seek.the-variants.{None as NoPart, Found as SeekPart, Refused as NoSeek}
@@ -36,30 +33,15 @@ use Rattle.format.specs.declared.Verdict.the-variants.{Accepted}
 module _ (value : Reader Part) (f at : Wanted) (o : ℕ) (bs : List ℕ) where
   sought-stops : {n p : ℕ} → soughtWithin value f at o bs ≡ stop n p → wantedOf value f at o bs ≡ refused n p
   unfolding soughtWithin wantedOf judgeMetadata metadata
-  sought-stops e =
-      byOutcome (table (table value) o bs)
-      (λ t o₁ r₁ q. absurd (not-got (sym (rw q at e))))
-      (λ n p q. rw q (stop-refused (rw q at e)))
+  sought-stops e = filling-stops _ (table (table value) o bs) e
 
   sought-fills : {x : Option Part} {o′ : ℕ} → soughtWithin value f at o bs ≡ got x o′ [] → wantedOf value f at o bs ≡ accepted x
   unfolding soughtWithin wantedOf judgeMetadata metadata
-  sought-fills {x} {o′} e =
-      byOutcome (table (table value) o bs)
-      (λ t o₁ r₁ q. let e′ : got (thenSome (wantedIn f t) (wantedIn at)) o₁ r₁ ≡ got x o′ [] = rw q at e in rw (q, got-rest e′) (ap accepted (got-value e′)))
-      (λ n p q. absurd (not-got (rw q at e)))
+  sought-fills e = filling-fills _ (table (table value) o bs) e
 
   sought-leaves : {x : Option Part} {o′ b : ℕ} {rest : List ℕ} → soughtWithin value f at o bs ≡ got x o′ (b ∷ rest) → wantedOf value f at o bs ≡ refused 10 o′
   unfolding soughtWithin wantedOf judgeMetadata metadata
-  sought-leaves {x} {o′} {b} {rest} e =
-      byOutcome (table (table value) o bs)
-      (λ t o₁ r₁ q. let e′ : got (thenSome (wantedIn f t) (wantedIn at)) o₁ r₁ ≡ got x o′ (b ∷ rest) = rw q at e in rw (q, got-rest e′, got-next e′))
-      (λ n p q. absurd (not-got (rw q at e)))
-
-nothing-left : {s : List ℕ} {c : Cursor} → Inside s c → c .end ≤ c .at → left s c ≡ []
-nothing-left {s} {c} i h = let e : c .at ≡ c .end = omega (arith, i .ahead) in rw (e, slice-empty)
-
-something-left : {s : List ℕ} {c : Cursor} → Inside s c → c .at < c .end → left s c ≡ getD s (c .at) 0 ∷ slice (suc (c .at)) (c .end) s
-something-left {s} {c} i h = slice-cons (c .at) (c .end) s 0 h (i .within)
+  sought-leaves e = filling-leaves _ (table (table value) o bs) e
 
 -- nothing behind the lists, or something
 module _ (held : Held) {next : Cursor} where

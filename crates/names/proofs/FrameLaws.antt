@@ -17,6 +17,7 @@ use Rattle.format.specs.Questions.{answerIn, answer, asked}
 use Rattle.format.specs.declared.Query.{Query}
 use Rattle.format.specs.Laws.Outcomes.{not-got, got-value, got-next, got-rest, byTest, byOutcome, inTurn, judged, mapped, accepted-is}
 use Rattle.format.specs.Laws.Options.{not-some, some-is, byOption}
+use Rattle.format.specs.Laws.Options.{or-none}
 use Rattle.format.specs.Laws.Tables.{lookup-map}
 use Rattle.names.specs.Contents.{asksIn}
 use Rattle.names.specs.Frames.{Headed, frame, onward, each, frames, judgeFrames, readUnder, looked, subsection}
@@ -28,10 +29,6 @@ partAt part j held r = andThen r (λ t. return (orElse held (mapSome part (looku
 -- what is held behind one more
 abbrev pub holding : ℕ → Option Part → ℕ → Part → Option Part
 holding j held id p = orElse held (cond (eqb j id) (some p) none)
-
-pub or-none : (x : Option Part) → orElse x none ≡ x
-or-none none = refl
-or-none (some v) = refl
 
 module _ {A : Type 0} (one : ℕ → Reader (Option (Headed A))) (part : A → Part) (j : ℕ) where
   abbrev pub behind : Option Part → ℕ → Option (Headed A) → Reader (Option Part)

@@ -19,6 +19,7 @@ use Rattle.format.specs.Verdicts.{verdictOf}
 use Rattle.format.specs.Parts.{Part}
 use Rattle.format.specs.Tables.{Table, lookup, mapTable}
 use Rattle.format.specs.Names.{Kind, kept, payload, judgeNames}
+use Rattle.format.specs.Laws.Options.{or-none}
 use Rattle.format.specs.Laws.Editions.{by-kind}
 use Rattle.format.specs.Laws.Outcomes.{not-got, got-value, byTest, inTurn, judged}
 use Rattle.format.specs.Laws.Tables.{lookup-map}
@@ -38,7 +39,7 @@ use Rattle.names.proofs.frames.FrameRead as frame-type
 use Rattle.names.proofs.FrameSteps.{as-end}
 use Rattle.names.proofs.PlaceLaws.{Placed, edition-placed, put-here, put-kept, put-elsewhere, put-inside, put-long, nothing-there, unless-known}
 use Rattle.names.proofs.Verdicts.{verdict-is}
-use Rattle.names.proofs.FrameLaws.{partAt, holding, or-none, behind, Framed, framed, subsections-framed, framed-parts, behindJudged, judged-turn, frame-turn}
+use Rattle.names.proofs.FrameLaws.{partAt, holding, behind, Framed, framed, subsections-framed, framed-parts, behindJudged, judged-turn, frame-turn}
 
 -- what stops a search stops the reading
 stopped : {A : Type 0} (part : A → Part) (j : ℕ) (r : Outcome (Table A)) {n at : ℕ} → partAt part j none r ≡ stop n at → r ≡ stop n at

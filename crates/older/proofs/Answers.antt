@@ -1,8 +1,8 @@
 -- What a search of the whole payload answers.
-use Prim.Native.Nat.{ℕ, suc, _≤_, _<_}
+use Prim.Native.Nat.{ℕ, _≤_, _<_}
 use mathlib.Core.List.{List, [], _∷_}
 use mathlib.Core.Option.{Option}
-use mathlib.Core.Path.{_≡_, refl, sym, ap, _∙_}
+use mathlib.Core.Path.{_≡_, refl, sym, _∙_}
 use borrow.Author.Needs.{needs}
 use borrow.Author.Tests.{ltb-true, ltb-false, le-ltb, lt-ltb}
 use native.Mathlib.Omega.{arith}
@@ -10,7 +10,7 @@ use lib.Dec.{ltb}
 use Rattle.format.specs.Reading.{got, stop, accepted, refused, verdict}
 use Rattle.format.specs.Metadata.{hintAnswered}
 use Rattle.format.specs.Older.{vector, olderEntry, judgeOlder, firstIn, askOlder}
-use Rattle.format.specs.Laws.Outcomes.{not-got, got-value, got-next, got-rest, byOutcome, byTest, stop-refused, mapped, refused-exactly}
+use Rattle.format.specs.Laws.Outcomes.{byTest, mapped, refused-exactly, filling-stops, filling-fills, filling-leaves}
 use Rattle.format.specs.Verdicts.{verdictOf}
 use Rattle.format.specs.declared.FunctionIndex.{FunctionIndex}
 use Rattle.format.specs.declared.Hint.{Hint}
@@ -21,7 +21,7 @@ use Rattle.format.specs.declared.Reason.the-variants.{LeftOver}
 use Rattle.format.specs.declared.Refusal.{Refusal}
 use Rattle.format.specs.declared.Verdict.{Verdict}
 use Rattle.format.specs.declared.Verdict.the-variants.{Accepted, Refused}
-use Rattle.reading.proofs.Laws.{left-all, over-inside}
+use Rattle.reading.proofs.Laws.{nothing-left, something-left, left-all, over-inside}
 use Rattle.reading.specs.Cursors.{Inside, overAll, left}
 use Rattle.reading.specs.declared.Cursor.{Cursor}
 use Rattle.older.specs.Seeking.{asked, heldOf, answerOf, filledWith, Seeks}
@@ -29,7 +29,6 @@ use Rattle.older.specs.declared.Held.{Held}
 use Rattle.older.specs.declared.Held.the-variants.{Nothing, Hint as AHint}
 use Rattle.older.specs.declared.Seek.{Seek}
 use Rattle.older.specs.declared.Seek.the-variants.{Behind, Refused as NoSeek}
-use Rattle.older.proofs.Steps.{nothing-left, something-left}
 
 -- nothing behind the entries, or something
 module _ {held : Held} {next : Cursor} where
@@ -48,24 +47,15 @@ pub ruleset fillings = (fills-none, fills-found, leaves-over, needs)
 module _ (f : FunctionIndex) (at : InstructionOffset) (o : ℕ) (bs : List ℕ) where
   sought-stops : {n p : ℕ} → asked (firstIn (f .0) (at .0)) (vector olderEntry) o bs ≡ stop n p → askOlder f at o bs ≡ refused n p
   unfolding asked askOlder judgeOlder
-  sought-stops e =
-      byOutcome (vector olderEntry o bs)
-      (λ t o₁ r₁ q. absurd (not-got (sym (rw q at e))))
-      (λ n p q. rw q (stop-refused (rw q at e)))
+  sought-stops e = filling-stops _ (vector olderEntry o bs) e
 
   sought-fills : {x : Option Hint} {o′ : ℕ} → asked (firstIn (f .0) (at .0)) (vector olderEntry) o bs ≡ got x o′ [] → askOlder f at o bs ≡ accepted x
   unfolding asked askOlder judgeOlder
-  sought-fills {x} {o′} e =
-      byOutcome (vector olderEntry o bs)
-      (λ t o₁ r₁ q. let e′ : got (firstIn (f .0) (at .0) t) o₁ r₁ ≡ got x o′ [] = rw q at e in rw (q, got-rest e′) (ap accepted (got-value e′)))
-      (λ n p q. absurd (not-got (rw q at e)))
+  sought-fills e = filling-fills _ (vector olderEntry o bs) e
 
   sought-leaves : {x : Option Hint} {o′ b : ℕ} {rest : List ℕ} → asked (firstIn (f .0) (at .0)) (vector olderEntry) o bs ≡ got x o′ (b ∷ rest) → askOlder f at o bs ≡ refused 10 o′
   unfolding asked askOlder judgeOlder
-  sought-leaves {x} {o′} {b} {rest} e =
-      byOutcome (vector olderEntry o bs)
-      (λ t o₁ r₁ q. let e′ : got (firstIn (f .0) (at .0) t) o₁ r₁ ≡ got x o′ (b ∷ rest) = rw q at e in rw (q, got-rest e′, got-next e′))
-      (λ n p q. absurd (not-got (rw q at e)))
+  sought-leaves e = filling-leaves _ (vector olderEntry o bs) e
 
 answer-means : (held : Held) → hintAnswered (answerOf held) ≡ accepted (heldOf held)
 answer-means Nothing = refl

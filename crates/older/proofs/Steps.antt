@@ -1,21 +1,20 @@
 -- What each step of judging and asking does with what it read.
 use Prim.Native.Nat.{ℕ, zero, suc, _+_, _-_, _≤_, _<_}
 use mathlib.Core.Bool.{Bool, cond}
-use mathlib.Core.List.{List, [], _∷_}
-use mathlib.Core.Option.{Option, none, some}
-use mathlib.Core.Path.{_≡_, refl, sym, ap, _∙_}
+use mathlib.Core.List.{List}
+use mathlib.Core.Option.{Option, none}
+use mathlib.Core.Path.{_≡_, refl, sym, _∙_}
 use native.Mathlib.Numerals.{add-one}
 use native.Mathlib.Omega.{arith}
 use borrow.Author.Needs.{needs}
-use borrow.Author.Tests.{eq-eqb, ne-eqb, le-leb, lt-leb, lt-ltb, le-ltb}
+use borrow.Author.Tests.{eq-eqb, ne-eqb, le-leb, lt-leb}
 use lib.Dec.{eqb}
 use lib.ListN.{length, getD}
-use lib.Seq.{slice, slice-cons, slice-empty}
-use Rattle.format.specs.Reading.{Outcome, got, stop, Reader, andThen}
+use Rattle.format.specs.Reading.{got, Reader, andThen}
 use Rattle.format.specs.Numbers.{number}
 use Rattle.format.specs.Options.{orElse}
-use Rattle.format.specs.Older.{OlderHint, OlderEntry, times, vector, zeroByte, kindNumbered, olderKind, olderHint, olderEntry, firstAt}
-use Rattle.format.specs.Laws.Outcomes.{not-got, byTest, byOutcome}
+use Rattle.format.specs.Older.{times, vector, zeroByte, kindNumbered, olderKind, olderHint, olderEntry, firstAt}
+use Rattle.format.specs.Laws.Outcomes.{byTest, byOutcome}
 use Rattle.format.specs.declared.Hint.{Hint}
 use Rattle.format.specs.declared.Hint.the-variants.{Unlikely, Likely}
 use Rattle.format.specs.declared.Reason.the-variants.{PastItsPart, NotHint, NotZero}
@@ -24,7 +23,7 @@ use Rattle.reading.specs.Cursors.{Inside, left, NumberReads}
 use Rattle.reading.specs.declared.Cursor.{Cursor}
 use Rattle.reading.specs.declared.NumberRead.{NumberRead}
 use Rattle.reading.specs.declared.NumberRead.the-variants.{Value, Refused as NoNumber}
-use Rattle.reading.proofs.Laws.{number-means, number-inside, number-end}
+use Rattle.reading.proofs.Laws.{number-means, number-inside, number-end, nothing-left, something-left}
 use Rattle.older.specs.Seeking.{atOffset, inFunction, asked, opening, heldOf, firstHeld, heldWhere, heldAs, Reads, Seeks}
 use Rattle.older.specs.declared.Held.{Held}
 use Rattle.older.specs.declared.Held.the-variants.{Nothing, Hint as AHint}
@@ -123,12 +122,6 @@ module _ {s : List ℕ} {c : Cursor} (wanted : ℕ) {x : NumberRead} (n : Reads 
 pub ruleset hint-steps = (hint-no-kind, hint-no-offset, hint-read, read-inside, needs)
 
 -- An entry's function and its zero byte
-pub nothing-left : {s : List ℕ} {c : Cursor} → Inside s c → c .end ≤ c .at → left s c ≡ []
-nothing-left {s} {c} i h = let e : c .at ≡ c .end = omega (arith, i .ahead) in rw (e, slice-empty)
-
-pub something-left : {s : List ℕ} {c : Cursor} → Inside s c → c .at < c .end → left s c ≡ getD s (c .at) 0 ∷ slice (suc (c .at)) (c .end) s
-something-left {s} {c} i h = slice-cons (c .at) (c .end) s 0 h (i .within)
-
 module _ {s : List ℕ} {c : Cursor} {x : NumberRead} (n : NumberReads s c x) where
   pub opening-refused : {r : Refusal} → x ≡ NoNumber r → Reads (λ f. f) opening s c (NoNumber r)
   unfolding opening

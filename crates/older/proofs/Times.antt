@@ -1,25 +1,17 @@
 -- A list in any order, as a search passes it: it holds what was found first, and each thing read leaves those after it. Nothing here is about code.
 use Prim.Native.Nat.{ℕ, zero, suc, _-_, _≤_, _<_}
-use mathlib.Core.Bool.{cond}
 use mathlib.Core.List.{List, [], _∷_}
-use mathlib.Core.Option.{Option, none, some}
+use mathlib.Core.Option.{Option, none}
 use mathlib.Core.Path.{_≡_, refl}
 use native.Mathlib.Omega.{arith}
 use lib.Dec.{eqb}
 use Rattle.format.specs.Reading.{Outcome, got, stop, Reader, andThen, return}
 use Rattle.format.specs.Options.{orElse}
-use Rattle.format.specs.Older.{OlderHint, OlderEntry, times, firstAt, firstIn}
+use Rattle.format.specs.Older.{times, firstAt, firstIn}
+use Rattle.format.specs.Laws.Options.{or-none, or-else}
 use Rattle.format.specs.Laws.Outcomes.{byTest, byOutcome}
 use Rattle.format.specs.declared.Hint.{Hint}
 use Rattle.older.specs.Seeking.{atOffset, inFunction, asked}
-
-or-none : {A : Type 0} (x : Option A) → orElse x none ≡ x
-or-none none = refl
-or-none (some v) = refl
-
-or-else : {A : Type 0} (x y z : Option A) → orElse (orElse x y) z ≡ orElse x (orElse y z)
-or-else none y z = refl
-or-else (some v) y z = refl
 
 -- a list answers with the first answer of what it has
 pub record Firsts {A : Type 0} (each : A → Option Hint) (all : List A → Option Hint) : Type 0 where

@@ -1,13 +1,13 @@
 -- Laws for callers: a reading stays inside its part and moves forward, and a part that was read lies where it says. Callers cite these and never open a definition of reading.
 use Prim.Native.Nat.{ℕ, suc, _-_, _≤_, _<_}
 use mathlib.Core.Bool.{Bool}
-use mathlib.Core.List.{List, _∷_, append-assoc}
+use mathlib.Core.List.{List, [], _∷_, append-assoc}
 use mathlib.Core.Path.{_≡_, refl, sym, ap, _∙_}
 use native.Mathlib.Omega.{arith}
 use borrow.Author.Tests.{ltb-true, ltb-false}
 use lib.Dec.{ltb}
-use lib.ListN.{length, take, drop, take-append-drop}
-use lib.Seq.{slice, slice-cons, length-slice, length-take-le, take-length}
+use lib.ListN.{length, getD, take, drop, take-append-drop}
+use lib.Seq.{slice, slice-cons, slice-empty, length-slice, length-take-le, take-length}
 use Rattle.format.specs.Reading.{got, Reader}
 use Rattle.format.specs.Numbers.{number, shortest}
 use Rattle.format.specs.Parts.{sized, name}
@@ -126,6 +126,13 @@ lies-left {s} {c} i = record {
   joined = rw (← append-assoc (take (c .at) (take (c .end) s)) (drop (c .at) (take (c .end) s)) (drop (c .end) s), take-append-drop, take-append-drop);
   far = length-take-le (c .at) (take (c .end) s) (omega (arith, length-take-le (c .end) s (i .within), i .ahead));
 }
+
+-- nothing is left at the end, and a byte before it
+pub nothing-left : {s : List ℕ} {c : Cursor} → Inside s c → c .end ≤ c .at → left s c ≡ []
+nothing-left {s} {c} i h = let e : c .at ≡ c .end = omega (arith, i .ahead) in rw (e, slice-empty)
+
+pub something-left : {s : List ℕ} {c : Cursor} → Inside s c → c .at < c .end → left s c ≡ getD s (c .at) 0 ∷ slice (suc (c .at)) (c .end) s
+something-left {s} {c} i h = slice-cons (c .at) (c .end) s 0 h (i .within)
 
 -- the cursor over all that was lent lies in it, and has all of it left
 pub left-all : (s : List ℕ) → slice 0 (length s) s ≡ s

@@ -13,6 +13,7 @@ use Rattle.format.specs.Parts.{Part}
 use Rattle.format.specs.Tables.{Table, row, lookup, rows}
 use Rattle.format.specs.Options.{thenSome, orElse}
 use Rattle.format.specs.Laws.Outcomes.{got-value, byTest, byOutcome}
+use Rattle.format.specs.Laws.Options.{or-none}
 use Rattle.format.specs.Laws.Codecs.{number-sound}
 use Rattle.format.specs.Laws.Turns.{inRow}
 use Rattle.tables.specs.Steps.{indexFrom, Passed, passing}
@@ -20,10 +21,6 @@ use Rattle.tables.specs.Steps.{indexFrom, Passed, passing}
 pub then-some : {A : Type 0} (x : Option A) → thenSome x some ≡ x
 then-some none = refl
 then-some (some v) = refl
-
-or-none : {A : Type 0} (x : Option A) → orElse x none ≡ x
-or-none none = refl
-or-none (some v) = refl
 
 -- no row has a number below the least
 pub rows-above : {A : Type 0} (value : Reader A) (n least o : ℕ) (bs : List ℕ) {t : Table A} {o′ : ℕ} {rest : List ℕ} (key : ℕ) → rows value n least o bs ≡ got t o′ rest → key < least → lookup key t ≡ none

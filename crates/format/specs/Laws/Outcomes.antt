@@ -5,7 +5,7 @@ use mathlib.Core.List.{List, [], _∷_}
 use mathlib.Core.Logic.{_↔_}
 use mathlib.Core.Path.{_≡_, refl, sym, ap, _∙_}
 use native.Mathlib.Omega.{arith}
-use Rattle.format.specs.Reading.{Outcome, got, stop, Reader, andThen, _>>_, checked, atEnd, Judged, accepted, refused, judge, judgedThen, mapJudged}
+use Rattle.format.specs.Reading.{Outcome, got, stop, Reader, andThen, return, _>>_, checked, atEnd, Judged, accepted, refused, judge, judgedThen, mapJudged}
 use Rattle.format.specs.Parts.{goOn}
 use Rattle.format.specs.declared.Reason.{Reason}
 
@@ -105,3 +105,16 @@ refused-exactly f (refused n at) = (again, again)
 -- a refusal is the same of whatever was read
 pub stop-refused : {A B : Type 0} {n n′ at at′ : ℕ} → _≡_ {A = Outcome A} (stop n at) (stop n′ at′) → _≡_ {A = Judged B} (refused n at) (refused n′ at′)
 stop-refused e = cc
+
+-- what must fill what it is given, asked: by what was read and answered
+pub filling-stops : {A B : Type 0} (ask : A → B) (r : Outcome A) {n at : ℕ} → andThen r (λ v. return (ask v)) ≡ stop n at → mapJudged ask (judge (andThen r atEnd)) ≡ refused n at
+filling-stops ask (got v o bs) e = absurd (not-got (sym e))
+filling-stops ask (stop n at) e = stop-refused e
+
+pub filling-fills : {A B : Type 0} (ask : A → B) (r : Outcome A) {x : B} {o : ℕ} → andThen r (λ v. return (ask v)) ≡ got x o [] → mapJudged ask (judge (andThen r atEnd)) ≡ accepted x
+filling-fills ask (got v o bs) e = rw (got-rest e) (ap accepted (got-value e))
+filling-fills ask (stop n at) e = absurd (not-got e)
+
+pub filling-leaves : {A B : Type 0} (ask : A → B) (r : Outcome A) {x : B} {o b : ℕ} {rest : List ℕ} → andThen r (λ v. return (ask v)) ≡ got x o (b ∷ rest) → mapJudged ask (judge (andThen r atEnd)) ≡ refused 10 o
+filling-leaves ask (got v o bs) e = rw (got-rest e, got-next e)
+filling-leaves ask (stop n at) e = absurd (not-got e)
