@@ -15,7 +15,15 @@ pub mod Trimming
 pub mod Answers
 pub mod CanonicalNames
 pub mod CanonicalMetadata
+pub mod Vectors
+pub mod OlderEntries
+pub mod OlderTables
+pub mod OlderSorted
+pub mod OlderShorter
+pub mod OlderInOrder
+pub mod CanonicalOlder
 pub mod Unchanged
+pub mod UnchangedOlder
 pub mod Telling
 pub mod TellingNames
 pub mod TellingItems

@@ -15,6 +15,7 @@ pub mod Metadata
 pub mod Through
 pub mod Canonical
 pub mod Older
+pub mod OlderInOrder
 pub mod Telling
 pub mod Forms
 pub mod Outputs

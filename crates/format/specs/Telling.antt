@@ -9,6 +9,7 @@ use Rattle.format.specs.Reading.{Reader, Judged, accepted, refused}
 use Rattle.format.specs.Parts.{Part}
 use Rattle.format.specs.Names.{Kind}
 use Rattle.format.specs.Canonical.{canonicalNames, canonicalOf}
+use Rattle.format.specs.Older.{canonicalOlder}
 
 -- "The number reader should also say whether the number took its fewest bytes." What was read, of which `rest` is left, took as many bytes as a form of it has; the form of a number is `shortest`
 abbrev pub asFew : (form rest bs : List ℕ) → Bool
@@ -24,3 +25,7 @@ namesAreCanonical kindOf bs = isItsRewriting (canonicalNames kindOf bs) bs
 
 unfoldable pub itemsAreCanonical : Reader Part → List ℕ → Bool
 itemsAreCanonical item bs = isItsRewriting (canonicalOf item bs) bs
+
+-- K2: and of the older edition of hints
+unfoldable pub olderIsCanonical : List ℕ → Bool
+olderIsCanonical bs = isItsRewriting (canonicalOlder bs) bs

@@ -1,5 +1,6 @@
 -- What users of the library demand, as types, each under the sentence that it comes from; below each stands its proof, by the laws that it rests on. Here they are said of the definitions; the crates above say them again of their calls.
 use Prim.Native.Nat.{ℕ, _+_, _≤_, _<_}
+use mathlib.Core.Bool.{true}
 use mathlib.Core.List.{List, _++_}
 use mathlib.Core.Logic.{_↔_, Iff·trans}
 use mathlib.Core.Option.{Option, none, some}
@@ -22,6 +23,8 @@ use Rattle.format.specs.Walk.{preamble, Section, walk, nameSection, bran
 use Rattle.format.specs.Metadata.{dataOf, anyItem, hintItem, judgeMetadata, itemAt, askMetadata, hintIn, askHint}
 use Rattle.format.specs.Through.{through, askThrough, metadataSection, itemOf, askMetadataThrough, askHintThrough}
 use Rattle.format.specs.Canonical.{bare, bareItems, rewriteNames, canonicalNames, rewriteMetadata, canonicalOf, canonicalMetadata, canonicalHints, writePart}
+use Rattle.format.specs.Older.{judgeOlder, askOlder, writeOlder, canonicalOlder}
+use Rattle.format.specs.OlderInOrder.{risingEntries}
 use Rattle.format.specs.Lists.{Indices, functionNames}
 use Rattle.format.specs.Laws.Outcomes.{accepted-exactly, refused-exactly}
 use Rattle.format.specs.Laws.Codecs.{Codec, number-sound, number-back, any-codec, hint-codec}
@@ -35,9 +38,12 @@ use Rattle.format.specs.Laws.Questions.{AllPosed, all-posed, posed-told}
 use Rattle.format.specs.Laws.CanonicalNames.{told-is, canonical-is, canonical-accepted, canonical-stays, rewriting-canonical, rewriting-told, rewriting-shorter, same-answers, same-rewriting}
 use Rattle.format.specs.Laws.CanonicalMetadata.{items-whole, item-told, items-canonical-is, items-accepted, items-told, items-again, items-shorter, same-items}
 use Rattle.format.specs.Laws.Hints.{hint-exactly, no-hint-exactly, same-hints, hints-told}
+use Rattle.format.specs.Laws.CanonicalOlder.{inOrder, order-shorter, older-canonical-is, rewriting, older-accepted, older-told, older-shorter, older-again, same-older}
+use Rattle.format.specs.Laws.UnchangedOlder.{older-rises}
 use Rattle.format.specs.Laws.Lists.{written, listed-told, other-told, lists-stay}
 use Rattle.format.specs.declared.FunctionIndex.{FunctionIndex}
 use Rattle.format.specs.declared.CodeOffset.{CodeOffset}
+use Rattle.format.specs.declared.InstructionOffset.{InstructionOffset}
 use Rattle.format.specs.declared.Hint.{Hint}
 
 -- Numbers. "Each number in its fewest bytes": they read back, and nothing shorter does.
@@ -77,6 +83,12 @@ module _ {A Q R : Type 0} (judgement : List ℕ → Judged A) (rewriting : List 
     pub same-exactly : {x y : List ℕ} → Bytes x → Bytes y → Accepted judgement x → Accepted judgement y → (rewriting x ≡ rewriting y) ↔ ((q : Q) → Allows q → answer q x ≡ answer q y)
     pub accepts : {p : List ℕ} → Accepted judgement p → (x : List ℕ) × (rewriting p ≡ accepted x)
     pub rewritten : {p : List ℕ} (a : Accepted judgement p) (x : List ℕ) → rewriting p ≡ accepted x → Rewritten p x
+
+  -- Demand 3 for hints of the older edition. "A canonical rewriting, also sorted by function and offset, shadowed hints dropped, one entry per function. Demand 3 holds for it, with its own rule and questions; a payload whose rewriting is refused 15 has none, and demand 3 leaves it out." Only a payload of more than 4,294,967,295 bytes can have none.
+  pub record RewritesUnlessLong : Type 0 where
+    pub same-exactly : (x y : List ℕ) {v w : List ℕ} → rewriting x ≡ accepted v → rewriting y ≡ accepted w → (v ≡ w) ↔ ((q : Q) → Allows q → answer q x ≡ answer q y)
+    pub accepts : {p : List ℕ} → Accepted judgement p → length p < limit32 → (x : List ℕ) × (rewriting p ≡ accepted x)
+    pub rewritten : (p : List ℕ) {x : List ℕ} → rewriting p ≡ accepted x → Rewritten p x
 
 -- Demand 2 for hints. "For hints it is none, likely, unlikely or a refusal."
 pub record AnswersHints : Type 0 where
@@ -247,6 +259,32 @@ hints-rewritten = let any = metadata-rewritten hint-codec in record {
     comes-to-rest = r .comes-to-rest;
   };
 }
+
+-- Hints of the older edition; what is asked is a function and an instruction's offset
+abbrev pub OlderQuestion : Type 0
+OlderQuestion = FunctionIndex × InstructionOffset
+
+abbrev pub OlderInRange : OlderQuestion → Type 0
+OlderInRange q = (q .0 .0 < limit32) × (q .1 .0 < limit32)
+
+abbrev pub olderTold : OlderQuestion → List ℕ → Judged (Option Hint)
+olderTold q p = askOlder (q .0) (q .1) 0 p
+
+pub older-rewritten : RewritesUnlessLong (judgeOlder 0) canonicalOlder olderTold OlderInRange
+older-rewritten = record {
+  same-exactly = λ x y c d. let h = same-older (rewriting c) (rewriting d) in (λ e q l. h .0 e (q .0) (q .1) (l .0) (l .1), λ k. h .1 (λ f at l m. k (f, at) (l, m)));
+  accepts = λ a l. (writeOlder (inOrder a), older-canonical-is a (omega (arith, order-shorter a)));
+  rewritten = λ p c. let r = rewriting c in record {
+    is-accepted = older-accepted r;
+    answers-alike = λ q. older-told r (q .0) (q .1);
+    never-longer = older-shorter r;
+    comes-to-rest = older-again r;
+  };
+}
+
+-- "sorted by function and offset, shadowed hints dropped, one entry per function": in what is written each function is above the one before, and so is each of its offsets
+pub older-in-order : (p : List ℕ) {x : List ℕ} → canonicalOlder p ≡ accepted x → (a : Accepted (judgeOlder 0) x) → risingEntries 0 (a .value) ≡ true
+older-in-order p c a = older-rises a (older-again (rewriting c))
 
 -- Through a module; for metadata what is asked is a format, a function and an offset
 pub names-through : (kindOf : ℕ → Kind) → AnswersThrough (λ _. nameSection) (askAt kindOf) (askThrough kindOf)

@@ -6,14 +6,16 @@ use mathlib.Core.Option.{Option, none, some}
 use Rattle.format.specs.Bytes.{same}
 use Rattle.format.specs.Reading.{Reader, Judged, accepted, judgedThen}
 use Rattle.format.specs.Parts.{Part}
-use Rattle.format.specs.Walk.{nameSection, metadataPrefix, branchHint, hintSection, customPayload}
+use Rattle.format.specs.Walk.{nameSection, metadataPrefix, branchHint, hintSection, olderHintSection, customPayload}
 use Rattle.format.specs.Names.{Kind}
 use Rattle.format.specs.Questions.{askAt}
 use Rattle.format.specs.declared.Question.{Question}
 use Rattle.format.specs.Metadata.{anyItem, hintItem, askMetadata, askHint}
 use Rattle.format.specs.declared.FunctionIndex.{FunctionIndex}
+use Rattle.format.specs.Older.{askOlder}
 use Rattle.format.specs.declared.CodeOffset.{CodeOffset}
 use Rattle.format.specs.declared.Hint.{Hint}
+use Rattle.format.specs.declared.InstructionOffset.{InstructionOffset}
 
 abbrev pub orNone : {A : Type 0} → Option Part → (ℕ → List ℕ → Judged (Option A)) → Judged (Option A)
 orNone none question = accepted none
@@ -38,3 +40,7 @@ askMetadataThrough format f at m = through (metadataSection format) (askMetadata
 
 unfoldable pub askHintThrough : FunctionIndex → CodeOffset → List ℕ → Judged (Option Hint)
 askHintThrough f at m = through hintSection (askHint f at) m
+
+-- K2: the older edition is asked apart, in a section of its own
+unfoldable pub askOlderThrough : FunctionIndex → InstructionOffset → List ℕ → Judged (Option Hint)
+askOlderThrough f at m = through olderHintSection (askOlder f at) m

@@ -1,16 +1,15 @@
 -- Answers: in bytes they are the bytes of the part that is answered; what may not be asked gets none; the document's questions are exactly those that its table allows.
-use Prim.Native.Nat.{ℕ, zero, suc, _≤_, _<_}
+use Prim.Native.Nat.{ℕ, zero, suc, _<_}
 use mathlib.Core.List.{List, [], _∷_}
 use mathlib.Core.Logic.{_↔_}
 use mathlib.Core.Option.{Option, none, some}
 use mathlib.Core.Path.{_≡_, refl, sym, ap}
 use native.Mathlib.Omega.{arith}
-use borrow.Author.Tests.{ltb-true, ltb-false, eqb-true}
-use lib.Dec.{ltb, eqb}
+use borrow.Author.Tests.{eqb-true}
+use lib.Dec.{eqb}
 use lib.ListN.{length}
 use Rattle.format.specs.Bytes.{Bytes}
 use Rattle.format.specs.Reading.{got, Judged, accepted, refused, Accepted}
-use Rattle.format.specs.Numbers.{limit32}
 use Rattle.format.specs.Options.{mapSome}
 use Rattle.format.specs.Parts.{Part, placeOf}
 use Rattle.format.specs.Tables.{Table, row, lookup, mapTable}
@@ -25,8 +24,8 @@ use Rattle.format.specs.Laws.Options.{not-some, some-is, byOption}
 use Rattle.format.specs.Laws.Refusals.{same-judgement}
 use Rattle.format.specs.Laws.Turns.{inSubsection}
 use Rattle.format.specs.Laws.Passing.{sized-passes, bytes-step}
-use Rattle.format.specs.Laws.Codecs.{Sorted, RowFine}
 use Rattle.format.specs.Laws.Tables.{lookup-map, lookup-fine}
+use Rattle.format.specs.Laws.Groups.{in-range-or-none}
 use Rattle.format.specs.Laws.Names.{ContentFine, singleFine, namesFine, namesByFine, wholeFine, payload-sound}
 use Rattle.format.specs.declared.HintAnswer.{HintAnswer}
 use Rattle.format.specs.declared.HintAnswer.the-variants.{None as NoHint, Found as AHint, Refused as NotHinted}
@@ -64,10 +63,6 @@ told-none (accepted none) = (λ e. refl, λ e. refl)
 told-none (accepted (some p)) = (λ e. absurd (not-some (sym (accepted-is e))), λ e. absurd (not-some (sym (accepted-is e))))
 told-none (refused n at) = (λ e. absurd (not-accepted e), λ e. absurd (not-accepted e))
 
--- a number that no row has because it does not fit
-pub too-large : {A : Type 0} {Fine : A → Type 0} {t : Table A} {least : ℕ} (k : ℕ) → Sorted (RowFine Fine) least t → limit32 ≤ k → lookup k t ≡ none
-too-large {t} k s h = byOption (lookup k t) (λ e. e) (λ v e. absurd (omega (arith, lookup-fine k s e .0)))
-
 -- what is asked of a subsection is allowed, or gets none
 asked-or-none {ℓ} : {C : Type ℓ} (kindOf : ℕ → Kind) (id : ℕ) (q : Query) {k : Kind} {c : Content (List ℕ)} → id < 256 → kindOf id ≡ k → ContentFine k c → (Allowed kindOf id q → C) → (answerIn q c ≡ none → C) → C
 asked-or-none kindOf id ItsName b e (singleFine h) f g = f (anId e)
@@ -75,18 +70,13 @@ asked-or-none kindOf id ItsName b e (namesFine h) f g = g refl
 asked-or-none kindOf id ItsName b e (namesByFine h) f g = g refl
 asked-or-none kindOf id ItsName b e wholeFine f g = g refl
 asked-or-none kindOf id (NameOf k) b e (singleFine h) f g = g refl
-asked-or-none kindOf id (NameOf k) b e (namesFine h) f g =
-    byTest (ltb k limit32) (λ t. f (anIndex e (ltb-true k limit32 t))) (λ t. g (too-large k (h .sorted) (ltb-false k limit32 t)))
+asked-or-none kindOf id (NameOf k) b e (namesFine {t = t} h) f g = byOption (lookup k t) g (λ v n. f (anIndex e (lookup-fine k (h .sorted) n .0)))
 asked-or-none kindOf id (NameOf k) b e (namesByFine h) f g = g refl
 asked-or-none kindOf id (NameOf k) b e wholeFine f g = g refl
 asked-or-none kindOf id (NameWithin k j) b e (singleFine h) f g = g refl
 asked-or-none kindOf id (NameWithin k j) b e (namesFine h) f g = g refl
 asked-or-none kindOf id (NameWithin k j) b e (namesByFine {t = t} h) f g =
-    byOption (lookup k t)
-    (λ n. g (rw n))
-    (λ u n. byTest (ltb j limit32)
-    (λ s. f (twoIndices e (lookup-fine k (h .sorted) n .0) (ltb-true j limit32 s)))
-    (λ s. g (rw n (too-large j (lookup-fine k (h .sorted) n .1 .sorted) (ltb-false j limit32 s)))))
+    in-range-or-none (λ _ u p. (p .0, p .1 .sorted)) (λ _ x p. p .0) (h .sorted) k j (λ l m. f (twoIndices e l m)) g
 asked-or-none kindOf id (NameWithin k j) b e wholeFine f g = g refl
 asked-or-none kindOf id ItsContents b e (singleFine h) f g = g refl
 asked-or-none kindOf id ItsContents b e (namesFine h) f g = g refl

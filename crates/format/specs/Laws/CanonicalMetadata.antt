@@ -5,8 +5,6 @@ use mathlib.Core.Logic.{_↔_}
 use mathlib.Core.Option.{none}
 use mathlib.Core.Path.{_≡_, sym, ap, _∙_}
 use native.Mathlib.Omega.{arith}
-use borrow.Author.Tests.{ltb-true, ltb-false}
-use lib.Dec.{ltb}
 use lib.ListN.{length}
 use Rattle.format.specs.Reading.{Reader, accepted, Accepted}
 use Rattle.format.specs.Numbers.{limit32}
@@ -16,12 +14,11 @@ use Rattle.format.specs.Tables.{Table, lookup, mapTable}
 use Rattle.format.specs.Questions.{asTold}
 use Rattle.format.specs.Metadata.{metadata, judgeMetadata, itemAt, askMetadata}
 use Rattle.format.specs.Canonical.{bareItems, unlessEmpty, keepRows, writePart, writeTable, rewriteMetadata, canonicalOf}
-use Rattle.format.specs.Laws.Outcomes.{accepted-is, byTest, judged}
+use Rattle.format.specs.Laws.Outcomes.{accepted-is, judged}
 use Rattle.format.specs.Laws.Options.{byOption}
 use Rattle.format.specs.Laws.Codecs.{Codec, Sound, TableFine, table-codec, fill-sound, fill-back}
-use Rattle.format.specs.Laws.Tables.{lookup-map, lookup-fine}
-use Rattle.format.specs.Laws.Groups.{groups-answer, groups-shorter, groups-norm, groups-fine, groups-stay, groups-sure}
-use Rattle.format.specs.Laws.Answers.{too-large}
+use Rattle.format.specs.Laws.Tables.{lookup-map}
+use Rattle.format.specs.Laws.Groups.{groups-answer, in-range-or-none, groups-shorter, groups-norm, groups-fine, groups-stay, groups-sure}
 use Rattle.format.specs.declared.FunctionIndex.{FunctionIndex}
 use Rattle.format.specs.declared.CodeOffset.{CodeOffset}
 
@@ -78,14 +75,8 @@ module _ {item : Reader Part} {Fine : List ℕ → Type 0} (codec : Codec item (
   items-shorter a = omega (arith, groups-shorter (writeTable writePart) (items-whole a .fine .sorted), items-whole a .shorter)
 
   -- an index or an offset of more than 32 bits gets none
-  in-range-or-none {ℓ} : {C : Type ℓ} {bs : List ℕ} (a : AcceptedItems bs) (k j : ℕ) → (k < limit32 → j < limit32 → C) → (thenSome (lookup k (items a)) (lookup j) ≡ none → C) → C
-  in-range-or-none a k j f g =
-      let s = items-whole a .fine .sorted in
-      byOption (lookup k (items a))
-      (λ n. g (rw n))
-      (λ u n. let h = lookup-fine k s n in byTest (ltb j limit32)
-      (λ t. f (h .0) (ltb-true j limit32 t))
-      (λ t. g (rw n (too-large j (h .1 .sorted) (ltb-false j limit32 t)))))
+  asked-or-none {ℓ} : {C : Type ℓ} {bs : List ℕ} (a : AcceptedItems bs) (k j : ℕ) → (k < limit32 → j < limit32 → C) → (thenSome (lookup k (items a)) (lookup j) ≡ none → C) → C
+  asked-or-none a k j f g = in-range-or-none (λ _ u p. (p .0, p .1 .sorted)) (λ _ x p. p .0) (items-whole a .fine .sorted) k j f g
 
   -- two payloads have one rewriting exactly where every question gets the same answer
   pub same-items : {x y : List ℕ} (a : AcceptedItems x) (b : AcceptedItems y) → (canonicalOf item x ≡ canonicalOf item y) ↔ ((f : FunctionIndex) (at : CodeOffset) → f .0 < limit32 → at .0 < limit32 → asTold (askMetadata item f at 0 x) ≡ asTold (askMetadata item f at 0 y))
@@ -103,7 +94,7 @@ module _ {item : Reader Part} {Fine : List ℕ → Type 0} (codec : Codec item (
       alike : Same → (k j : ℕ) → thenSome (lookup k (items a)) (lookup j) ≡ thenSome (lookup k (items b)) (lookup j)
       alike h k j =
           let told : k < limit32 → j < limit32 → thenSome (lookup k (items a)) (lookup j) ≡ thenSome (lookup k (items b)) (lookup j) = λ l m. accepted-is (sym (item-told a (record { 0 = k }) (record { 0 = j })) ∙ h (record { 0 = k }) (record { 0 = j }) l m ∙ item-told b (record { 0 = k }) (record { 0 = j })) in
-          in-range-or-none a k j told (λ n. in-range-or-none b k j told (λ m. n ∙ sym m))
+          asked-or-none a k j told (λ n. asked-or-none b k j told (λ m. n ∙ sym m))
 
       from : Same → canonicalOf item x ≡ canonicalOf item y
       from h =

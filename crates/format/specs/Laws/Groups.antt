@@ -1,7 +1,7 @@
 -- Tables of tables, as an indirect map and code metadata are: leaving out what has no rows.
 use Prim.Native.Nat.{ℕ, _≤_}
 use mathlib.Core.List.{List}
-use mathlib.Core.Option.{Option, some}
+use mathlib.Core.Option.{Option, none, some}
 use mathlib.Core.Path.{_≡_}
 use native.Mathlib.Omega.{arith}
 use lib.ListN.{length, length-append}
@@ -9,13 +9,20 @@ use Rattle.format.specs.Options.{thenSome}
 use Rattle.format.specs.Tables.{Table, size, lookup}
 use Rattle.format.specs.Canonical.{unlessEmpty, keepRows, writeTable}
 use Rattle.format.specs.Laws.Numbers.{shortest-mono}
-use Rattle.format.specs.Laws.Options.{byOption}
-use Rattle.format.specs.Laws.Codecs.{Sorted, RowFine, TableFine}
-use Rattle.format.specs.Laws.Tables.{lookup-keep, sorted-keep, size-keep, keep-all, sorted-imp, same-lookups, NonEmpty, kept-rows, keep-rows, lookup-kept, row-found, table-sure, table-loud, rows-shorter}
+use Rattle.format.specs.Laws.Options.{inThen, byOption}
+use Rattle.format.specs.Laws.Codecs.{Fits32, Sorted, RowFine, TableFine}
+use Rattle.format.specs.Laws.Tables.{lookup-fine, lookup-keep, sorted-keep, size-keep, keep-all, sorted-imp, same-lookups, NonEmpty, kept-rows, keep-rows, lookup-kept, row-found, table-sure, table-loud, rows-shorter}
 
 -- every answer is kept
 pub groups-answer : {B : Type 0} {P : ℕ → Table B → Type 0} {t : Table (Table B)} {lo : ℕ} → Sorted P lo t → (k j : ℕ) → thenSome (lookup k (keepRows unlessEmpty t)) (lookup j) ≡ thenSome (lookup k t) (lookup j)
 groups-answer {t = t} s k j = rw (lookup-keep unlessEmpty k s) (byOption (lookup k t) (λ e. rw e) (λ u e. rw e (lookup-kept j u)))
+
+-- a number of more than 32 bits gets none
+pub in-range-or-none {ℓ} : {C : Type ℓ} {B : Type 0} {P : ℕ → Table B → Type 0} {Q : ℕ → B → Type 0} → ((k : ℕ) (u : Table B) → P k u → Fits32 k × Sorted Q 0 u) → ((j : ℕ) (x : B) → Q j x → Fits32 j) → {t : Table (Table B)} {lo : ℕ} → Sorted P lo t → (k j : ℕ) → (Fits32 k → Fits32 j → C) → (thenSome (lookup k t) (lookup j) ≡ none → C) → C
+in-range-or-none group fits {t} s k j f g =
+    byOption (thenSome (lookup k t) (lookup j))
+    g
+    (λ x e. inThen (lookup k t) (lookup j) e λ u e₁ e₂. let h = group k u (lookup-fine k s e₁) in f (h .0) (fits j x (lookup-fine j (h .1) e₂)))
 
 -- nothing gets longer
 table-shorter : {A B : Type 0} (f : A → Option B) (write : A → List ℕ) (write′ : B → List ℕ) {P : ℕ → A → Type 0} → ((k : ℕ) (v : A) (w : B) → P k v → f v ≡ some w → length (write′ w) ≤ length (write v)) → {t : Table A} {lo : ℕ} → Sorted P lo t → length (writeTable write′ (keepRows f t)) ≤ length (writeTable write t)

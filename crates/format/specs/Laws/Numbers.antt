@@ -1,4 +1,4 @@
--- Numbers: what is read has 32 bits and is no shorter than its fewest bytes, and as long only where it is these; the fewest bytes read back; a smaller number takes no more bytes.
+-- Numbers: what is read has 32 bits and is no shorter than its fewest bytes, and as long only where it is these; the fewest bytes read back; a smaller number takes no more bytes, and a sum no more than both.
 use Prim.Native.Nat.{ℕ, zero, suc, _+_, _*_, _%_, _/_, _≤_, _<_}
 use mathlib.Core.List.{List, [], _∷_, _++_}
 use mathlib.Core.Path.{_≡_, refl, ap, ap₂}
@@ -86,3 +86,27 @@ shortest-mono m n h = fewest-mono 4 m n h
 pub shortest-positive : (v : ℕ) → 0 < length (shortest v)
 unfolding shortest
 shortest-positive v = fewest-positive 4 v
+
+-- the sum of two numbers takes no more bytes than both
+fewest-one : (k : ℕ) → length (fewest k 1) ≡ 1
+unfolding fewest
+fewest-one zero = refl
+fewest-one (suc k) = refl
+
+fewest-sum : (k m n : ℕ) → length (fewest k (m + n)) ≤ length (fewest k m) + length (fewest k n)
+unfolding fewest
+fewest-sum zero m n = omega arith
+fewest-sum (suc k) m n =
+    byTest (ltb (m + n) 128)
+    (λ t. rw t (omega (arith, fewest-positive (suc k) m)))
+    (λ t. rw t (byTest (ltb m 128)
+    (λ a. rw a (byTest (ltb n 128)
+    (λ b. rw b (omega (arith, ltb-true m 128 a, ltb-true n 128 b, fewest-one k, fewest-mono k ((m + n) / 128) 1 (omega (arith, ltb-true m 128 a, ltb-true n 128 b)))))
+    (λ b. rw b (omega (arith, fewest-one k, fewest-sum k (n / 128) 1, fewest-mono k ((m + n) / 128) (n / 128 + 1) (omega (arith, ltb-true m 128 a)))))))
+    (λ a. rw a (byTest (ltb n 128)
+    (λ b. rw b (omega (arith, fewest-one k, fewest-sum k (m / 128) 1, fewest-mono k ((m + n) / 128) (m / 128 + 1) (omega (arith, ltb-true n 128 b)))))
+    (λ b. rw b (omega (arith, fewest-one k, fewest-sum k (m / 128) (n / 128), fewest-sum k (m / 128 + n / 128) 1, fewest-mono k ((m + n) / 128) (m / 128 + n / 128 + 1) (omega arith))))))))
+
+pub shortest-sum : (m n : ℕ) → length (shortest (m + n)) ≤ length (shortest m) + length (shortest n)
+unfolding shortest
+shortest-sum m n = fewest-sum 4 m n

@@ -40,7 +40,7 @@ module _ {B : Type 0} (write : Table B → List ℕ) where
       (λ w n. let is = kept-rows v n .0 in
       rw (n, ← is) (ap (row k v) (rows-stay s (omega (arith, rw (n, ← is) at long, row-length k v t, row-length k v (keepRows unlessEmpty t))))))
 
-  groups-unchanged : {P : ℕ → Table B → Type 0} {t : Table (Table B)} {least : ℕ} → Sorted P least t → length (writeTable write (keepRows unlessEmpty t)) ≡ length (writeTable write t) → keepRows unlessEmpty t ≡ t
+  pub groups-unchanged : {P : ℕ → Table B → Type 0} {t : Table (Table B)} {least : ℕ} → Sorted P least t → length (writeTable write (keepRows unlessEmpty t)) ≡ length (writeTable write t) → keepRows unlessEmpty t ≡ t
   unfolding writeTable
   groups-unchanged {t = t} s long =
       let kept : Table (Table B) = keepRows unlessEmpty t in
