@@ -70,9 +70,6 @@ first-means (AHint h) answer = refl
 
 -- What was read as a number
 module _ {A : Type 0} {value : ℕ → A} {read : Reader A} {s : List ℕ} {c : Cursor} {x : NumberRead} (n : Reads value read s c x) where
-  pub stopped-so : {r : Refusal} → x ≡ NoNumber r → Reads value read s c (NoNumber r)
-  stopped-so e = rw e at n
-
   module _ {v : ℕ} {next : Cursor} {told : Bool} (e : x ≡ Value v next told) where
     read-means : read (c .at) (left s c) ≡ got (value v) (next .at) (left s next)
     read-means = sym (rw e at (n .means))

@@ -1,2 +1,3 @@
 pub mod Seeking
+pub mod Again
 pub mod Promises

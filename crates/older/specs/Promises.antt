@@ -11,7 +11,12 @@ use Rattle.format.specs.declared.HintAnswer.{HintAnswer}
 use Rattle.format.specs.declared.InstructionOffset.{InstructionOffset}
 use Rattle.format.specs.declared.Verdict.{Verdict}
 use Rattle.reading.specs.Cursors.{left}
+use Rattle.reading.specs.Standing.{Stands}
 use Rattle.reading.specs.declared.Cursor.{Cursor}
+use Rattle.reading.specs.declared.again.Number.{Number}
+use Rattle.older.specs.Again.{StandsHint}
+use Rattle.older.specs.Seeking.{opening}
+use Rattle.older.specs.declared.again.HintHere.{HintHere}
 
 -- older
 abbrev pub older-hint-in : (s : List ℕ) (c : Cursor) (f : FunctionIndex) (at : InstructionOffset) → HintAnswer → Type 0
@@ -25,3 +30,10 @@ older-judge p r = verdictOf r ≡ verdict (judgeOlder 0 p)
 
 abbrev pub older-hint : (p : List ℕ) (f : FunctionIndex) (at : InstructionOffset) → HintAnswer → Type 0
 older-hint p f at r = hintAnswered r ≡ askOlder f at 0 p
+
+-- older::again
+abbrev pub older-hint-here : (c : Cursor) (s : List ℕ) → HintHere → Type 0
+older-hint-here c s r = StandsHint s c r
+
+abbrev pub older-function-here : (c : Cursor) (s : List ℕ) → Number → Type 0
+older-function-here c s r = Stands opening s c (r .value) (r .next)

@@ -15,6 +15,8 @@ use format::Verdict;
 use reading::Cursor;
 use reading::NumberRead;
 
+pub mod again;
+
 // A kind is 0 for unlikely or 1 for likely.
 const UNLIKELY: u32 = 0;
 

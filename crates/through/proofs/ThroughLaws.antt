@@ -15,8 +15,9 @@ use Rattle.format.specs.Names.{Kind}
 use Rattle.format.specs.Questions.{askAt, asPlace, answered}
 use Rattle.format.specs.declared.Question.{Question}
 use Rattle.format.specs.Metadata.{askMetadata, askHint, hintAnswered}
-use Rattle.format.specs.Through.{through, askThrough, metadataSection, itemOf, askMetadataThrough, askHintThrough}
-use Rattle.format.specs.Walk.{nameSection, branchHint, hintSection, customPayload}
+use Rattle.format.specs.Older.{askOlder}
+use Rattle.format.specs.Through.{through, askThrough, metadataSection, itemOf, askMetadataThrough, askHintThrough, askOlderThrough}
+use Rattle.format.specs.Walk.{nameSection, branchHint, hintSection, olderHintSection, customPayload}
 use Rattle.format.specs.Laws.Answers.{place-none, place-found, place-refused}
 use Rattle.format.specs.Laws.Found.{payload-lies}
 use Rattle.format.specs.Laws.Outcomes.{byTest}
@@ -25,8 +26,10 @@ use Rattle.format.specs.declared.Answer.{Answer}
 use Rattle.format.specs.declared.Answer.the-variants.{None, Found, Refused}
 use Rattle.format.specs.declared.CodeOffset.{CodeOffset}
 use Rattle.format.specs.declared.FunctionIndex.{FunctionIndex}
+use Rattle.format.specs.declared.Hint.{Hint}
 use Rattle.format.specs.declared.HintAnswer.{HintAnswer}
 use Rattle.format.specs.declared.HintAnswer.the-variants.{None as NoHint, Refused as NotHinted}
+use Rattle.format.specs.declared.InstructionOffset.{InstructionOffset}
 use Rattle.format.specs.declared.Place.{Place}
 use Rattle.format.specs.declared.Refusal.{Refusal}
 use Rattle.format.proofs.Answer as answer-type
@@ -102,18 +105,46 @@ module _ (format : List ℕ) (f : FunctionIndex) (at : CodeOffset) (m : List ℕ
 
 pub ruleset metadata-questions = (payload-inside, cursor-inside, data-not-there, data-there, needs)
 
--- Hints
-module _ (f : FunctionIndex) (at : CodeOffset) (m : List ℕ) (a : Answer) (e : answered a ≡ asPlace (customPayload hintSection m)) where
-  pub hint-refused : {r : Refusal} → a ≡ Refused r → hintAnswered (NotHinted r) ≡ askHintThrough f at m
-  unfolding askHintThrough through
-  hint-refused is = rw (place-refused (customPayload hintSection m) (rw is at e))
+-- Hints of an edition: its section, and its question
+module _ (x m : List ℕ) (question : ℕ → List ℕ → Judged (Option Hint)) (a : Answer) (e : answered a ≡ asPlace (customPayload x m)) where
+  hint-refused : {r : Refusal} → a ≡ Refused r → hintAnswered (NotHinted r) ≡ through x question m
+  unfolding through
+  hint-refused is = rw (place-refused (customPayload x m) (rw is at e))
 
-  pub hint-none : tagOf answer-type.the-type a ≡ 0 → hintAnswered NoHint ≡ askHintThrough f at m
-  unfolding askHintThrough through
-  hint-none h = rw (place-none (customPayload hintSection m) (rw (no-answer a h) at e))
+  hint-none : tagOf answer-type.the-type a ≡ 0 → hintAnswered NoHint ≡ through x question m
+  unfolding through
+  hint-none h = rw (place-none (customPayload x m) (rw (no-answer a h) at e))
 
-  pub hint-there : (r : HintAnswer) {place : Place} {c : Cursor} → a ≡ Found place → c ≡ cursorOver place → hintAnswered r ≡ askHint f at (c .at) (left m c) → hintAnswered r ≡ askHintThrough f at m
-  unfolding askHintThrough
-  hint-there r is over says = says ∙ asked-there hintSection m e is (askHint f at) over
+  hint-there : (r : HintAnswer) {place : Place} {c : Cursor} → a ≡ Found place → c ≡ cursorOver place → hintAnswered r ≡ question (c .at) (left m c) → hintAnswered r ≡ through x question m
+  hint-there r is over says = says ∙ asked-there x m e is question over
 
-pub ruleset hint-questions = (payload-inside, cursor-inside, hint-refused, hint-none, hint-there, needs)
+module _ (f : FunctionIndex) (m : List ℕ) (a : Answer) where
+  module _ (at : CodeOffset) (e : answered a ≡ asPlace (customPayload hintSection m)) where
+    pub newer-refused : {r : Refusal} → a ≡ Refused r → hintAnswered (NotHinted r) ≡ askHintThrough f at m
+    unfolding askHintThrough
+    newer-refused is = hint-refused hintSection m (askHint f at) a e is
+
+    pub newer-none : tagOf answer-type.the-type a ≡ 0 → hintAnswered NoHint ≡ askHintThrough f at m
+    unfolding askHintThrough
+    newer-none h = hint-none hintSection m (askHint f at) a e h
+
+    pub newer-there : (r : HintAnswer) {place : Place} {c : Cursor} → a ≡ Found place → c ≡ cursorOver place → hintAnswered r ≡ askHint f at (c .at) (left m c) → hintAnswered r ≡ askHintThrough f at m
+    unfolding askHintThrough
+    newer-there r is over says = hint-there hintSection m (askHint f at) a e r is over says
+
+  module _ (at : InstructionOffset) (e : answered a ≡ asPlace (customPayload olderHintSection m)) where
+    pub older-refused : {r : Refusal} → a ≡ Refused r → hintAnswered (NotHinted r) ≡ askOlderThrough f at m
+    unfolding askOlderThrough
+    older-refused is = hint-refused olderHintSection m (askOlder f at) a e is
+
+    pub older-none : tagOf answer-type.the-type a ≡ 0 → hintAnswered NoHint ≡ askOlderThrough f at m
+    unfolding askOlderThrough
+    older-none h = hint-none olderHintSection m (askOlder f at) a e h
+
+    pub older-there : (r : HintAnswer) {place : Place} {c : Cursor} → a ≡ Found place → c ≡ cursorOver place → hintAnswered r ≡ askOlder f at (c .at) (left m c) → hintAnswered r ≡ askOlderThrough f at m
+    unfolding askOlderThrough
+    older-there r is over says = hint-there olderHintSection m (askOlder f at) a e r is over says
+
+pub ruleset hint-questions = (payload-inside, cursor-inside, newer-refused, newer-none, newer-there, needs)
+
+pub ruleset older-hint-questions = (payload-inside, cursor-inside, older-refused, older-none, older-there, needs)

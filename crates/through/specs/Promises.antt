@@ -7,11 +7,12 @@ use Rattle.format.specs.Names.{kindIn}
 use Rattle.format.specs.Questions.{asPlace, asBytes, startOf, answered}
 use Rattle.format.specs.declared.Edition.{Edition}
 use Rattle.format.specs.declared.Question.{Question}
-use Rattle.format.specs.Through.{askThrough, askMetadataThrough, askHintThrough}
+use Rattle.format.specs.Through.{askThrough, askMetadataThrough, askHintThrough, askOlderThrough}
 use Rattle.format.specs.declared.Answer.{Answer}
 use Rattle.format.specs.declared.CodeOffset.{CodeOffset}
 use Rattle.format.specs.declared.FunctionIndex.{FunctionIndex}
 use Rattle.format.specs.declared.HintAnswer.{HintAnswer}
+use Rattle.format.specs.declared.InstructionOffset.{InstructionOffset}
 
 -- through
 abbrev pub through-ask : (m : List ℕ) (edition : Edition) (q : Question) → Answer → Type 0
@@ -28,3 +29,6 @@ through-metadata-bytes m lent-at format f at begins bytes = (bytes ≡ asBytes (
 
 abbrev pub through-hint : (m : List ℕ) (f : FunctionIndex) (at : CodeOffset) → HintAnswer → Type 0
 through-hint m f at r = hintAnswered r ≡ askHintThrough f at m
+
+abbrev pub through-older-hint : (m : List ℕ) (f : FunctionIndex) (at : InstructionOffset) → HintAnswer → Type 0
+through-older-hint m f at r = hintAnswered r ≡ askOlderThrough f at m

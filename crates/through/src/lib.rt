@@ -1,15 +1,17 @@
 // The questions of names and metadata, put to a whole module. The walk comes first; then the payload is judged and asked where it lies, so that offsets count from the module's start. A second call hands the bytes of what was answered back as a part of the lent module: empty, and at its start, for none and for a refusal. No call has a precondition.
-ghost use Rattle.through.specs.Promises.{through-ask, through-ask-bytes, through-metadata, through-metadata-bytes, through-hint};
+ghost use Rattle.through.specs.Promises.{through-ask, through-ask-bytes, through-metadata, through-metadata-bytes, through-hint, through-older-hint};
 use crate::sections::hint_section;
 use crate::sections::item_of;
 use crate::sections::metadata_section;
 use crate::sections::name_section;
+use crate::sections::older_hint_section;
 use crate::sections::over;
 use format::Answer;
 use format::CodeOffset;
 use format::Edition;
 use format::FunctionIndex;
 use format::HintAnswer;
+use format::InstructionOffset;
 use format::Question;
 use metadata::find_in;
 use metadata::hint_in;
@@ -61,5 +63,16 @@ pub fn hint(m: &[u8], f: FunctionIndex, at: CodeOffset) -> HintAnswer
         Answer::Refused(r) => HintAnswer::Refused(r),
         Answer::None => HintAnswer::None,
         Answer::Found(place) => hint_in(m, over(m, place), f, at),
+    }
+}
+
+// K2: the hint of the older edition at an offset of a function, which counts from its first instruction.
+pub fn older_hint(m: &[u8], f: FunctionIndex, at: InstructionOffset) -> HintAnswer
+    ensures { λ r. ⌜ through-older-hint (now (m .entry)) f at r ⌝ }
+{
+    match older_hint_section(m) {
+        Answer::Refused(why) => HintAnswer::Refused(why),
+        Answer::None => HintAnswer::None,
+        Answer::Found(place) => older::hint_in(m, over(m, place), f, at),
     }
 }

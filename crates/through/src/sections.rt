@@ -4,7 +4,7 @@ ghost use lib.ListN.{length};
 ghost use mathlib.Core.Path.{_≡_};
 ghost use Rattle.format.specs.Questions.{answered, asPlace};
 ghost use Rattle.format.specs.Through.{metadataSection};
-ghost use Rattle.format.specs.Walk.{nameSection, hintSection, customPayload};
+ghost use Rattle.format.specs.Walk.{nameSection, hintSection, olderHintSection, customPayload};
 ghost use Rattle.through.specs.Sections.{cursorOver, itemCalled};
 use format::Answer;
 use format::Place;
@@ -12,6 +12,7 @@ use reading::Cursor;
 use tables::Item;
 use walk::called::is_called;
 use walk::rows::BRANCH_HINT;
+use walk::rows::BRANCH_HINTS;
 use walk::rows::METADATA;
 use walk::rows::NAME_SECTION;
 
@@ -27,6 +28,13 @@ pub fn hint_section(m: &[u8]) -> Answer
     ensures { λ r. ⌜ answered r ≡ asPlace (customPayload hintSection (now (m .entry))) ⌝ }
 {
     walk::custom_joined(m, &METADATA, &BRANCH_HINT)
+}
+
+// Where the hints of the older edition lie.
+pub fn older_hint_section(m: &[u8]) -> Answer
+    ensures { λ r. ⌜ answered r ≡ asPlace (customPayload olderHintSection (now (m .entry))) ⌝ }
+{
+    walk::custom(m, &BRANCH_HINTS)
 }
 
 // Where the metadata of a format lies.

@@ -21,12 +21,4 @@ returns-2 : tie.Need-returns-2
 returns-2 c = search name-questions
 
 pub ask-spec : {M : Type 1} → statement M
-ask-spec =
-    tie.close
-    (tie.spec
-    name-section-requires
-    enum-known-found
-    returns
-    over-requires
-    ask-in-requires
-    returns-2)
+ask-spec = tie.close (tie.spec name-section-requires enum-known-found returns over-requires ask-in-requires returns-2)

@@ -30,15 +30,4 @@ returns-3 : tie.Need-returns-3
 returns-3 c = search hint-questions
 
 pub hint-spec : {M : Type 1} → statement M
-hint-spec =
-    tie.close
-    (tie.spec
-    hint-section-requires
-    enum-known-r
-    enum-told
-    enum-known-place
-    over-requires
-    hint-in-requires
-    returns
-    returns-2
-    returns-3)
+hint-spec = tie.close (tie.spec hint-section-requires enum-known-r enum-told enum-known-place over-requires hint-in-requires returns returns-2 returns-3)

@@ -24,13 +24,4 @@ returns-2 : tie.Need-returns-2
 returns-2 c = search metadata-questions
 
 pub metadata-spec : {M : Type 1} → statement M
-metadata-spec =
-    tie.close
-    (tie.spec
-    metadata-section-requires
-    enum-known-found
-    returns
-    item-of-requires
-    over-requires
-    find-in-requires
-    returns-2)
+metadata-spec = tie.close (tie.spec metadata-section-requires enum-known-found returns item-of-requires over-requires find-in-requires returns-2)
