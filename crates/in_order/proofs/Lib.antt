@@ -1,0 +1,4 @@
+pub mod Laws
+pub mod Surveying
+pub mod Putting
+pub mod Same

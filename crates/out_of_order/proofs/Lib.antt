@@ -1,0 +1,10 @@
+pub mod Overs
+pub mod Building
+pub mod Order
+pub mod Passes
+pub mod Tallies
+pub mod Sheets
+pub mod Sources
+pub mod Measures
+pub mod Writes
+pub mod Backwards
