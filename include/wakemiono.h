@@ -26,10 +26,13 @@
  *    9  subsection id not above the one before                              id byte
  *   10  bytes left over in a subsection or a metadata payload               first of them
  *   11  index or offset not above the one before                            that number (from lists: its position)
- *   12  hint of size other than 1, or data above 1                          the size number
+ *   12  hint of size other than 1, or data above 1; older: kind above 1     the size number; older: the kind
  *   13  output shorter than needed                                          the needed length
  *   14  lists disagree: unequal counts, or lengths that do not add up       0
- *   15  subsection would exceed 4,294,967,295 bytes                         0
+ *   15  subsection, or older hints, would exceed 4,294,967,295 bytes        0
+ *   17  in older hints the byte behind a function is not zero               that byte
+ *
+ * 16 is given by no call: the program that lists has it for its own input.
  */
 #ifndef WAKEMIONO_H
 #define WAKEMIONO_H
@@ -204,6 +207,23 @@ wm_answer wm_wide_kept_in(const uint8_t *module, size_t module_len, uint8_t id);
 wm_answer wm_wide_names_canonical(const uint8_t *payload, size_t payload_len, uint8_t *out, size_t out_len);
 /* Is a name payload canonical in the wider edition? 1 or 0. */
 uint32_t wm_wide_names_is_canonical(const uint8_t *payload, size_t payload_len);
+
+/* The older edition of branch hints, the payload of a section `branchHints`: a list of (function, one zero byte, list of
+ * (kind, offset)), with kind 0 for unlikely and 1 for likely. It asks no order and allows repeats: the first hint in the
+ * payload for a function and an offset answers. Its offsets count from the function's first instruction, where those of
+ * wm_hint count from its declaration of locals, so the two editions are asked apart; a module may carry both. */
+
+/* Is it accepted? FOUND with offset 0 and the payload's length. */
+wm_answer wm_old_hints_judge(const uint8_t *payload, size_t payload_len);
+/* The first hint for the branch at an offset of a function: NONE, UNLIKELY, LIKELY or REFUSED. */
+wm_answer wm_old_hint(const uint8_t *payload, size_t payload_len, uint32_t function, uint32_t offset);
+/* The same through a module: judged after the walk, offsets of refusals from the module's start, NONE without the section. */
+wm_answer wm_old_hint_in(const uint8_t *module, size_t module_len, uint32_t function, uint32_t offset);
+/* The canonical form, answered and written as the rewritings above: one entry for each function that has hints, both in
+ * rising order, and of the hints for one offset the first. Refusal 15 where it would exceed 4,294,967,295 bytes, then 13. */
+wm_answer wm_old_hints_canonical(const uint8_t *payload, size_t payload_len, uint8_t *out, size_t out_len);
+/* Is a payload of the older edition canonical? 1 or 0. */
+uint32_t wm_old_hints_is_canonical(const uint8_t *payload, size_t payload_len);
 
 #ifdef __cplusplus
 }

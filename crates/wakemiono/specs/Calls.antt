@@ -7,12 +7,13 @@ use Rattle.format.specs.Canonical.{canonicalNames, canonicalMetadata, canonical
 use Rattle.format.specs.Lists.{functionNames}
 use Rattle.format.specs.Metadata.{anyItem, hintItem, judgeMetadata, askMetadata, askHint}
 use Rattle.format.specs.Names.{knownKind, widerKind, judgeNames}
+use Rattle.format.specs.Older.{judgeOlder, askOlder, canonicalOlder}
 use Rattle.format.specs.Options.{mapSome}
 use Rattle.format.specs.Questions.{asPlace, ask}
 use Rattle.format.specs.declared.Question.{Question}
 use Rattle.format.specs.Reading.{mapJudged, verdict}
-use Rattle.format.specs.Telling.{namesAreCanonical, itemsAreCanonical}
-use Rattle.format.specs.Through.{askThrough, askMetadataThrough, askHintThrough}
+use Rattle.format.specs.Telling.{namesAreCanonical, itemsAreCanonical, olderIsCanonical}
+use Rattle.format.specs.Through.{askThrough, askMetadataThrough, askHintThrough, askOlderThrough}
 use Rattle.format.specs.Walk.{sectionCount, sectionAt, customPayload}
 use Rattle.walk.specs.Surveys.{sectionPlace}
 use Rattle.wakemiono.specs.Boundary.{wmCount, wmSection, wmPlace, wmJudged, wmHint, wmYes, WmWrites}
@@ -91,6 +92,22 @@ wm-wide-names-canonical payload old new a = WmWrites (canonicalNames widerKind p
 
 abbrev pub wm-wide-names-is-canonical : (payload : List ℕ) → ℕ → Type 0
 wm-wide-names-is-canonical payload a = a ≡ wmYes (namesAreCanonical widerKind payload)
+
+-- K2: the older edition of hints
+abbrev pub wm-old-hints-judge : List ℕ → WmAnswer → Type 0
+wm-old-hints-judge payload a = a ≡ wmJudged (length payload) (verdict (judgeOlder 0 payload))
+
+abbrev pub wm-old-hint : (function offset : ℕ) → List ℕ → WmAnswer → Type 0
+wm-old-hint function offset payload a = a ≡ wmHint (askOlder (record { 0 = function }) (record { 0 = offset }) 0 payload)
+
+abbrev pub wm-old-hint-in : (function offset : ℕ) → List ℕ → WmAnswer → Type 0
+wm-old-hint-in function offset bytes a = a ≡ wmHint (askOlderThrough (record { 0 = function }) (record { 0 = offset }) bytes)
+
+abbrev pub wm-old-hints-canonical : (payload old new : List ℕ) → WmAnswer → Type 0
+wm-old-hints-canonical payload old new a = WmWrites (canonicalOlder payload) old new a
+
+abbrev pub wm-old-hints-is-canonical : (payload : List ℕ) → ℕ → Type 0
+wm-old-hints-is-canonical payload a = a ≡ wmYes (olderIsCanonical payload)
 
 abbrev pub wm-function-names-write : (indices lengths text old new : List ℕ) → WmAnswer → Type 0
 wm-function-names-write indices lengths text old new a = WmWrites (functionNames indices lengths text) old new a

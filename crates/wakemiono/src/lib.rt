@@ -28,6 +28,7 @@ use names::judging;
 use walk::Counted;
 use walk::survey::SectionAnswer;
 
+pub mod old_hints;
 pub mod wide;
 
 // One answer for all calls, by value.

@@ -4,6 +4,7 @@ use comparison::random::Random;
 
 use crate::bytes::{list, number, sized, subsection};
 use crate::name_map::{FUNCTIONS, GLOBALS};
+use crate::old_hints;
 use crate::payload::{Kind, Payload};
 use crate::texts;
 
@@ -36,7 +37,7 @@ struct Recipe {
     make: fn(&mut Random) -> Vec<u8>,
 }
 
-const RECIPES: [Recipe; 11] = [
+const RECIPES: [Recipe; 17] = [
     names("go", |r| functions(&many(14_000, || texts::go(r)))),
     names("c++", |r| functions(&many(1_000, || texts::cpp(r)))),
     names("rust-v0", |r| {
@@ -62,7 +63,21 @@ const RECIPES: [Recipe; 11] = [
         kind: Kind::WideNames,
         make: with_wide_names,
     },
+    old_hints("old-hints", old_hints::in_order),
+    old_hints("old-hints-shuffled", old_hints::shuffled),
+    old_hints("old-hints-apart-shuffled", old_hints::apart_shuffled),
+    old_hints("old-hints-falling", old_hints::falling),
+    old_hints("old-hints-apart-falling", old_hints::apart_falling),
+    old_hints("old-hints-nearly-rising", old_hints::nearly_rising),
 ];
+
+const fn old_hints(name: &'static str, make: fn(&mut Random) -> Vec<u8>) -> Recipe {
+    Recipe {
+        name,
+        kind: Kind::OldHints,
+        make,
+    }
+}
 
 const fn names(name: &'static str, make: fn(&mut Random) -> Vec<u8>) -> Recipe {
     Recipe {
@@ -190,6 +205,10 @@ mod tests {
             Kind::Hints => [
                 library::hints_judge(bytes),
                 second_reader::hints_judge(bytes).into(),
+            ],
+            Kind::OldHints => [
+                library::old_hints_judge(bytes),
+                second_reader::old_hints_judge(bytes).into(),
             ],
         }
     }

@@ -3,11 +3,13 @@
 //! It runs under qemu with the plugin `icount.c`, one payload in a run, since a region's number is one byte. A run
 //! prints which region counts what; the plugin's counts, put behind that, are what the table is made of.
 
+mod bars;
 mod bytes;
 mod fixtures;
 mod made;
 mod measuring;
 mod name_map;
+mod old_hints;
 mod operation;
 mod payload;
 mod region;
@@ -26,6 +28,7 @@ bench payloads        the names of the payloads, a line each
 bench run PAYLOAD     puts each operation on a payload to both readers, and prints which region counts what
 bench table COUNTS    the counts of all runs as a table
 bench lines COUNTS    the same as tab-separated lines
+bench bars COUNTS     how many times as much as judging the rewritings of older hints take; fails where a bar is broken
 ";
 
 fn main() -> ExitCode {
@@ -36,6 +39,7 @@ fn main() -> ExitCode {
         ["run", name] => run(name),
         ["table", counts] => rows(counts).map(|rows| table::aligned(&rows)),
         ["lines", counts] => rows(counts).map(|rows| table::tab_separated(&rows)),
+        ["bars", counts] => rows(counts).and_then(|rows| bars::lines(&rows)),
         _ => Err(USAGE.to_string()),
     };
     match said {

@@ -4,6 +4,7 @@ use comparison::library;
 
 use crate::made::LAST_BRANCH;
 use crate::name_map::{Lists, NameMap, FUNCTIONS, GLOBALS};
+use crate::old_hints::GREATEST_BRANCH;
 use crate::operation::{region, Operation, Who};
 use crate::payload::{Kind, Payload};
 use crate::region::counted;
@@ -55,6 +56,7 @@ pub fn measure(payload: &Payload) -> Result<Vec<Operation>, String> {
             compared.extend(wide_names(&payload.bytes));
         }
         Kind::Hints => compared.extend(hints(&payload.bytes)),
+        Kind::OldHints => compared.extend(old_hints(&payload.bytes)),
     }
     let agreed = |(operation, alike): Compared| match alike {
         true => Ok(operation),
@@ -164,6 +166,39 @@ fn rewrite_hints(payload: &[u8]) -> Compared {
     written!(Operation::RewriteHints, hints_canonical(lent, out) where lent = payload, out of room)
 }
 
+fn old_hints(payload: &[u8]) -> Vec<Compared> {
+    vec![
+        judge_old_hints(payload),
+        tell_old_hints(payload),
+        look_old_hint_up(payload, GREATEST_BRANCH),
+        rewrite_old_hints(payload),
+    ]
+}
+
+fn judge_old_hints(payload: &[u8]) -> Compared {
+    asked!(Operation::JudgeOldHints, old_hints_judge(lent) where lent = payload)
+}
+
+fn tell_old_hints(payload: &[u8]) -> Compared {
+    asked!(Operation::TellOldHints, old_hints_is_canonical(lent) where lent = payload)
+}
+
+fn rewrite_old_hints(payload: &[u8]) -> Compared {
+    let room = payload.len();
+    written!(
+        Operation::RewriteOldHints,
+        old_hints_canonical(lent, out) where lent = payload, out of room
+    )
+}
+
+fn look_old_hint_up(payload: &[u8], branch: (u32, u32)) -> Compared {
+    asked!(
+        Operation::LookOldHintUp,
+        old_hint(lent, function, offset)
+        where (lent, (function, offset)) = (payload, branch)
+    )
+}
+
 #[cfg(test)]
 mod tests {
     use super::*;
@@ -184,6 +219,9 @@ mod tests {
             Operation::WideTell,
             Operation::WideLookUp,
             Operation::WideRewrite,
+            Operation::LookOldHintUp,
+            Operation::TellOldHints,
+            Operation::RewriteOldHints,
         ] {
             assert!(operations.contains(&tried), "not tried: {}", tried.words());
         }

@@ -18,6 +18,10 @@ pub enum Operation {
     WideTell,
     WideLookUp,
     WideRewrite,
+    JudgeOldHints,
+    LookOldHintUp,
+    TellOldHints,
+    RewriteOldHints,
 }
 
 impl Operation {
@@ -38,6 +42,10 @@ impl Operation {
             Operation::WideTell => "wide tell",
             Operation::WideLookUp => "wide judge, look last global up",
             Operation::WideRewrite => "wide rewrite",
+            Operation::JudgeOldHints => "judge old hints",
+            Operation::LookOldHintUp => "judge old hints, look greatest up",
+            Operation::TellOldHints => "tell old hints",
+            Operation::RewriteOldHints => "rewrite old hints",
         }
     }
 }

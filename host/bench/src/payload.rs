@@ -10,6 +10,8 @@ pub enum Kind {
     /// By the first edition, and by the wider one, which finds more in it.
     WideNames,
     Hints,
+    /// Of the older edition.
+    OldHints,
 }
 
 impl Kind {
@@ -18,6 +20,7 @@ impl Kind {
         match self {
             Kind::Names | Kind::WideNames => "name",
             Kind::Hints => "metadata.code.branch_hint",
+            Kind::OldHints => "branchHints",
         }
     }
 }

@@ -26,6 +26,12 @@ pub struct Row {
     second_reader: u64,
 }
 
+/// What the library executed for an operation on a payload, where that was counted.
+pub fn library(rows: &[Row], payload: &str, operation: Operation) -> Option<u64> {
+    let wanted = |row: &&Row| row.payload == payload && row.operation == operation.words();
+    rows.iter().find(wanted).map(|row| row.library)
+}
+
 /// The rows of a file that has, for each run, its mapping and the plugin's counts.
 pub fn rows(counts: &str) -> Result<Vec<Row>, String> {
     let lines: Vec<&str> = counts.lines().collect();

@@ -126,6 +126,99 @@ fn spelled_entries(entries: &Entries, padding: Padding<'_>) -> Vec<u8> {
     bytes
 }
 
+/// What a payload of older hints holds: entries in any order, each a function and its hints, of a kind and an offset.
+#[derive(Clone)]
+pub struct OldHints(pub Vec<(u32, Vec<(u32, u32)>)>);
+
+/// What stands between the function of an entry and its hints.
+const ZERO: u8 = 0;
+
+impl OldHints {
+    /// The same in one entry for each function, both in the order of the numbers, with the first hint of each place.
+    pub fn in_order(&self) -> OldHints {
+        let mut functions: BTreeMap<u32, BTreeMap<u32, u32>> = BTreeMap::new();
+        for (function, hints) in &self.0 {
+            for (kind, offset) in hints {
+                let held = functions.entry(*function).or_default();
+                held.entry(*offset).or_insert(*kind);
+            }
+        }
+        let hints = |held: BTreeMap<u32, u32>| held.into_iter().map(|(at, kind)| (kind, at));
+        let entries = functions.into_iter();
+        OldHints(
+            entries
+                .map(|(function, held)| (function, hints(held).collect()))
+                .collect(),
+        )
+    }
+
+    /// The same hints of something in order, which differ in one place: two entries or two hints exchanged, a hint said
+    /// again of the same or of the other kind, an entry in two parts.
+    pub fn out_of_order(&self) -> Vec<OldHints> {
+        let mut all: Vec<OldHints> = (1..self.0.len())
+            .map(|at| self.changed(|entries| entries.swap(at - 1, at)))
+            .collect();
+        for (entry, (function, hints)) in self.0.iter().enumerate() {
+            for at in 1..hints.len() {
+                all.push(self.changed(|entries| entries[entry].1.swap(at - 1, at)));
+                all.push(self.changed(|entries| {
+                    let rest = entries[entry].1.split_off(at);
+                    entries.insert(entry + 1, (*function, rest));
+                }));
+            }
+            for (at, (kind, offset)) in hints.iter().enumerate() {
+                for again in [*kind, 1 - *kind] {
+                    all.push(
+                        self.changed(|entries| entries[entry].1.insert(at + 1, (again, *offset))),
+                    );
+                    all.push(
+                        self.changed(|entries| entries.push((*function, vec![(again, *offset)]))),
+                    );
+                }
+            }
+        }
+        all
+    }
+
+    fn changed(&self, change: impl FnOnce(&mut Vec<(u32, Vec<(u32, u32)>)>)) -> OldHints {
+        let mut entries = self.0.clone();
+        change(&mut entries);
+        OldHints(entries)
+    }
+}
+
+impl Held for OldHints {
+    fn spelled(&self, padding: Padding<'_>) -> Vec<u8> {
+        let mut bytes = number(self.0.len() as u32, padding);
+        for (function, hints) in &self.0 {
+            bytes.extend(number(*function, padding));
+            bytes.push(ZERO);
+            bytes.extend(number(hints.len() as u32, padding));
+            for (kind, offset) in hints {
+                bytes.extend(number(*kind, padding));
+                bytes.extend(number(*offset, padding));
+            }
+        }
+        bytes
+    }
+
+    fn without_empty_lists(mut self) -> OldHints {
+        self.0.retain(|(_, hints)| !hints.is_empty());
+        self
+    }
+
+    fn with_an_empty_list(&self) -> Vec<OldHints> {
+        let places = 0..=self.0.len();
+        let with =
+            |at: usize| KEYS.map(|key| self.changed(|entries| entries.insert(at, (key, vec![]))));
+        places.flat_map(with).collect()
+    }
+
+    fn canonical(self) -> Vec<u8> {
+        self.in_order().spelled(&mut unpadded)
+    }
+}
+
 impl Names {
     /// The same with other contents in a subsection.
     fn with(&self, id: u8, contents: Contents) -> Names {
@@ -221,6 +314,25 @@ mod tests {
             .with(4, Contents::Map(Entries::new()));
         assert_eq!(held.canonical(), b"\x01\x04\x01\x00\x01a");
         assert_eq!(Groups::from([(3, Entries::new())]).canonical(), [0]);
+    }
+
+    #[test]
+    fn the_canonical_payload_of_older_hints() {
+        let free = OldHints(vec![
+            (5, vec![(1, 9), (0, 4)]),
+            (2, vec![]),
+            (5, vec![(0, 9), (1, 3)]),
+            (1, vec![(1, 128)]),
+        ]);
+        let canonical = b"\x02\x01\x00\x01\x01\x80\x01\x05\x00\x03\x01\x03\x00\x04\x01\x09";
+        assert_eq!(free.clone().canonical(), canonical);
+        let others = free.in_order().out_of_order();
+        // One exchange of entries, two of hints, two entries cut, and each of four hints said again in four ways.
+        assert_eq!(others.len(), 1 + 2 + 2 + 4 * 4);
+        for other in others {
+            assert_ne!(other.spelled(&mut unpadded), canonical);
+            assert_eq!(other.canonical(), canonical);
+        }
     }
 
     /// The size, the count, the index and the length, each in two to five bytes.

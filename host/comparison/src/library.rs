@@ -24,6 +24,10 @@ pub const NONE: u32 = 0;
 pub const FOUND: u32 = 1;
 /// The kind of a refusal.
 pub const REFUSED: u32 = 2;
+/// The kind of a hint that a branch is unlikely.
+pub const UNLIKELY: u32 = 3;
+/// The kind of a hint that a branch is likely.
+pub const LIKELY: u32 = 4;
 
 /// The answer to a yes or no that says yes; no is 0.
 pub const YES: u32 = 1;
@@ -109,10 +113,14 @@ questions! {
     metadata = wm_metadata(function: u32, offset: u32) -> Told;
     hint = wm_hint(function: u32, offset: u32) -> Told;
     hint_in = wm_hint_in(function: u32, offset: u32) -> Told;
+    old_hints_judge = wm_old_hints_judge() -> Told;
+    old_hint = wm_old_hint(function: u32, offset: u32) -> Told;
+    old_hint_in = wm_old_hint_in(function: u32, offset: u32) -> Told;
     names_is_canonical = wm_names_is_canonical() -> u32;
     wide_names_is_canonical = wm_wide_names_is_canonical() -> u32;
     metadata_is_canonical = wm_metadata_is_canonical() -> u32;
     hints_is_canonical = wm_hints_is_canonical() -> u32;
+    old_hints_is_canonical = wm_old_hints_is_canonical() -> u32;
 }
 
 /// Declares calls that rewrite a lent payload into an output.
@@ -138,6 +146,7 @@ rewritings! {
     wide_names_canonical = wm_wide_names_canonical;
     metadata_canonical = wm_metadata_canonical;
     hints_canonical = wm_hints_canonical;
+    old_hints_canonical = wm_old_hints_canonical;
 }
 
 extern "C" {

@@ -1,6 +1,6 @@
 //! Payloads and modules made at random: well formed, with everything that the rules allow and few writers produce.
 
-use crate::held::{Contents, Edition, Entries, Groups, Held, Names, FIRST, WIDER};
+use crate::held::{Contents, Edition, Entries, Groups, Held, Names, OldHints, FIRST, WIDER};
 use crate::random::Random;
 use crate::spelling::{self, LONGEST_NUMBER};
 use crate::tally::KEYS;
@@ -83,6 +83,19 @@ pub fn held_metadata(r: &mut Random, hints: bool) -> Groups {
     }
 }
 
+/// What a payload of older hints holds: few numbers, so that functions and places are met more than once.
+pub fn held_old_hints(r: &mut Random) -> OldHints {
+    let hints = |r: &mut Random| {
+        let count = r.below(5);
+        (0..count)
+            .map(|_| (r.below(2) as u32, r.one_of(&KEYS)))
+            .collect()
+    };
+    let count = r.below(6);
+    let entries = (0..count).map(|_| (r.one_of(&KEYS), hints(r)));
+    OldHints(entries.collect())
+}
+
 /// A canonical payload, or one with padding and empty lists.
 fn payload(r: &mut Random, held: impl Held) -> Vec<u8> {
     match r.once_in(ONE_CANONICAL_IN) {
@@ -104,6 +117,12 @@ pub fn metadata(r: &mut Random, hints: bool) -> Vec<u8> {
     payload(r, held)
 }
 
+/// A payload of older hints.
+pub fn old_hints(r: &mut Random) -> Vec<u8> {
+    let held = held_old_hints(r);
+    payload(r, held)
+}
+
 fn custom(r: &mut Random, name: &[u8], payload: &[u8]) -> Vec<u8> {
     let mut contents = sized(r, name);
     contents.extend(payload);
@@ -112,14 +131,19 @@ fn custom(r: &mut Random, name: &[u8], payload: &[u8]) -> Vec<u8> {
     section
 }
 
-/// A module with names, hints and other sections, in an order that the rules allow.
+/// A module with names, hints of each edition and other sections, in an order that the rules allow.
 pub fn module(r: &mut Random) -> Vec<u8> {
     let mut m = b"\0asm\x01\0\0\0".to_vec();
     let with_hints = r.once_in(2);
+    let with_old_hints = r.once_in(2);
     for id in [1, 2, 3, 4, 5, 13, 6, 7, 8, 9, 12, 10, 11] {
         if id == 10 && with_hints {
             let payload = metadata(r, true);
             m.extend(custom(r, b"metadata.code.branch_hint", &payload));
+        }
+        if id == 12 && with_old_hints {
+            let payload = old_hints(r);
+            m.extend(custom(r, b"branchHints", &payload));
         }
         if r.once_in(3) {
             m.push(id);

@@ -14,6 +14,9 @@ pub const NAMES: &[u8] = b"name";
 /// The name of the section with branch hints.
 pub const HINTS: &[u8] = b"metadata.code.branch_hint";
 
+/// The name of the section with hints of the older edition.
+pub const OLD_HINTS: &[u8] = b"branchHints";
+
 /// How the names of sections with code metadata start.
 const METADATA: &[u8] = b"metadata.code.";
 
@@ -68,6 +71,10 @@ pub struct Tally {
     pub metadata_said: Said,
     /// What they said of metadata payloads, by the rules for hints.
     pub hints_said: Said,
+    /// What they said of payloads of older hints.
+    pub old_said: Said,
+    /// How often the questions for older hints were answered in each way, by the kinds of the answers.
+    pub old_met: BTreeMap<u32, u64>,
     lent: Guarded,
     also_lent: Guarded,
     text: Guarded,
@@ -83,6 +90,8 @@ impl Default for Tally {
             wide_met: BTreeMap::new(),
             metadata_said: Said::default(),
             hints_said: Said::default(),
+            old_said: Said::default(),
+            old_met: BTreeMap::new(),
             lent: Guarded::new(ROOM),
             also_lent: Guarded::new(ROOM),
             text: Guarded::new(ROOM),
@@ -166,7 +175,8 @@ macro_rules! rewrite {
     };
 }
 
-// It stands behind the macros, which it uses.
+// They stand behind the macros, which they use.
+mod older;
 mod wide;
 
 pub use wide::WIDE_QUESTIONS;
@@ -263,7 +273,7 @@ impl Tally {
             ask!(self, m, section, position);
         }
         ask!(self, m, section, u64::MAX);
-        for name in [NAMES, HINTS, b"metadata.code.x", b"x", b""] {
+        for name in [NAMES, HINTS, OLD_HINTS, b"metadata.code.x", b"x", b""] {
             ask!(self, m, custom, name);
         }
         ask!(self, m, module_name_in);
@@ -286,6 +296,7 @@ impl Tally {
             }
         }
         self.wide_module(m);
+        self.old_module(m);
     }
 
     /// How a custom section of a module is judged, put through the module and on its own, with the offset from the
@@ -324,13 +335,25 @@ impl Tally {
         reader: impl Fn(&[u8], &mut [u8]) -> Answer,
     ) {
         let needed = reader(bytes, &mut vec![0; bytes.len()]).length as usize;
-        for room in [
+        let rooms = [
             0,
             needed.saturating_sub(1),
             needed,
             bytes.len(),
             bytes.len() + SPARE,
-        ] {
+        ];
+        self.rewrite_into(call, bytes, &rooms, library, reader);
+    }
+
+    fn rewrite_into(
+        &mut self,
+        call: &str,
+        bytes: &[u8],
+        rooms: &[usize],
+        library: impl Fn(&[u8], &mut [u8]) -> Told,
+        reader: impl Fn(&[u8], &mut [u8]) -> Answer,
+    ) {
+        for &room in rooms {
             let lent = self.lent.lend(bytes);
             let framed = framed(&mut self.output, room);
             let told = library(lent, &mut framed[GUARD..]);

@@ -1,6 +1,7 @@
 //! Canonical payloads, and what one padded number or one empty list makes of them.
 
 use comparison::held::{Held, FIRST, WIDER};
+use comparison::library::old_hints_canonical;
 use comparison::made;
 use comparison::random::{seed, Random};
 use comparison::spelling::unpadded;
@@ -74,4 +75,45 @@ fn metadata() {
 fn hints() {
     let make = |r: &mut Random| made::held_metadata(r, true);
     compare(make, Tally::metadata, |tally| tally.hints_said);
+}
+
+#[test]
+fn old_hints() {
+    let make = |r: &mut Random| made::held_old_hints(r).in_order();
+    compare(make, Tally::old_hints, |tally| tally.old_said);
+}
+
+/// Older hints in no order, or said more than once: none is canonical, and each comes to the same canonical payload.
+#[test]
+fn old_hints_out_of_order() {
+    let mut tally = Tally::default();
+    let mut others = 0;
+    for held in held(|r| made::held_old_hints(r).in_order()) {
+        let canonical = held.spelled(&mut unpadded);
+        for other in held.out_of_order() {
+            let payload = other.spelled(&mut unpadded);
+            tally.old_hints(&payload);
+            let mut out = vec![0; payload.len()];
+            let told = old_hints_canonical(&payload, &mut out);
+            assert_eq!(out[..told.length as usize], canonical, "{payload:02X?}");
+            others += 1;
+        }
+    }
+    println!("compared {} calls", tally.calls);
+    assert!(others >= FEWEST_OTHERS as u64, "only {others}");
+    let said = tally.old_said;
+    assert_eq!((said.canonical, said.not_canonical), (0, others));
+}
+
+#[test]
+fn old_hints_into_outputs_of_every_length() {
+    let mut r = Random::new(seed());
+    let mut tally = Tally::default();
+    for _ in 0..PAYLOADS {
+        let payload = made::old_hints(&mut r);
+        tally.old_rewriting_of_every_length(&payload);
+        // What is refused is refused whatever the output's length.
+        tally.old_rewriting_of_every_length(&[&payload[..], &[0]].concat());
+    }
+    println!("compared {} calls", tally.calls);
 }

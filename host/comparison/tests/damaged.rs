@@ -1,6 +1,7 @@
 //! Inputs that were well formed until something happened to them.
 
 use comparison::held::{Contents, Entries, Groups, Held, Names, WIDER};
+use comparison::library::{LIKELY, NONE, REFUSED, UNLIKELY};
 use comparison::made;
 use comparison::random::{seed, Random};
 use comparison::spelling::{number, sized, unpadded};
@@ -88,6 +89,59 @@ fn metadata_payloads() {
         "only {} calls were compared",
         tally.calls
     );
+}
+
+#[test]
+fn old_hint_payloads() {
+    const LEAST: u64 = 500;
+    let mut r = Random::new(seed());
+    let mut tally = Tally::default();
+    for _ in 0..12 {
+        let payload = small(made::old_hints, &mut r);
+        for damaged in damaged(&payload) {
+            tally.old_hints(&damaged);
+        }
+        // Behind the list of hints nothing may stand.
+        tally.old_hints(&[&payload[..], &[0]].concat());
+    }
+    println!("compared {} calls", tally.calls);
+    tally.assert_old_met(&[NONE, REFUSED, UNLIKELY, LIKELY], LEAST);
+}
+
+/// A module with hints of both editions, and the same hints in the one and in the other.
+fn both_editions(old_hints: &[u8]) -> Vec<u8> {
+    let newer = [
+        &b"\x19metadata.code.branch_hint"[..],
+        b"\x01\x00\x01\x03\x01\x01",
+    ]
+    .concat();
+    let older = [b"\x0BbranchHints", old_hints].concat();
+    let section = |contents: &[u8]| [&[0], &sized(contents, &mut unpadded)[..]].concat();
+    [
+        b"\0asm\x01\0\0\0".to_vec(),
+        section(&older),
+        section(&newer),
+    ]
+    .concat()
+}
+
+/// Older hints in a module, damaged at every place: the module around them, and the payload alone.
+#[test]
+fn old_hints_in_modules() {
+    const LEAST: u64 = 20;
+    let mut r = Random::new(seed());
+    let mut tally = Tally::default();
+    for _ in 0..4 {
+        let payload = small(made::old_hints, &mut r);
+        damaged(&both_editions(&payload))
+            .iter()
+            .for_each(|module| tally.module(module));
+        for damaged in damaged(&payload) {
+            tally.module(&both_editions(&damaged));
+        }
+    }
+    println!("compared {} calls", tally.calls);
+    tally.assert_old_met(&[NONE, REFUSED, UNLIKELY, LIKELY], LEAST);
 }
 
 #[test]
@@ -219,6 +273,9 @@ fn counts_and_lengths_up_to_the_greatest() {
                 tally.names(&bytes);
                 tally.metadata(&bytes);
                 tally.metadata(&[&number, after].concat());
+                for before in [&[][..], &[1], &[1, 0, 0], &[1, 0, 0, 1], &[1, 0, 0, 1, 1]] {
+                    tally.old_hints(&[before, &number, after].concat());
+                }
                 let mut module = b"\0asm\x01\0\0\0\0".to_vec();
                 module.extend(&number);
                 module.extend(b"\x04name");

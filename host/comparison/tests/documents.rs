@@ -96,6 +96,56 @@ fn metadata_payloads() {
     assert_eq!(tally.hints_said, said(3, 2));
 }
 
+/// The readings of the older edition, and one case for each thing that it may be refused for.
+const OLD_HINTS: [&[u8]; 22] = [
+    &[],
+    &[0x00],
+    &[0x80, 0x80, 0x80, 0x80, 0x00],
+    &[0x00, 0x00],
+    // a place twice in one entry: of the same kind, and of the other
+    &[0x01, 0x00, 0x00, 0x02, 0x01, 0x05, 0x01, 0x05],
+    &[0x01, 0x00, 0x00, 0x02, 0x01, 0x03, 0x00, 0x03],
+    // and over two entries
+    &[
+        0x02, 0x00, 0x00, 0x01, 0x00, 0x03, 0x00, 0x00, 0x01, 0x01, 0x03,
+    ],
+    // functions and offsets that fall
+    &[
+        0x02, 0x03, 0x00, 0x02, 0x01, 0x03, 0x00, 0x01, 0x01, 0x00, 0x01, 0x01, 0x00,
+    ],
+    // a padded kind, and one above 1 with no offset behind it
+    &[0x01, 0x00, 0x00, 0x01, 0x80, 0x00, 0x03],
+    &[0x01, 0x00, 0x00, 0x01, 0x81, 0x80, 0x80, 0x80, 0x00, 0x03],
+    &[0x01, 0x00, 0x00, 0x01, 0x02],
+    &[0x01, 0x00, 0x00, 0x01, 0x82, 0x80, 0x00, 0xFF],
+    // in the place of the zero byte: nothing, a padded zero, another byte
+    &[0x01, 0x00],
+    &[0x01, 0x00, 0x80, 0x00, 0x00],
+    &[0x01, 0x00, 0x01, 0x00],
+    // entries without hints
+    &[0x02, 0x05, 0x00, 0x00, 0x03, 0x00, 0x80, 0x00],
+    &[0x02, 0x05, 0x00, 0x00, 0x03, 0x00, 0x01, 0x00, 0x00],
+    // what stands behind the list
+    &[0x01, 0x00, 0x00, 0x01, 0x01, 0x05, 0x00],
+    // the greatest numbers, and counts of which nothing is there
+    &[
+        0x01, 0xFF, 0xFF, 0xFF, 0xFF, 0x0F, 0x00, 0x01, 0x01, 0xFF, 0xFF, 0xFF, 0xFF, 0x0F,
+    ],
+    &[0xFF, 0xFF, 0xFF, 0xFF, 0x0F],
+    &[0x01, 0x00, 0x00, 0xFF, 0xFF, 0xFF, 0xFF, 0x0F],
+    &[0x01, 0x00, 0x00, 0x01, 0x01, 0xFF, 0xFF, 0xFF, 0xFF, 0x1F],
+];
+
+#[test]
+fn old_hint_payloads() {
+    let mut tally = Tally::default();
+    OLD_HINTS
+        .iter()
+        .for_each(|payload| tally.old_hints(payload));
+    println!("compared {} calls", tally.calls);
+    assert_eq!(tally.old_said, said(2, 9));
+}
+
 #[test]
 fn modules() {
     let mut tally = Tally::default();
@@ -117,13 +167,17 @@ fn modules() {
         b"\0asm\x01\0\0\0\0\x05\x04name\x0B\0",
         b"\0asm\x01\0\0\0\0\x05\x04name\0\x7F\x04name",
         b"\0asm\x01\0\0\0\0\x03\x01x\x01\x0E\0",
+        b"\0asm\x01\0\0\0\0\x12\x0BbranchHints\x01\x00\x00\x01\x01\x03",
+        b"\0asm\x01\0\0\0\0\x0C\x0BbranchHints\0\x0D\x0BbranchHints\0",
+        b"\0asm\x01\0\0\0\x0A\0\0\x0D\x0BbranchHints\0",
+        b"\0asm\x01\0\0\0\0\x0D\x0BbranchHint\0\0",
     ] {
         tally.module(bytes);
     }
     println!("compared {} calls", tally.calls);
 }
 
-/// Every two ids, the first two that no section has among them, with nothing, names or hints between.
+/// Every two ids, the first two that no section has among them, with nothing, names, or hints of an edition between.
 #[test]
 fn orders() {
     const LAST: u8 = 15;
@@ -132,6 +186,7 @@ fn orders() {
         &b""[..],
         b"\0\x05\x04name",
         b"\0\x1B\x19metadata.code.branch_hint\0",
+        b"\0\x0D\x0BbranchHints\0",
     ];
     for id in 0..=LAST {
         for next in 0..=LAST {

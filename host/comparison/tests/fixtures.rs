@@ -1,27 +1,30 @@
 //! Modules of several producers: their listings, and every call compared on them and on their payloads.
 
 use comparison::fixtures::{files, modules};
-use comparison::library::{self, custom, section, walk, Told, FOUND, REFUSED};
-use comparison::tally::{Judged, Said, Tally, HINTS, NAMES};
+use comparison::library::{self, custom, section, walk, Told, FOUND, LIKELY, REFUSED, UNLIKELY};
+use comparison::tally::{Judged, Said, Tally, HINTS, NAMES, OLD_HINTS};
 use std::fmt::Write;
 use std::fs;
 use std::path::{Path, PathBuf};
 
 /// How many fixtures are committed, so that none is lost unseen: a module, and its listing.
-const MODULES: usize = 98;
+const MODULES: usize = 111;
 /// Those that the walk accepts, which have judgements of their payloads.
-const WITH_PAYLOADS: usize = 68;
+const WITH_PAYLOADS: usize = 81;
 /// Their lines.
-const JUDGEMENTS: usize = 208;
-/// The accepted among them: of names in each edition, of hints, and of other metadata.
+const JUDGEMENTS: usize = 261;
+/// The accepted among them: of names in each edition, of hints in each edition, and of other metadata.
 const NAMES_SAID: Said = said(32, 7);
 const WIDE_SAID: Said = said(19, 10);
-const HINTS_SAID: Said = said(2, 2);
+const HINTS_SAID: Said = said(4, 2);
+const OLD_SAID: Said = said(3, 3);
 const METADATA_SAID: Said = said(3, 0);
 /// Those with an accepted payload that has something to ask for; and the questions to them.
-const ANSWERED: (usize, usize) = (37, 1_128);
+const ANSWERED: (usize, usize) = (38, 1_131);
 /// The same of the wider edition of names.
 const ANSWERED_WIDELY: (usize, usize) = (26, 1_116);
+/// The same of the older edition of hints.
+const ANSWERED_OF_OLD: (usize, usize) = (4, 13);
 
 const fn said(canonical: u64, not_canonical: u64) -> Said {
     Said {
@@ -95,6 +98,7 @@ fn payloads() {
             let judged = match word {
                 "wide-name" => tally.wide_judgement(&module),
                 "hints" => tally.judgement(&module, HINTS),
+                "old-hints" => tally.old_judgement(&module),
                 section => tally.judgement(&module, section.as_bytes()),
             };
             assert_eq!(judgement(judged), expected, "{word} in {}", path.display());
@@ -105,6 +109,7 @@ fn payloads() {
     assert_eq!(tally.names_said, NAMES_SAID);
     assert_eq!(tally.wide_said, WIDE_SAID);
     assert_eq!(tally.hints_said, HINTS_SAID);
+    assert_eq!(tally.old_said, OLD_SAID);
     assert_eq!(tally.metadata_said, METADATA_SAID);
     println!("compared {} calls", tally.calls);
 }
@@ -126,16 +131,16 @@ fn calls() {
     for path in modules() {
         let module = fs::read(path).expect("a fixture can be read");
         tally.module(&module);
-        for name in [NAMES, HINTS] {
+        for name in [NAMES, HINTS, OLD_HINTS] {
             let found = custom(&module, name);
             if found.kind != FOUND {
                 continue;
             }
             let payload = &module[found.offset as usize..][..found.length as usize];
-            if name == NAMES {
-                tally.names(payload);
-            } else {
-                tally.metadata(payload);
+            match name {
+                NAMES => tally.names(payload),
+                HINTS => tally.metadata(payload),
+                _ => tally.old_hints(payload),
             }
         }
     }
@@ -216,4 +221,28 @@ fn answers_of_the_wider_edition() {
     let ask = |path: &PathBuf| ask_file(path, asked_widely, library::wide_kept_in);
     let questions = answers.iter().map(ask).sum();
     assert_eq!((answers.len(), questions), ANSWERED_WIDELY);
+}
+
+/// Asks for the older hints that one file lists. How many questions there are.
+fn ask_old_hints(path: &PathBuf) -> usize {
+    let module = module_of(path);
+    let expected = fs::read_to_string(path).expect("answers can be read");
+    for line in expected.lines() {
+        let words: Vec<&str> = line.split(' ').collect();
+        let [function, offset] = [words[0], words[1]].map(|word| word.parse().expect("a number"));
+        let kind = match words[2] {
+            "likely" => LIKELY,
+            _ => UNLIKELY,
+        };
+        let told = library::old_hint_in(&module, function, offset);
+        assert_eq!(told.kind, kind, "{line} in {}", path.display());
+    }
+    expected.lines().count()
+}
+
+#[test]
+fn answers_of_the_older_edition() {
+    let answers = files("old-answers");
+    let questions = answers.iter().map(ask_old_hints).sum();
+    assert_eq!((answers.len(), questions), ANSWERED_OF_OLD);
 }

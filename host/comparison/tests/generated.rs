@@ -1,5 +1,6 @@
 //! Well-formed inputs made at random.
 
+use comparison::library::{LIKELY, NONE, UNLIKELY};
 use comparison::made;
 use comparison::random::{seed, Random};
 use comparison::spelling::{sized, unpadded};
@@ -25,6 +26,8 @@ fn payloads_and_modules() {
         tally.metadata(&data);
         let hints = made::metadata(&mut r, true);
         tally.metadata(&hints);
+        let old_hints = made::old_hints(&mut r);
+        tally.old_hints(&old_hints);
         let module = made::module(&mut r);
         tally.module(&module);
     }
@@ -34,10 +37,16 @@ fn payloads_and_modules() {
         "only {} calls were compared",
         tally.calls
     );
-    for said in [tally.names_said, tally.metadata_said, tally.hints_said] {
+    for said in [
+        tally.names_said,
+        tally.metadata_said,
+        tally.hints_said,
+        tally.old_said,
+    ] {
         assert!(said.canonical >= LEAST_OF_EACH, "{said:?}");
         assert!(said.not_canonical >= LEAST_OF_EACH, "{said:?}");
     }
+    tally.assert_old_met(&[NONE, UNLIKELY, LIKELY], LEAST_OF_EACH);
     let said = tally.wide_said;
     let fewest = said.canonical.min(said.not_canonical);
     assert!(fewest >= LEAST_WIDE, "{said:?}");

@@ -60,16 +60,18 @@ pub enum Reason {
     LeftOver = 10,
     /// An index or offset is not above the one before.
     NotAscending = 11,
-    /// A hint has a size other than 1, or data above 1.
+    /// A hint has a size other than 1, or data above 1; of the older edition, a kind above 1.
     NotAHint = 12,
     /// The output is shorter than needed.
     OutputTooShort = 13,
     /// The lists disagree about their counts or the length of the text.
     ListsDisagree = 14,
-    /// The subsection to be written would exceed 4,294,967,295 bytes.
+    /// The subsection, or the payload of older hints, to be written would exceed 4,294,967,295 bytes.
     SubsectionTooLarge = 15,
     /// A program's input is above 65,536 bytes.
     InputTooLarge = 16,
+    /// The byte behind the function of an entry of the older hints is not zero.
+    NotZero = 17,
 }
 
 impl Reason {

@@ -10,7 +10,8 @@
 //! no byte of an output.
 //!
 //! Names have two editions, which differ in the table of ids alone: `wide_` begins the calls of the
-//! wider one.
+//! wider one. Hints have two as well, which have no list in common: `old_` begins the calls of the
+//! older one.
 //!
 //! ```
 //! use second_reader::{function_name, Kind};
@@ -31,6 +32,7 @@ mod lists;
 mod metadata;
 mod names;
 mod number;
+mod older;
 mod reading;
 mod telling;
 mod through;
@@ -45,8 +47,10 @@ pub use metadata::{hint, hints_judge, metadata, metadata_judge};
 pub use names::{
     field_name, function_name, kept, local_name, module_name, names_judge, tag_name, type_name,
 };
+pub use older::{old_hint, old_hint_in, old_hints_canonical, old_hints_judge};
 pub use telling::{
-    hints_is_canonical, metadata_is_canonical, names_is_canonical, wide_names_is_canonical,
+    hints_is_canonical, metadata_is_canonical, names_is_canonical, old_hints_is_canonical,
+    wide_names_is_canonical,
 };
 pub use through::{
     field_name_in, function_name_in, hint_in, kept_in, local_name_in, metadata_in, module_name_in,

@@ -5,6 +5,7 @@ use crate::answer::{Answer, Kind};
 use crate::canonical::{
     hints_canonical, metadata_canonical, names_canonical, wide_names_canonical,
 };
+use crate::older::old_hints_canonical;
 
 /// Whether a name payload is accepted and equals its canonical rewriting.
 #[must_use]
@@ -28,6 +29,12 @@ pub fn metadata_is_canonical(payload: &[u8]) -> bool {
 #[must_use]
 pub fn hints_is_canonical(payload: &[u8]) -> bool {
     equals_its_rewriting(payload, hints_canonical)
+}
+
+/// Whether a payload of hints of the older edition is accepted and equals its canonical rewriting.
+#[must_use]
+pub fn old_hints_is_canonical(payload: &[u8]) -> bool {
+    equals_its_rewriting(payload, old_hints_canonical)
 }
 
 /// A rewriting that does not fit into the payload's length is not equal to it, and is refused.

@@ -17,9 +17,8 @@ const ORDER: [u8; 13] = [1, 2, 3, 4, 5, 13, 6, 7, 8, 9, 12, 10, 11];
 pub(crate) const NAMES: &[u8] = b"name";
 /// The name of the section that holds branch hints.
 pub(crate) const HINTS: &[u8] = b"metadata.code.branch_hint";
-
 /// The name of the section that holds hints of the older edition.
-const OLDER_HINTS: &[u8] = b"branchHints";
+pub(crate) const OLDER_HINTS: &[u8] = b"branchHints";
 
 /// The walk over a whole module. Found: the count of its sections as the length.
 pub fn walk(module: &[u8]) -> Answer {

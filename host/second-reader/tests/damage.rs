@@ -58,6 +58,11 @@ fn hint_answers(payload: &[u8]) -> Vec<Answer> {
     INDICES.map(|index| hint(payload, 0, index)).to_vec()
 }
 
+fn old_hint_answers(payload: &[u8]) -> Vec<Answer> {
+    let asked = INDICES.map(|index| [old_hint(payload, 0, index), old_hint(payload, index, 1)]);
+    asked.concat()
+}
+
 /// What an answer says apart from where: two payloads answer alike where these are the same.
 fn said(lent: &[u8], answers: Vec<Answer>) -> Vec<(Kind, Option<&[u8]>)> {
     let said = |answer: Answer| (answer.kind, bytes_of(lent, answer));
@@ -74,7 +79,7 @@ fn check_payload(payload: &[u8], calls: Calls<'_>) {
     } = calls;
     let judged = judge(payload);
     if judged.kind == Kind::Refused {
-        assert!((2..=12).contains(&judged.code));
+        assert!((2..=12).contains(&judged.code) || judged.code == 17);
         assert!(judged.offset <= payload.len() as u64);
         assert!(ask(payload).iter().all(|answer| *answer == judged));
         assert_eq!(rewritten(rewrite, payload), Err(judged));
@@ -126,6 +131,19 @@ fn check_metadata(payload: &[u8]) {
     assert!(any == hints || hints.code == 12);
 }
 
+fn check_older(payload: &[u8]) {
+    let calls = Calls {
+        judge: old_hints_judge,
+        ask: &old_hint_answers,
+        rewrite: old_hints_canonical,
+        is_canonical: old_hints_is_canonical,
+    };
+    check_payload(payload, calls);
+    // It has no order and no names, so nothing is refused for these.
+    let code = old_hints_judge(payload).code;
+    assert!([0, 2, 3, 10, 12, 17].contains(&code), "{payload:02X?}");
+}
+
 /// Puts every question through one module, whatever it is.
 fn check_module(module: &[u8]) {
     let walked = walk(module);
@@ -148,6 +166,7 @@ fn check_module(module: &[u8]) {
 fn through_answers(module: &[u8]) -> Vec<Answer> {
     let mut answers = vec![
         hint_in(module, 0, 0),
+        old_hint_in(module, 0, 0),
         metadata_in(module, b"branch_hint", 0, 0),
         metadata_in(module, b"x", 0, 0),
     ];
@@ -218,17 +237,24 @@ fn metadata_input(random: &mut Random) -> Vec<u8> {
     encoded_nested(&list, random)
 }
 
+fn older_input(random: &mut Random) -> Vec<u8> {
+    let list = random_older(random);
+    encoded_older(&list, random)
+}
+
 fn module_input(random: &mut Random) -> Vec<u8> {
     let metadata = small(40, || metadata_input(random));
     let hints = small(60, || {
         let hints = random_hints(random);
         encoded_nested(&hints, random)
     });
+    let older = small(60, || older_input(random));
     let names = small(60, || names_input(random));
     let mut sections = vec![
         plain_section(1, b"\0"),
         custom_section(b"metadata.code.x", &metadata),
         custom_section(HINTS, &hints),
+        custom_section(OLD_HINTS, &older),
         plain_section(10, b"\0"),
         plain_section(11, b"\0"),
         custom_section(b"name", &names),
@@ -253,6 +279,13 @@ fn metadata_cut_short() {
 }
 
 #[test]
+fn older_hints_cut_short() {
+    for_seeds(200, |random| {
+        cut_everywhere(&older_input(random), check_older);
+    });
+}
+
+#[test]
 fn modules_cut_short() {
     for_seeds(100, |random| {
         cut_everywhere(&module_input(random), check_module)
@@ -273,6 +306,14 @@ fn metadata_with_a_byte_changed() {
     for_seeds(12, |random| {
         let input = small(60, || metadata_input(random));
         change_everywhere(&input, check_metadata);
+    });
+}
+
+#[test]
+fn older_hints_with_a_byte_changed() {
+    for_seeds(12, |random| {
+        let input = small(60, || older_input(random));
+        change_everywhere(&input, check_older);
     });
 }
 
@@ -333,6 +374,7 @@ fn bytes_of_no_plan() {
         }
         check_names(&bytes);
         check_metadata(&bytes);
+        check_older(&bytes);
         check_module(&bytes);
         check_module(&module(&[bytes]));
     });
@@ -350,10 +392,12 @@ fn every_short_payload() {
             .collect();
         payloads.iter().for_each(|payload| check_names(payload));
         payloads.iter().for_each(|payload| check_metadata(payload));
+        payloads.iter().for_each(|payload| check_older(payload));
         payloads = longer;
     }
     payloads.iter().for_each(|payload| check_names(payload));
     payloads.iter().for_each(|payload| check_metadata(payload));
+    payloads.iter().for_each(|payload| check_older(payload));
 }
 
 /// Lists of no plan: whatever is refused leaves the output alone, whatever is written reads back.

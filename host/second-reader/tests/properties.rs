@@ -205,6 +205,35 @@ fn hints_answer_and_are_rewritten() {
 }
 
 #[test]
+fn older_hints_answer_and_are_rewritten() {
+    for_seeds(SEEDS, |random| {
+        let list = random_older(random);
+        let payload = encoded_older(&list, random);
+        assert_eq!(old_hints_judge(&payload), found(0, payload.len() as u64));
+        let canonical = rewritten(old_hints_canonical, &payload).unwrap();
+        assert_eq!(canonical, canonical_older(&list));
+        assert_eq!(old_hints_is_canonical(&payload), payload == canonical);
+        assert!(canonical.len() <= payload.len());
+        assert_eq!(
+            rewritten(old_hints_canonical, &canonical),
+            Ok(canonical.clone())
+        );
+        let module = module(&[padded_section(OLD_HINTS, &payload, random)]);
+        let said = said_first(&list);
+        for (function, offset) in said.keys().flat_map(|&(a, b)| [(a, b), (b, a)]) {
+            let expected = match said.get(&(function, offset)) {
+                Some(true) => LIKELY,
+                Some(false) => UNLIKELY,
+                None => NONE,
+            };
+            assert_eq!(old_hint(&payload, function, offset), expected);
+            assert_eq!(old_hint(&canonical, function, offset), expected);
+            assert_eq!(old_hint_in(&module, function, offset), expected);
+        }
+    });
+}
+
+#[test]
 fn names_written_from_lists_read_back() {
     for_seeds(SEEDS, |random| {
         let list: Flat = random_flat(random, text);

@@ -12,6 +12,9 @@ use crate::input::STANDARD_STREAM;
 use crate::options::{self, Given, Takes};
 use crate::question::{Kind, Question};
 
+/// The option that asks for the hints of the older edition.
+const OLD_HINTS: &str = "--old-hints";
+
 /// What the program is to do.
 #[derive(Debug, PartialEq, Eq)]
 pub enum Invocation {
@@ -43,6 +46,8 @@ pub enum Command {
     Hints(OsString),
     /// The canonical name payload, written to a file where one is given.
     Canon(OsString, Option<OsString>),
+    /// The same of the hints of the older edition.
+    CanonOldHints(OsString, Option<OsString>),
     /// Whether two modules have the same names.
     Same(OsString, OsString),
     /// Whether a module and its payloads are accepted.
@@ -97,7 +102,7 @@ impl Topic {
         let (flags, valued): (&[_], &[_]) = match self {
             Topic::Names => (&["--json", "--wide"], &["--kind"]),
             Topic::Name => (&["--json", "--wide", "--module"], asked::OPTIONS),
-            Topic::Canon => (&["--json", "--wide"], &["-o"]),
+            Topic::Canon => (&["--json", "--wide", OLD_HINTS], &["-o"]),
             Topic::Same | Topic::Judge => (&["--json", "--wide"], &[]),
             Topic::List | Topic::Hints => (&["--json"], &[]),
         };
@@ -159,7 +164,7 @@ fn run(topic: Topic, words: &[OsString]) -> Result<Invocation, String> {
         Topic::Names => Command::Names(one_file(&given)?, kind(&given, wide)?),
         Topic::Name => Command::Name(one_file(&given)?, asked::question(&given, wide)?),
         Topic::Hints => Command::Hints(one_file(&given)?),
-        Topic::Canon => Command::Canon(one_file(&given)?, output(&given)?),
+        Topic::Canon => canon(&given)?,
         Topic::Same => two_files(&given)?,
         Topic::Judge => Command::Judge(one_file(&given)?),
     };
@@ -167,6 +172,20 @@ fn run(topic: Topic, words: &[OsString]) -> Result<Invocation, String> {
         command,
         wide,
         json,
+    })
+}
+
+fn canon(given: &Given) -> Result<Command, String> {
+    if given.has(OLD_HINTS) && given.has("--wide") {
+        return Err(format!(
+            "--wide is about names, and {OLD_HINTS} rewrites hints: leave out one of the two"
+        ));
+    }
+    let (file, out) = (one_file(given)?, output(given)?);
+    Ok(if given.has(OLD_HINTS) {
+        Command::CanonOldHints(file, out)
+    } else {
+        Command::Canon(file, out)
     })
 }
 

@@ -5,7 +5,9 @@
 //! here: whatever does not fit is answered by none. What is learned here is never printed; it only
 //! says what to ask.
 
-use wakemiono::{CodeOffset, FunctionIndex};
+use std::collections::BTreeSet;
+
+use wakemiono::{CodeOffset, FunctionIndex, InstructionOffset};
 
 use crate::edition::Edition;
 use crate::question::{Kind, Question};
@@ -70,6 +72,25 @@ pub fn hint_places(payload: &[u8]) -> Option<Vec<(FunctionIndex, CodeOffset)>> {
         }
     }
     reader.is_at_end().then_some(places)
+}
+
+/// The places of all hints in an accepted payload of the older edition, each once and by function and
+/// offset, as its canonical form has them; none where it is not accepted.
+///
+/// That edition has no order, and its numbers are read as they stand, so that any accepted payload
+/// will do.
+pub fn old_hint_places(payload: &[u8]) -> Option<Vec<(FunctionIndex, InstructionOffset)>> {
+    let mut places = BTreeSet::new();
+    let mut reader = Reader(payload);
+    for _ in 0..reader.number()? {
+        let function = FunctionIndex(reader.number()?);
+        let _zero = reader.byte()?;
+        for _ in 0..reader.number()? {
+            let _kind = reader.number()?;
+            places.insert((function, InstructionOffset(reader.number()?)));
+        }
+    }
+    reader.is_at_end().then(|| places.into_iter().collect())
 }
 
 /// A question, and the bytes that a subsection gives to it.
@@ -237,5 +258,24 @@ mod tests {
         assert_eq!(hint_places(b"\x00"), Some(vec![]));
         assert_eq!(hint_places(b"\x00\x00"), None);
         assert_eq!(hint_places(b""), None);
+    }
+
+    #[test]
+    fn places_of_older_hints_are_found_once_and_in_order() {
+        let payload = b"\x03\x05\x00\x02\x01\x09\x80\x00\x04\x02\x00\x01\x01\x80\x01\
+            \x05\x00\x02\x00\x09\x01\x03";
+        let places = old_hint_places(payload).expect("this is accepted");
+        let place = |function, at| (FunctionIndex(function), InstructionOffset(at));
+        assert_eq!(
+            places,
+            [place(2, 128), place(5, 3), place(5, 4), place(5, 9)]
+        );
+        assert_eq!(
+            old_hint_places(b"\x02\x05\x00\x00\x03\x00\x00"),
+            Some(vec![])
+        );
+        for payload in [&b""[..], b"\x00\x00", b"\x01\x00", b"\x01\x00\x00\x01\x01"] {
+            assert_eq!(old_hint_places(payload), None, "{payload:02X?}");
+        }
     }
 }

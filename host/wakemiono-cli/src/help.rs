@@ -10,8 +10,8 @@ Usage: wakemiono COMMAND FILE [OPTIONS]
   list FILE     the sections, and where names and branch hints lie
   names FILE    all names
   name FILE     one name
-  hints FILE    all branch hints
-  canon FILE    the canonical form of the name payload
+  hints FILE    all branch hints, of both editions
+  canon FILE    the canonical form of the name payload, or of hints of the older edition
   same A B      whether two modules have the same names
   judge FILE    whether the module, its names and its hints are accepted, and canonical
 
@@ -109,28 +109,38 @@ Example: wakemiono name app.wasm --global 3 --wide
 ";
 
 const HINTS: &str = "\
-Lists all branch hints of a module.
+Lists all branch hints of a module, those of each edition under the name of its section.
 
 Usage: wakemiono hints FILE [--json]
 
-Each line is `FUNCTION OFFSET HINT`, where the offset is the branch's place in the function's code
-and the hint is likely or unlikely.
+The name of a section that the module has is a line of its own: `metadata.code.branch_hint`, and
+`branchHints`, the older edition. Behind it each line is `FUNCTION OFFSET HINT`, where the offset is
+the branch's place in the function's code and the hint is likely or unlikely. The editions do not
+count alike: in metadata.code.branch_hint an offset counts from the function's declaration of locals,
+in branchHints from its first instruction. Of hints that branchHints has for one place, the first in
+the file is the one that is shown.
 
 Example: wakemiono hints app.wasm
+  metadata.code.branch_hint
   2 5 likely
+  branchHints
+  2 3 unlikely
 ";
 
 const CANON: &str = "\
 Rewrites the name payload of a module in its canonical form: the same names in the fewest bytes.
 
-Usage: wakemiono canon FILE [-o OUT] [--wide] [--json]
+Usage: wakemiono canon FILE [-o OUT] [--wide | --old-hints] [--json]
 
 Without -o it prints how many bytes the payload has before and after, and what that saves; where the
 payload is canonical already, it says so. A module without a name section has
 an empty canonical payload.
 
-  -o OUT   write the canonical payload to the file OUT, over what is there; - is standard output
-  --wide   rewrite in the wider edition of names; canonical forms of two editions are not comparable
+  -o OUT        write the canonical payload to the file OUT, over what is there; - is standard output
+  --wide        rewrite in the wider edition of names; canonical forms of two editions are not
+                comparable
+  --old-hints   rewrite the hints of the older edition, the section branchHints: by function and
+                offset, of those for one place the first. Without the section it is the one byte 00
 
 OUT is not FILE itself. It is replaced as a whole, and stays as it was where that fails.
 
@@ -160,14 +170,15 @@ Example: wakemiono same old.wasm new.wasm
 ";
 
 const JUDGE: &str = "\
-Judges a module, its name payload and its branch hints, and says whether these two are canonical.
+Judges a module, its name payload and its branch hints of both editions, and says whether these three
+are canonical.
 
 Usage: wakemiono judge FILE [--wide] [--json]
 
-Each of the lines `module`, `name` and `hints` says accepted, none where there is no such section,
-or refused: with the reason, the offset from the start of the module, and the bytes around it. An
-accepted payload is `canonical already` where it equals its canonical form, and `not canonical`
-otherwise. The payloads of a module that is itself refused are not asked. The exit status is 1 where
+Each of the lines `module`, `name`, `hints` and `old_hints` says accepted, none where there is no such
+section, or refused: with the reason, the offset from the start of the module, and the bytes around
+it. `old_hints` is the section branchHints. An accepted payload is `canonical already` where it equals
+its canonical form, and `not canonical` otherwise. The payloads of a module that is itself refused are not asked. The exit status is 1 where
 anything is refused; what is not canonical is not refused.
 
   --wide   judge names in the wider edition; what it accepts the first edition accepts too
@@ -176,6 +187,7 @@ Example: wakemiono judge app.wasm
   module accepted
   name accepted, canonical already
   hints none
+  old_hints none
 ";
 
 /// The help for a command, or for the program.

@@ -1,8 +1,17 @@
 //! The payloads of a module, judged by the library, and their canonical forms.
 
-use wakemiono::{CodeOffset, Edition, FunctionIndex, Hints, Module, NamePayload, Refusal};
+use wakemiono::{
+    CodeOffset, Edition, FunctionIndex, Hints, InstructionOffset, Module, NamePayload, OldHints,
+    Refusal,
+};
 
 use crate::report::Failure;
+
+/// The name of the section with branch hints.
+pub const HINTS: &str = "metadata.code.branch_hint";
+
+/// The name of the section with hints of the older edition.
+pub const OLD_HINTS: &str = "branchHints";
 
 /// The `name` payload of a module, once it is accepted; none without the section.
 ///
@@ -17,6 +26,12 @@ pub fn names<E: Edition>(module: Module<'_, E>) -> Result<Option<NamePayload<'_,
 pub fn hints<E: Edition>(module: Module<'_, E>) -> Result<Option<Hints<'_>>, Refusal> {
     module.hint(FunctionIndex(0), CodeOffset(0))?;
     module.hints()
+}
+
+/// The payload of hints of the older edition, judged in the same way; none without the section.
+pub fn old_hints<E: Edition>(module: Module<'_, E>) -> Result<Option<OldHints<'_>>, Refusal> {
+    module.old_hint(FunctionIndex(0), InstructionOffset(0))?;
+    module.old_hints()
 }
 
 /// The canonical form of an accepted payload. That of no section is empty, since both give none to
@@ -35,4 +50,15 @@ pub fn canonical_names<E: Edition>(
 pub fn canonical_hints(payload: Option<Hints<'_>>) -> Result<Option<Vec<u8>>, Failure> {
     let canonical = payload.map(|payload| payload.to_canonical()).transpose();
     canonical.map_err(|_| Failure::Misfit)
+}
+
+/// The canonical form of accepted hints of the older edition. That of no section is the one that has
+/// no hints, since both give none to every question.
+///
+/// # Errors
+///
+/// A refusal where the canonical form would exceed what a section can hold.
+pub fn canonical_old_hints(payload: Option<OldHints<'_>>) -> Result<Vec<u8>, Refusal> {
+    const NO_HINTS: [u8; 1] = [0x00];
+    payload.map_or_else(|| Ok(NO_HINTS.to_vec()), |payload| payload.to_canonical())
 }

@@ -4,7 +4,9 @@ mod common;
 
 use std::fs;
 
-use common::{fed, file, hinted, long_named, named, path, run, BARE, EVERY_KIND, MODULE};
+use common::{
+    fed, file, hinted, joined, long_named, named, old_hinted, path, run, BARE, EVERY_KIND, MODULE,
+};
 
 #[test]
 fn list_prints_the_listing_of_the_documents() {
@@ -166,7 +168,8 @@ fn one_name_in_json() {
 #[test]
 fn hints_in_their_order() {
     let module = hinted(b"\x02\x02\x02\x05\x01\x01\x09\x01\x00\x82\x01\x01\x00\x01\x01");
-    fed(&["hints", "-"], &module).prints("2 5 likely\n2 9 unlikely\n130 0 likely\n");
+    fed(&["hints", "-"], &module)
+        .prints("metadata.code.branch_hint\n2 5 likely\n2 9 unlikely\n130 0 likely\n");
     fed(
         &["hints", "-", "--json"],
         &hinted(b"\x01\x02\x01\x05\x01\x00"),
@@ -174,7 +177,41 @@ fn hints_in_their_order() {
     .is_json(
         0,
         "{\"file\":\"-\",\"hints\":[\
-         {\"function\":2,\"offset\":5,\"hint\":\"unlikely\"}]}",
+         {\"function\":2,\"offset\":5,\"hint\":\"unlikely\"}],\"old_hints\":[]}",
+    );
+}
+
+/// Function 5 before function 2, its offsets falling, one place said twice, a padded kind.
+const FREE: &[u8] = b"\x03\x05\x00\x02\x01\x09\x80\x00\x04\x02\x00\x01\x01\x80\x01\
+    \x05\x00\x02\x00\x09\x01\x03";
+
+#[test]
+fn older_hints_by_function_and_offset() {
+    fed(&["hints", "-"], &old_hinted(FREE))
+        .prints("branchHints\n2 128 likely\n5 3 likely\n5 4 unlikely\n5 9 likely\n");
+    fed(
+        &["hints", "-", "--json"],
+        &old_hinted(b"\x01\x02\x00\x01\x01\x05"),
+    )
+    .is_json(
+        0,
+        "{\"file\":\"-\",\"hints\":[],\"old_hints\":[\
+         {\"function\":2,\"offset\":5,\"hint\":\"likely\"}]}",
+    );
+}
+
+#[test]
+fn hints_of_both_editions_under_their_names() {
+    let newer = hinted(b"\x01\x02\x01\x05\x01\x01");
+    let older = old_hinted(b"\x01\x02\x00\x02\x00\x05\x01\x05");
+    let lines = "metadata.code.branch_hint\n2 5 likely\nbranchHints\n2 5 unlikely\n";
+    fed(&["hints", "-"], &joined(&newer, &older)).prints(lines);
+    fed(&["hints", "-"], &joined(&older, &newer)).prints(lines);
+    fed(&["hints", "-", "--json"], &joined(&older, &newer)).is_json(
+        0,
+        "{\"file\":\"-\",\
+         \"hints\":[{\"function\":2,\"offset\":5,\"hint\":\"likely\"}],\
+         \"old_hints\":[{\"function\":2,\"offset\":5,\"hint\":\"unlikely\"}]}",
     );
 }
 
@@ -186,13 +223,19 @@ fn hints_that_are_not_there() {
         none.said,
         "wakemiono: the module has no section of branch hints.\n"
     );
-    let none = fed(&["hints", "-"], &hinted(b"\x01\x02\x00"));
-    none.ends(0, "");
-    assert_eq!(
-        none.said,
-        "wakemiono: the section of branch hints has none.\n"
+    let empty = hinted(b"\x01\x02\x00");
+    let none = fed(&["hints", "-"], &empty);
+    none.ends(0, "metadata.code.branch_hint\n");
+    let said = "wakemiono: the section metadata.code.branch_hint has no hints.\n";
+    assert_eq!(none.said, said);
+    let none = fed(
+        &["hints", "-"],
+        &joined(&empty, &old_hinted(b"\x01\x02\x00\x00")),
     );
-    let json = "{\"file\":\"-\",\"hints\":[]}";
+    none.ends(0, "metadata.code.branch_hint\nbranchHints\n");
+    let also = "wakemiono: the section branchHints has no hints.\n";
+    assert_eq!(none.said, format!("{said}{also}"));
+    let json = "{\"file\":\"-\",\"hints\":[],\"old_hints\":[]}";
     fed(&["hints", "-", "--json"], MODULE).is_json(0, json);
 }
 
@@ -328,29 +371,73 @@ fn not_the_same_in_json() {
 #[test]
 fn judge_accepts() {
     fed(&["judge", "-"], MODULE)
-        .prints("module accepted\nname accepted, canonical already\nhints none\n");
+        .prints("module accepted\nname accepted, canonical already\nhints none\nold_hints none\n");
     fed(&["judge", "-"], &hinted(b"\x00"))
-        .prints("module accepted\nname none\nhints accepted, canonical already\n");
-    fed(&["judge", "-"], BARE).prints("module accepted\nname none\nhints none\n");
+        .prints("module accepted\nname none\nhints accepted, canonical already\nold_hints none\n");
+    fed(&["judge", "-"], BARE).prints("module accepted\nname none\nhints none\nold_hints none\n");
+    fed(&["judge", "-"], &old_hinted(FREE))
+        .prints("module accepted\nname none\nhints none\nold_hints accepted, not canonical\n");
+    fed(&["judge", "-"], &old_hinted(b"\x00"))
+        .prints("module accepted\nname none\nhints none\nold_hints accepted, canonical already\n");
     fed(&["judge", "-", "--json"], MODULE).is_json(
         0,
         "{\"file\":\"-\",\"accepted\":true,\"module\":{\"verdict\":\"accepted\"},\
          \"name\":{\"verdict\":\"accepted\",\"canonical\":true},\
-         \"hints\":{\"verdict\":\"none\"}}",
+         \"hints\":{\"verdict\":\"none\"},\"old_hints\":{\"verdict\":\"none\"}}",
     );
 }
 
 #[test]
 fn judge_accepts_what_is_not_canonical() {
     fed(&["judge", "-"], &named(PADDED))
-        .prints("module accepted\nname accepted, not canonical\nhints none\n");
+        .prints("module accepted\nname accepted, not canonical\nhints none\nold_hints none\n");
     let function_without_hints = hinted(b"\x01\x02\x00");
     fed(&["judge", "-"], &function_without_hints)
-        .prints("module accepted\nname none\nhints accepted, not canonical\n");
+        .prints("module accepted\nname none\nhints accepted, not canonical\nold_hints none\n");
     fed(&["judge", "-", "--json"], &function_without_hints).is_json(
         0,
         "{\"file\":\"-\",\"accepted\":true,\"module\":{\"verdict\":\"accepted\"},\
          \"name\":{\"verdict\":\"none\"},\
-         \"hints\":{\"verdict\":\"accepted\",\"canonical\":false}}",
+         \"hints\":{\"verdict\":\"accepted\",\"canonical\":false},\
+         \"old_hints\":{\"verdict\":\"none\"}}",
+    );
+}
+
+/// What `FREE` comes to.
+const SORTED: &[u8] = b"\x02\x02\x00\x01\x01\x80\x01\x05\x00\x03\x01\x03\x00\x04\x01\x09";
+
+#[test]
+fn canon_of_older_hints() {
+    let module = old_hinted(FREE);
+    fed(&["canon", "-", "--old-hints"], &module).prints("before 22\nafter 16\nsaves 6 (27.2 %)\n");
+    let written = fed(&["canon", "-", "--old-hints", "-o", "-"], &module);
+    assert_eq!((written.status, &written.bytes[..]), (0, SORTED));
+    let out = path("canon-old-hints.out");
+    fed(&["canon", "-", "--old-hints", "-o", &out], &module).prints("");
+    assert_eq!(fs::read(&out).unwrap(), SORTED);
+    fed(&["canon", "-", "--old-hints"], &old_hinted(SORTED)).prints(
+        "before 16\nafter 16\nsaves 0 (0.0 %)\n\
+         it is canonical already: the rewriting saves nothing\n",
+    );
+    fed(&["canon", "-", "--old-hints", "--json"], &module).is_json(
+        0,
+        "{\"file\":\"-\",\"payload\":\"old_hints\",\"section\":true,\"canonical\":false,\
+         \"before\":22,\"after\":16,\"saves\":6,\"written_to\":null}",
+    );
+}
+
+/// A module without the section answers as one with no hints in it, so that both have one canonical payload.
+#[test]
+fn canon_of_older_hints_that_are_not_there() {
+    for module in [MODULE.to_vec(), old_hinted(b"\x01\x05\x00\x00")] {
+        let written = fed(&["canon", "-", "--old-hints", "-o", "-"], &module);
+        assert_eq!((written.status, &written.bytes[..]), (0, &[0x00][..]));
+    }
+    let none = fed(&["canon", "-", "--old-hints"], MODULE);
+    none.ends(0, "before 0\nafter 1\nsaves 0 (0.0 %)\n");
+    assert_eq!(
+        none.said,
+        "wakemiono: the module has no section branchHints; its canonical payload is the one byte \
+         00, that of no hints.\n"
     );
 }

@@ -18,9 +18,13 @@ fn examples() -> Vec<&'static str> {
 fn examples_print_what_they_say() {
     let folder = path("readme");
     fs::create_dir_all(&folder).unwrap();
+    let newer = common::hinted(b"\x01\x02\x01\x05\x01\x01");
+    let older = common::old_hinted(b"\x01\x02\x00\x01\x00\x03");
+    let hinted = common::joined(&newer, &older);
     for (name, module) in [
         ("app.wasm", MODULE),
         ("wide.wasm", WIDE),
+        ("hinted.wasm", &hinted),
         ("bare.wasm", BARE),
         ("later.wasm", NO_SUCH_SECTION),
     ] {

@@ -2,7 +2,7 @@
 
 mod common;
 
-use common::{fed, file, hinted, named, MODULE, NO_SUCH_SECTION};
+use common::{fed, file, hinted, joined, named, old_hinted, MODULE, NO_SUCH_SECTION};
 
 const NO_SUCH_SECTION_WORDS: &str = "\
 wakemiono: standard input: refused, number 5: a section id is above 13: it stands at byte 0x8 (8)
@@ -70,7 +70,21 @@ fn with_offsets_from_the_start_of_the_module() {
     let refused = fed(&["hints", "-"], &hinted(b"\x01\x02\x01\x05\x01\x02"));
     refused.ends(1, "");
     assert!(refused.said.contains("refused, number 12: "));
-    assert!(refused.said.contains("its size stands at byte 0x28 (40)"));
+    assert!(refused
+        .said
+        .contains("its size, or its kind, stands at byte 0x28 (40)"));
+    let refused = fed(&["hints", "-"], &old_hinted(b"\x01\x05\x80\x00"));
+    refused.ends(1, "");
+    assert_eq!(
+        refused.said,
+        "wakemiono: standard input: refused, number 17: the byte behind a function of older hints \
+         is not zero: it stands at byte 0x18 (24)\n\
+         \x20 00000000  00 61 73 6D 01 00 00 00 00 10 0B 62 72 61 6E 63  |.asm.......branc|\n\
+         \x20 00000010  68 48 69 6E 74 73 01 05 80 00                    |hHints....|\n\
+         \x20                                   ^^\n\
+         \x20 what to do: no hints of the older edition, or a damaged file: take it from its \
+         producer again\n"
+    );
 }
 
 #[test]
@@ -114,24 +128,27 @@ fn judge_says_which_part() {
          \x20                                   ^^\n\
          \x20 what to do: a section of a later version of WebAssembly: ask the producer for one \
          without it\n\
-         name not asked\nhints not asked\n",
+         name not asked\nhints not asked\nold_hints not asked\n",
     );
     let judged = fed(&["judge", "-"], &named(b"\x01\x02\x00\x00"));
     assert_eq!(judged.status, 1);
     assert!(judged
         .out()
         .starts_with("module accepted\nname refused, number 10: "));
-    assert!(judged.out().ends_with("hints none\n"));
+    assert!(judged.out().ends_with("\nhints none\nold_hints none\n"));
 }
 
 #[test]
 fn judge_says_all_parts_that_are_refused() {
     let damaged_hints = hinted(b"\x00\x00");
-    let both = [&named(b"\x01\x00"), &damaged_hints[8..]].concat();
+    let damaged_old_hints = old_hinted(b"\x01\x00\x00\x01\x02");
+    let hints = joined(&damaged_hints, &damaged_old_hints);
+    let both = joined(&hints, &named(b"\x01\x00"));
     let judged = fed(&["judge", "-"], &both);
     assert_eq!(judged.status, 1);
     assert!(judged.out().contains("\nname refused, number 2: "));
     assert!(judged.out().contains("\nhints refused, number 10: "));
+    assert!(judged.out().contains("\nold_hints refused, number 12: "));
     let judged = fed(&["judge", "-", "--json"], &both);
     assert_eq!(judged.status, 1);
     common::json::check(judged.out().trim_end());
@@ -141,4 +158,7 @@ fn judge_says_all_parts_that_are_refused() {
     assert!(judged
         .out()
         .contains("\"hints\":{\"verdict\":\"refused\",\"refusal\":{\"number\":10,"));
+    assert!(judged
+        .out()
+        .contains("\"old_hints\":{\"verdict\":\"refused\",\"refusal\":{\"number\":12,"));
 }

@@ -271,3 +271,14 @@ fn a_full_disk_is_said() {
     assert!(said.contains(": refused, number 1: "), "{said}");
     assert!(said.ends_with(advice), "{said}");
 }
+
+#[test]
+fn names_and_older_hints_are_rewritten_apart() {
+    run(&["canon", "f", "--old-hints", "--wide"]).is_misuse(
+        "--wide is about names, and --old-hints rewrites hints: leave out one of the two; \
+         see `wakemiono canon --help`.",
+    );
+    run(&["hints", "f", "--old-hints"]).is_misuse(
+        "there is no option '--old-hints': give one of --json; see `wakemiono hints --help`.",
+    );
+}

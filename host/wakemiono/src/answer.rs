@@ -175,13 +175,13 @@ mod tests {
 
     #[test]
     #[should_panic(expected = "is it of another version?")]
-    fn refusals_have_the_numbers_1_to_15() {
+    fn no_call_refuses_with_the_number_16() {
         let _ = answer(REFUSED, 16, 0, 0).length();
     }
 
     #[test]
     fn every_reason_has_its_number() {
-        for number in 1..=15 {
+        for number in (1..=15).chain([17]) {
             let refusal = answer(REFUSED, number, 7, 0).length().unwrap_err();
             assert_eq!((refusal.number(), refusal.offset()), (number, 7));
             assert_eq!(answer(REFUSED, number, 7, 0).hint().unwrap_err(), refusal);

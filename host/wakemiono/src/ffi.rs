@@ -162,6 +162,17 @@ extern "C" {
         out_len: usize,
     ) -> Answer;
     fn wm_wide_names_is_canonical(payload: *const u8, payload_len: usize) -> u32;
+
+    fn wm_old_hints_judge(payload: *const u8, payload_len: usize) -> Answer;
+    fn wm_old_hint(payload: *const u8, payload_len: usize, function: u32, offset: u32) -> Answer;
+    fn wm_old_hint_in(module: *const u8, module_len: usize, function: u32, offset: u32) -> Answer;
+    fn wm_old_hints_canonical(
+        payload: *const u8,
+        payload_len: usize,
+        out: *mut u8,
+        out_len: usize,
+    ) -> Answer;
+    fn wm_old_hints_is_canonical(payload: *const u8, payload_len: usize) -> u32;
 }
 
 pub(crate) fn walk(module: &[u8]) -> Answer {
@@ -293,8 +304,8 @@ pub trait NameCalls {
 macro_rules! asking {
     ($($vis:vis fn $name:ident($($number:ident: $type:ty),*) -> $answer:ty = $call:ident;)*) => {$(
         $vis fn $name(lent: &[u8], $($number: $type),*) -> $answer {
-            // SAFETY: pointer and length of one live slice, lent; any index and any id may be
-            // asked.
+            // SAFETY: pointer and length of one live slice, lent; any index, any id and any offset may
+            // be asked.
             unsafe { $call(lent.as_ptr(), lent.len(), $($number),*) }
         }
     )*};
@@ -377,6 +388,20 @@ impl Wider {
         pub(crate) fn element_name_in(element: u32) -> Answer = wm_wide_element_name_in;
         pub(crate) fn data_name_in(data: u32) -> Answer = wm_wide_data_name_in;
     }
+}
+
+// The calls of the older edition of hints.
+asking! {
+    pub(crate) fn old_hints_judge() -> Answer = wm_old_hints_judge;
+    pub(crate) fn old_hint(function: u32, offset: u32) -> Answer = wm_old_hint;
+    pub(crate) fn old_hint_in(function: u32, offset: u32) -> Answer = wm_old_hint_in;
+
+    pub(crate) fn old_hints_is_canonical() -> u32 = wm_old_hints_is_canonical;
+}
+
+pub(crate) fn old_hints_canonical(payload: &[u8], out: &mut [u8]) -> Answer {
+    // SAFETY: pointers and lengths of one live slice, lent, and of one `&mut` slice, the output.
+    unsafe { wm_old_hints_canonical(payload.as_ptr(), payload.len(), out.as_mut_ptr(), out.len()) }
 }
 
 /// The layout that the header gives: two 32-bit fields, then two of 64 bits, without gaps.

@@ -1,4 +1,5 @@
-//! One type for each index space and for code offsets, so that none is taken for another.
+//! One type for each index space and for the offsets of each edition of hints, so that none is taken
+//! for another.
 
 use std::fmt;
 
@@ -154,7 +155,8 @@ number! {
 }
 
 number! {
-    /// A place in a function's code, in bytes from where its declaration of locals starts.
+    /// A place in a function's code, in bytes from where its declaration of locals starts, as code
+    /// metadata counts it.
     ///
     /// ```
     /// use wakemiono::CodeOffset;
@@ -162,4 +164,30 @@ number! {
     /// assert_eq!(format!("{:>4}", CodeOffset(17)), "  17");
     /// ```
     CodeOffset
+}
+
+number! {
+    /// A place in a function's code, in bytes from its first instruction, as the older edition of
+    /// hints counts it.
+    ///
+    /// ```
+    /// use wakemiono::InstructionOffset;
+    ///
+    /// assert_eq!(InstructionOffset::from(17).to_string(), "17");
+    /// ```
+    ///
+    /// It is not taken for a place that counts from the locals, nor that for it:
+    ///
+    /// ```compile_fail,E0308
+    /// use wakemiono::{FunctionIndex, Hints, InstructionOffset};
+    ///
+    /// Hints::new(&[]).hint(FunctionIndex(3), InstructionOffset(17));
+    /// ```
+    ///
+    /// ```compile_fail,E0308
+    /// use wakemiono::{CodeOffset, FunctionIndex, OldHints};
+    ///
+    /// OldHints::new(&[]).hint(FunctionIndex(3), CodeOffset(17));
+    /// ```
+    InstructionOffset
 }

@@ -13,13 +13,17 @@
 //! ```
 //!
 //! The answers come from a proved library, of which this crate is the safe side: whole modules are
-//! asked through [`Module`], payloads apart from their module through [`NamePayload`], [`Metadata`]
-//! and [`Hints`], and function names are written by [`function_names`]. Only the steps of
+//! asked through [`Module`], payloads apart from their module through [`NamePayload`], [`Metadata`],
+//! [`Hints`] and [`OldHints`], and function names are written by [`function_names`]. Only the steps of
 //! [`Sections`] over a module that the library has accepted are taken here.
 //!
 //! Names are asked in one of two editions. [`Module::new`] and [`NamePayload::new`] open the
 //! [`First`]; [`Module::wider`] and [`NamePayload::wider`] open the [`Wider`], which also has the
 //! names of labels, tables, memories, globals, element segments and data segments.
+//!
+//! Branch hints have two editions as well, which stand in sections of two names and count offsets
+//! from two places. A module may carry both: [`Module::hint`] asks the one, with a [`CodeOffset`],
+//! and [`Module::old_hint`] the older, with an [`InstructionOffset`].
 //!
 //! - Any bytes may be lent. No call asks a prior check, and bad input gets a [`Refusal`] that says
 //!   what is wrong and where.
@@ -44,19 +48,21 @@ mod metadata;
 mod module;
 mod name;
 mod name_payload;
+mod old_hints;
 mod refusal;
 mod wider;
 
 pub use edition::{Edition, First, Wider};
 pub use index::{
-    CodeOffset, DataIndex, ElementIndex, FieldIndex, FunctionIndex, GlobalIndex, LabelIndex,
-    LocalIndex, MemoryIndex, TableIndex, TagIndex, TypeIndex,
+    CodeOffset, DataIndex, ElementIndex, FieldIndex, FunctionIndex, GlobalIndex, InstructionOffset,
+    LabelIndex, LocalIndex, MemoryIndex, TableIndex, TagIndex, TypeIndex,
 };
 pub use lists::{function_names, function_names_into};
 pub use metadata::{Hint, Hints, Metadata};
 pub use module::{Module, Section, Sections};
 pub use name::Name;
 pub use name_payload::NamePayload;
+pub use old_hints::OldHints;
 pub use refusal::{Reason, Refusal};
 
 /// Where a part that was found lies in the bytes that were lent, as an offset from their start;

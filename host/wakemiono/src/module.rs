@@ -5,8 +5,8 @@ use std::iter::FusedIterator;
 use std::marker::PhantomData;
 
 use crate::{
-    ffi, CodeOffset, Edition, FieldIndex, First, FunctionIndex, Hint, Hints, LocalIndex, Name,
-    NamePayload, Refusal, TagIndex, TypeIndex,
+    ffi, CodeOffset, Edition, FieldIndex, First, FunctionIndex, Hint, Hints, InstructionOffset,
+    LocalIndex, Name, NamePayload, OldHints, Refusal, TagIndex, TypeIndex,
 };
 
 /// A section, as the walk finds it.
@@ -34,7 +34,8 @@ pub struct Section {
 /// Any bytes may be lent, and nothing is checked beforehand: each call walks over all sections
 /// first, and refuses a module that is damaged anywhere, whatever is asked. A payload is judged
 /// only where it is asked. Each call reads the whole module; a caller with many questions takes
-/// the payload out once, with [`names`](Self::names) or [`hints`](Self::hints), and asks that.
+/// the payload out once, with [`names`](Self::names), [`hints`](Self::hints) or
+/// [`old_hints`](Self::old_hints), and asks that.
 ///
 /// ```
 /// use wakemiono::{FunctionIndex, Module};
@@ -204,6 +205,25 @@ impl<'a, E: Edition> Module<'a, E> {
     /// As [`section_count`](Self::section_count).
     pub fn hints(&self) -> Result<Option<Hints<'a>>, Refusal> {
         Ok(self.custom("metadata.code.branch_hint")?.map(Hints::new))
+    }
+
+    /// The payload of the section `branchHints`, the older edition of hints, not judged yet. Its
+    /// offsets count from its own start.
+    ///
+    /// ```
+    /// use wakemiono::Module;
+    ///
+    /// let module = Module::new(b"\0asm\x01\0\0\0\x00\x0D\x0BbranchHints\x00");
+    /// assert_eq!(module.old_hints()?.unwrap().judge(), Ok(()));
+    /// assert!(module.hints()?.is_none()); // the editions are kept apart
+    /// # Ok::<(), wakemiono::Refusal>(())
+    /// ```
+    ///
+    /// # Errors
+    ///
+    /// As [`section_count`](Self::section_count).
+    pub fn old_hints(&self) -> Result<Option<OldHints<'a>>, Refusal> {
+        Ok(self.custom("branchHints")?.map(OldHints::new))
     }
 
     /// The module's name; none also without a `name` section.
@@ -382,6 +402,31 @@ impl<'a, E: Edition> Module<'a, E> {
     /// As [`metadata`](Self::metadata).
     pub fn hint(&self, function: FunctionIndex, at: CodeOffset) -> Result<Option<Hint>, Refusal> {
         ffi::hint_in(self.0, function.0, at.0).hint()
+    }
+
+    /// The hint of the older edition for the branch at a place in a function's code, which counts
+    /// from its first instruction: the first in the section `branchHints` for it; none also without
+    /// the section.
+    ///
+    /// ```
+    /// use wakemiono::{FunctionIndex, Hint, InstructionOffset, Module};
+    ///
+    /// let module =
+    ///     Module::new(b"\0asm\x01\0\0\0\x00\x12\x0BbranchHints\x01\x02\x00\x01\x01\x05");
+    /// let hint = module.old_hint(FunctionIndex(2), InstructionOffset(5))?;
+    /// assert_eq!(hint, Some(Hint::Likely));
+    /// # Ok::<(), wakemiono::Refusal>(())
+    /// ```
+    ///
+    /// # Errors
+    ///
+    /// As [`metadata`](Self::metadata).
+    pub fn old_hint(
+        &self,
+        function: FunctionIndex,
+        at: InstructionOffset,
+    ) -> Result<Option<Hint>, Refusal> {
+        ffi::old_hint_in(self.0, function.0, at.0).hint()
     }
 
     pub(crate) fn name(&self, answer: ffi::Answer) -> Result<Option<Name<'a>>, Refusal> {

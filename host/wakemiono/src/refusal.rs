@@ -45,23 +45,28 @@ pub enum Reason {
     /// 11: an index or code offset is not above the one before. The offset is that of the number;
     /// from lists, its position in the list.
     NotRising = 11,
-    /// 12: a branch hint has a size other than 1, or data above 1. The offset is that of the size.
+    /// 12: a branch hint has a size other than 1, or data above 1, and the offset is that of the
+    /// size; or one of the older edition has a kind above 1, and the offset is that of the kind.
     NotAHint = 12,
     /// 13: the output is shorter than needed. In place of an offset stands the needed length.
     OutputTooShort = 13,
     /// 14: the lists disagree: their counts differ, or the lengths do not add up to the text.
     ListsDisagree = 14,
-    /// 15: a subsection would exceed 4,294,967,295 bytes.
+    /// 15: a subsection, or a payload of older hints, would exceed 4,294,967,295 bytes.
     SubsectionTooLong = 15,
+    /// 17: in hints of the older edition the byte behind a function is not zero. The offset is that
+    /// of the byte.
+    NotZero = 17,
 }
 
 impl Reason {
-    /// Every reason, in the order of their numbers.
+    /// Every reason, in the order of their numbers. No call gives 16, which the program that lists has
+    /// for its own input.
     ///
     /// ```
     /// use wakemiono::Reason;
     ///
-    /// assert!(Reason::ALL.iter().zip(1..).all(|(reason, number)| reason.number() == number));
+    /// assert!(Reason::ALL.windows(2).all(|two| two[0].number() < two[1].number()));
     /// ```
     pub const ALL: &'static [Reason] = &[
         Reason::Preamble,
@@ -79,6 +84,7 @@ impl Reason {
         Reason::OutputTooShort,
         Reason::ListsDisagree,
         Reason::SubsectionTooLong,
+        Reason::NotZero,
     ];
 
     /// The refusal number.
@@ -150,7 +156,10 @@ impl Reason {
             Reason::ListsDisagree => {
                 "as many lengths as indices, and lengths that add up to the text"
             }
-            Reason::SubsectionTooLong => "too many names for one section: write fewer",
+            Reason::SubsectionTooLong => "too many names or hints for one section: write fewer",
+            Reason::NotZero => {
+                "no hints of the older edition, or a damaged file: take it from its producer again"
+            }
         }
     }
 }
@@ -178,12 +187,15 @@ impl fmt::Display for Reason {
             Reason::SubsectionOrder => "a subsection id is not above the one before",
             Reason::LeftOver => "bytes are left over in a subsection or a metadata payload",
             Reason::NotRising => "an index or code offset is not above the one before",
-            Reason::NotAHint => "a branch hint has a size other than 1, or data above 1",
+            Reason::NotAHint => "a branch hint has a size other than 1, or data or a kind above 1",
             Reason::OutputTooShort => "the output is shorter than needed",
             Reason::ListsDisagree => {
                 "the lists disagree: their counts differ, or the lengths do not add up to the text"
             }
-            Reason::SubsectionTooLong => "a subsection would exceed 4,294,967,295 bytes",
+            Reason::SubsectionTooLong => {
+                "a subsection, or a payload of older hints, would exceed 4,294,967,295 bytes"
+            }
+            Reason::NotZero => "the byte behind a function of older hints is not zero",
         })
     }
 }
@@ -295,7 +307,8 @@ impl fmt::Debug for Refusal {
 /// let refusal = Hints::new(&[0x01, 0x02, 0x01, 0x05, 0x01, 0x02]).judge().unwrap_err();
 /// assert_eq!(
 ///     refusal.to_string(),
-///     "a branch hint has a size other than 1, or data above 1: its size stands at byte 0x4 (4)"
+///     "a branch hint has a size other than 1, or data or a kind above 1: its size, or its kind, \
+///      stands at byte 0x4 (4)"
 /// );
 /// ```
 impl fmt::Display for Refusal {
@@ -320,11 +333,11 @@ impl fmt::Display for Refusal {
             (Reason::RunsPast, _) => "the number, or the length of the part, starts at",
             (Reason::NumberTooLarge, _) => "the number starts at",
             (Reason::NotText | Reason::NotRising, _) => "it starts at",
-            (Reason::SectionId | Reason::SubsectionOrder, _) => "it stands at",
+            (Reason::SectionId | Reason::SubsectionOrder | Reason::NotZero, _) => "it stands at",
             (Reason::SectionOrder | Reason::SecondSection, _) => "its id stands at",
             (Reason::SectionTooLate, _) => "the id of the later section stands at",
             (Reason::LeftOver, _) => "the first of them stands at",
-            (Reason::NotAHint, _) => "its size stands at",
+            (Reason::NotAHint, _) => "its size, or its kind, stands at",
         };
         write!(f, "{}: {place} byte {at:#X} ({at})", self.reason)
     }

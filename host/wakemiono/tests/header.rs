@@ -79,7 +79,7 @@ fn in_crate() -> Vec<String> {
 #[test]
 fn every_call_is_declared_as_the_header_has_it() {
     assert_eq!(in_crate(), in_header());
-    assert_eq!(in_crate().len(), 60);
+    assert_eq!(in_crate().len(), 65);
 }
 
 #[test]

@@ -9,7 +9,7 @@ use std::path::Path;
 use common::{custom, module, section, HINTS_NAME};
 use wakemiono::{
     function_names, function_names_into, FunctionIndex, Hints, Metadata, Module, NamePayload,
-    Reason, Refusal,
+    OldHints, Reason, Refusal,
 };
 
 #[track_caller]
@@ -85,7 +85,23 @@ fn of_payloads() {
     says(
         Hints::new(&[0x01, 0x02, 0x01, 0x05, 0x01, 0x02]).judge(),
         Reason::NotAHint,
-        "a branch hint has a size other than 1, or data above 1: its size stands at byte 0x4 (4)",
+        "a branch hint has a size other than 1, or data or a kind above 1: its size, or its kind, \
+         stands at byte 0x4 (4)",
+    );
+}
+
+#[test]
+fn of_older_hints() {
+    says(
+        OldHints::new(&[0x01, 0x02, 0x80, 0x00]).judge(),
+        Reason::NotZero,
+        "the byte behind a function of older hints is not zero: it stands at byte 0x2 (2)",
+    );
+    says(
+        OldHints::new(&[0x01, 0x02, 0x00, 0x01, 0x02]).judge(),
+        Reason::NotAHint,
+        "a branch hint has a size other than 1, or data or a kind above 1: its size, or its kind, \
+         stands at byte 0x4 (4)",
     );
 }
 
@@ -148,13 +164,13 @@ fn as_errors() {
 }
 
 #[test]
-fn their_numbers_are_1_to_15() {
+fn their_numbers_are_1_to_15_and_17() {
     let numbers: Vec<u32> = Reason::ALL.iter().map(|reason| reason.number()).collect();
-    assert_eq!(numbers, (1..=15).collect::<Vec<u32>>());
+    assert_eq!(numbers, (1..=15).chain([17]).collect::<Vec<u32>>());
     for reason in Reason::ALL {
         assert_eq!(Reason::from_number(reason.number()), Some(*reason));
     }
-    for none in [0, 16, u32::MAX] {
+    for none in [0, 16, 18, u32::MAX] {
         assert_eq!(Reason::from_number(none), None);
     }
 }
@@ -169,7 +185,7 @@ fn the_readme_gives_the_same_advice() {
         Some((number.parse().ok()?, advice))
     });
     // Its table has a row more, for the program that lists, which no call of the library gives.
-    let rows: Vec<(u32, &str)> = rows.take(Reason::ALL.len()).collect();
+    let rows: Vec<(u32, &str)> = rows.filter(|(number, _)| *number != 16).collect();
     let advice: Vec<(u32, &str)> = Reason::ALL
         .iter()
         .map(|reason| (reason.number(), reason.advice()))

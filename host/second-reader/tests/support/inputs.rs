@@ -2,6 +2,8 @@
 //!
 //! The encoder here is the plainest possible and knows nothing of the crate under test.
 
+use std::collections::BTreeMap;
+
 use super::editions::Edition;
 use super::random::Random;
 
@@ -224,5 +226,67 @@ pub fn encoded_nested(list: &Nested, random: &mut Random) -> Vec<u8> {
         nested(list, &mut Fewest)
     } else {
         nested(list, &mut &mut *random)
+    }
+}
+
+/// The entries of a payload of older hints, in any order: a function, and whether the branch at an
+/// offset is likely.
+pub type Older = Vec<(u32, Vec<(bool, u32)>)>;
+
+pub fn older(list: &Older, padding: &mut impl Padding) -> Vec<u8> {
+    let mut bytes = number(list.len() as u32, padding);
+    for (function, hints) in list {
+        bytes.extend(number(*function, padding));
+        bytes.push(0);
+        bytes.extend(number(hints.len() as u32, padding));
+        for (likely, offset) in hints {
+            bytes.extend(number(u32::from(*likely), padding));
+            bytes.extend(number(*offset, padding));
+        }
+    }
+    bytes
+}
+
+/// What is said of each place for the first time.
+pub fn said_first(list: &Older) -> BTreeMap<(u32, u32), bool> {
+    let mut said = BTreeMap::new();
+    for (function, hints) in list {
+        for (likely, offset) in hints {
+            said.entry((*function, *offset)).or_insert(*likely);
+        }
+    }
+    said
+}
+
+/// The canonical form by its definition: one entry a function, both in the order of the numbers.
+pub fn canonical_older(list: &Older) -> Vec<u8> {
+    let mut functions: BTreeMap<u32, Vec<(bool, u32)>> = BTreeMap::new();
+    for ((function, offset), likely) in said_first(list) {
+        functions
+            .entry(function)
+            .or_default()
+            .push((likely, offset));
+    }
+    older(&functions.into_iter().collect(), &mut Fewest)
+}
+
+/// Few numbers, so that functions and offsets are met more than once, among them the greatest.
+pub fn random_older(random: &mut Random) -> Older {
+    const NUMBERS: [u32; 8] = [0, 1, 2, 5, 127, 128, 16_384, u32::MAX];
+    let hints = |random: &mut Random| {
+        (0..random.below(5))
+            .map(|_| (random.one_in(2), random.pick(&NUMBERS)))
+            .collect()
+    };
+    (0..random.below(6))
+        .map(|_| (random.pick(&NUMBERS), hints(random)))
+        .collect()
+}
+
+pub fn encoded_older(list: &Older, random: &mut Random) -> Vec<u8> {
+    if random.one_in(4) {
+        older(list, &mut Fewest)
+    } else {
+        older(list, &mut &mut *random)
     }
 }

@@ -13,6 +13,8 @@ pub const PREAMBLE: &[u8] = b"\0asm\x01\0\0\0";
 
 pub const HINTS: &[u8] = b"metadata.code.branch_hint";
 
+pub const OLD_HINTS: &[u8] = b"branchHints";
+
 /// The payload P of the document.
 pub const P: [u8; 21] = [
     0x00, 0x02, 0x01, 0x6D, 0x01, 0x07, 0x02, 0x00, 0x01, 0x61, 0x03, 0x01, 0x62, 0x02, 0x06, 0x01,

@@ -1,8 +1,8 @@
-//! `canon`: the canonical form of a module's name payload.
+//! `canon`: the canonical form of a module's name payload, or of its hints of the older edition.
 
 use std::ffi::OsStr;
 
-use wakemiono::NamePayload;
+use wakemiono::First;
 
 use crate::edition::Edition;
 use crate::input::{Input, STANDARD_STREAM};
@@ -11,35 +11,78 @@ use crate::output;
 use crate::payloads;
 use crate::report::{Failure, Report, Status};
 
-/// Writes the canonical payload where an output is given, and says what it saves otherwise.
-pub fn run<E: Edition>(file: &OsStr, out: Option<&OsStr>, json: bool) -> Result<Report, Failure> {
-    if let Some(out) = out {
-        output::check_apart(file, out)?;
-    }
+/// Rewrites the name payload: writes it where an output is given, and says what it saves otherwise.
+pub fn names<E: Edition>(file: &OsStr, out: Option<&OsStr>, json: bool) -> Result<Report, Failure> {
+    check_apart(file, out)?;
     let input = &Input::<E>::read(file)?;
     let payload = input.accepted(payloads::names(input.module()))?;
-    let canonical = payloads::canonical_names(payload)?;
-    let note = match payload {
-        Some(_) => "",
-        None => "wakemiono: the module has no name section; its canonical payload is empty.\n",
+    let judged = payload.map(|payload| (payload.as_bytes(), payload.is_canonical()));
+    let rewriting = Rewriting {
+        members: input.members(),
+        canonical: payloads::canonical_names(payload)?,
+        of: judged,
+        without: "wakemiono: the module has no name section; its canonical payload is empty.\n",
     };
-    if out == Some(OsStr::new(STANDARD_STREAM)) {
-        return Ok(Report::good(canonical).saying(note));
-    }
-    if let Some(out) = out {
-        output::write(out, &canonical)?;
-    }
-    let saving = Saving::of(payload, &canonical);
-    if json {
-        let document = document(input, &saving, out);
-        return Ok(Report::json(Status::Good, &document));
-    }
-    let lines = if out.is_some() {
-        String::new()
-    } else {
-        saving.lines()
+    rewriting.reported(out, json)
+}
+
+/// The same for hints of the older edition.
+pub fn old_hints(file: &OsStr, out: Option<&OsStr>, json: bool) -> Result<Report, Failure> {
+    check_apart(file, out)?;
+    let input = &Input::<First>::read(file)?;
+    let payload = input.accepted(payloads::old_hints(input.module()))?;
+    let judged = payload.map(|payload| (payload.as_bytes(), payload.is_canonical()));
+    let mut members = input.members();
+    members.push(("payload", Json::text("old_hints")));
+    let rewriting = Rewriting {
+        members,
+        canonical: input.accepted(payloads::canonical_old_hints(payload))?,
+        of: judged,
+        without: "wakemiono: the module has no section branchHints; its canonical payload is the \
+                  one byte 00, that of no hints.\n",
     };
-    Ok(Report::good(lines).saying(note))
+    rewriting.reported(out, json)
+}
+
+fn check_apart(file: &OsStr, out: Option<&OsStr>) -> Result<(), Failure> {
+    out.map_or(Ok(()), |out| output::check_apart(file, out))
+}
+
+/// A payload and its canonical form.
+struct Rewriting<'a> {
+    /// What stands first in JSON.
+    members: Vec<(&'static str, Json)>,
+    canonical: Vec<u8>,
+    /// The payload, and whether it is canonical already; none without the section.
+    of: Option<(&'a [u8], bool)>,
+    /// What is said where there is no section.
+    without: &'static str,
+}
+
+impl Rewriting<'_> {
+    fn reported(self, out: Option<&OsStr>, json: bool) -> Result<Report, Failure> {
+        let note = match self.of {
+            Some(_) => "",
+            None => self.without,
+        };
+        let saving = Saving::of(self.of, &self.canonical);
+        if out == Some(OsStr::new(STANDARD_STREAM)) {
+            return Ok(Report::good(self.canonical).saying(note));
+        }
+        if let Some(out) = out {
+            output::write(out, &self.canonical)?;
+        }
+        if json {
+            let document = document(self.members, &saving, out);
+            return Ok(Report::json(Status::Good, &document));
+        }
+        let lines = if out.is_some() {
+            String::new()
+        } else {
+            saving.lines()
+        };
+        Ok(Report::good(lines).saying(note))
+    }
 }
 
 /// What the canonical form saves, in bytes.
@@ -51,15 +94,15 @@ struct Saving {
 }
 
 impl Saving {
-    fn of<E: Edition>(payload: Option<NamePayload<'_, E>>, canonical: &[u8]) -> Saving {
+    fn of(payload: Option<(&[u8], bool)>, canonical: &[u8]) -> Saving {
         Saving {
-            before: payload.map_or(0, |payload| payload.as_bytes().len()),
+            before: payload.map_or(0, |(bytes, _)| bytes.len()),
             after: canonical.len(),
-            is_canonical: payload.map(|payload| payload.is_canonical()),
+            is_canonical: payload.map(|(_, is_canonical)| is_canonical),
         }
     }
 
-    /// The canonical form is never the longer one.
+    /// The canonical form of a payload is never the longer one.
     fn saved(&self) -> usize {
         self.before.saturating_sub(self.after)
     }
@@ -87,7 +130,7 @@ impl Saving {
     }
 }
 
-fn document<E: Edition>(input: &Input<E>, saving: &Saving, out: Option<&OsStr>) -> Json {
+fn document(members: Vec<(&'static str, Json)>, saving: &Saving, out: Option<&OsStr>) -> Json {
     let written = out.map_or(Json::Null, |out| Json::text(out.to_string_lossy()));
     let said = vec![
         ("section", Json::Bool(saving.is_canonical.is_some())),
@@ -100,5 +143,5 @@ fn document<E: Edition>(input: &Input<E>, saving: &Saving, out: Option<&OsStr>) 
         ("saves", Json::size(saving.saved())),
         ("written_to", written),
     ];
-    Json::Object([input.members(), said].concat())
+    Json::Object([members, said].concat())
 }

@@ -90,20 +90,29 @@ pub fn run<E: Edition>(input: &Input<E>, json: bool) -> Report {
     Report::ending(status, verdicts.iter().map(line).collect::<String>())
 }
 
-fn verdicts<E: Edition>(input: &Input<E>) -> [(&'static str, Verdict); 3] {
+fn verdicts<E: Edition>(input: &Input<E>) -> [(&'static str, Verdict); 4] {
     let module = input.module();
     let of_module = Verdict::of(input, module.section_count().map(|_| Verdict::Accepted));
-    let (name, hints) = if of_module.is_refused() {
-        (Verdict::NotAsked, Verdict::NotAsked)
+    let [name, hints, old_hints] = if of_module.is_refused() {
+        [Verdict::NotAsked, Verdict::NotAsked, Verdict::NotAsked]
     } else {
-        let names = payloads::names(module).map(|it| it.map(|names| names.is_canonical()));
-        let hints = payloads::hints(module).map(|it| it.map(|hints| hints.is_canonical()));
-        (
-            Verdict::of(input, names.map(Verdict::of_payload)),
-            Verdict::of(input, hints.map(Verdict::of_payload)),
-        )
+        of_payloads(input)
     };
-    [("module", of_module), ("name", name), ("hints", hints)]
+    [
+        ("module", of_module),
+        ("name", name),
+        ("hints", hints),
+        ("old_hints", old_hints),
+    ]
+}
+
+/// Of the names and of the hints of both editions, in an accepted module.
+fn of_payloads<E: Edition>(input: &Input<E>) -> [Verdict; 3] {
+    let module = input.module();
+    let names = payloads::names(module).map(|it| it.map(|names| names.is_canonical()));
+    let hints = payloads::hints(module).map(|it| it.map(|hints| hints.is_canonical()));
+    let old_hints = payloads::old_hints(module).map(|it| it.map(|hints| hints.is_canonical()));
+    [names, hints, old_hints].map(|judged| Verdict::of(input, judged.map(Verdict::of_payload)))
 }
 
 fn document<E: Edition>(

@@ -31,7 +31,8 @@ fn run_in<E: Edition>(command: &Command, json: bool) -> Result<Report, Failure> 
         Command::Names(file, kind) => names::run(&Input::<E>::read(file)?, *kind, json),
         Command::Name(file, question) => name::run(&Input::<E>::read(file)?, *question, json),
         Command::Hints(file) => hints::run(&Input::read(file)?, json),
-        Command::Canon(file, out) => canon::run::<E>(file, out.as_deref(), json),
+        Command::Canon(file, out) => canon::names::<E>(file, out.as_deref(), json),
+        Command::CanonOldHints(file, out) => canon::old_hints(file, out.as_deref(), json),
         Command::Same(a, b) => same::run(&Input::<E>::read(a)?, &Input::read(b)?, json),
         Command::Judge(file) => Ok(judge::run(&Input::<E>::read(file)?, json)),
     }

@@ -73,6 +73,16 @@ pub fn hinted(payload: &[u8]) -> Vec<u8> {
     custom("metadata.code.branch_hint", payload)
 }
 
+/// A module with branch hints of the older edition.
+pub fn old_hinted(payload: &[u8]) -> Vec<u8> {
+    custom("branchHints", payload)
+}
+
+/// The sections of one module behind those of another.
+pub fn joined(module: &[u8], other: &[u8]) -> Vec<u8> {
+    [module, &other[BARE.len()..]].concat()
+}
+
 /// How a run of the program ended, and what it said.
 #[derive(Debug)]
 pub struct Run {

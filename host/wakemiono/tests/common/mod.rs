@@ -105,6 +105,8 @@ impl AllQuestions for Wider {
 
 pub const HINTS_NAME: &str = "metadata.code.branch_hint";
 
+pub const OLD_HINTS_NAME: &str = "branchHints";
+
 /// A small module of the repository, with every kind of section that is asked here.
 pub const SMALL: &[u8] = include_bytes!("../../../../examples/small.wasm");
 
