@@ -14,6 +14,7 @@ use Rattle.format.specs.Metadata.{hintOf, anyItem, hintItem, metadata, judgeMet
 use Rattle.format.specs.Names.{known, knownKind, wider, widerKind, contents, subsections, payload, judgeNames}
 use Rattle.format.specs.Numbers.{number, groups, shortest, fewest}
 use Rattle.format.specs.Options.{mapSome}
+use Rattle.format.specs.Older.{times, vector, zeroByte, olderKind, olderHint, olderEntry, judgeOlder, firstAt, firstIn, askOlder}
 use Rattle.format.specs.Parts.{Part, sized, name, remaining}
 use Rattle.format.specs.Questions.{answer, asked, idOf, queryOf, askAt, ask, asPlace, answered}
 use Rattle.format.specs.declared.Question.{Question}
@@ -21,10 +22,11 @@ use Rattle.format.specs.declared.Question.the-variants.{ModuleName, FunctionNam
 use Rattle.format.specs.Reading.{Judged, accepted, refused}
 use Rattle.format.specs.Tables.{lookup, rows, table}
 use Rattle.format.specs.Text.{utf8, characters, character, completes}
-use Rattle.format.specs.Through.{through, askThrough, metadataSection, itemOf, askMetadataThrough, askHintThrough}
-use Rattle.format.specs.Walk.{preamble, begins, greatestId, isCustom, isCode, isData, rank, custom, isCalled, nameSection, hintSection, nothing, seeing, idRules, nameRules, section, sections, framing, walk, payloadOf, payloadIn, customPayload}
+use Rattle.format.specs.Through.{through, askThrough, metadataSection, itemOf, askMetadataThrough, askHintThrough, askOlderThrough}
+use Rattle.format.specs.Walk.{preamble, begins, greatestId, isCustom, isCode, isData, rank, custom, isCalled, nameSection, hintSection, olderHintSection, nothing, seeing, idRules, nameRules, section, sections, framing, walk, payloadOf, payloadIn, customPayload}
 use Rattle.format.specs.declared.CodeOffset.{CodeOffset}
 use Rattle.format.specs.declared.FunctionIndex.{FunctionIndex}
+use Rattle.format.specs.declared.InstructionOffset.{InstructionOffset}
 use Rattle.format.specs.declared.Hint.{Hint}
 use Rattle.format.specs.declared.Hint.the-variants.{Unlikely, Likely}
 use Rattle.format.specs.declared.Place.{Place}
@@ -407,5 +409,30 @@ hint-questions = record {
       (withHints "01 02 01 05 01 01", record { 0 = 2 }, record { 0 = 5 })
       (refuses (withHints "01 02 02 05 01 01 06 01 02", record { 0 = 2 }, record { 0 = 5 }) 12 43)
       (refuses (withHints "02 02 01 05 01 01 02 00", record { 0 = 2 }, record { 0 = 5 }) 11 42)
+      refl refl refl refl refl);
+}
+
+-- The same of the older edition, whose payload begins at 22 of such a module
+unfoldable pub withOlder : String → List ℕ
+withOlder s = preamble ++ (0 ∷ writePart (writePart olderHintSection ++ hex s))
+
+pub record OlderQuestions : Type 0 where
+  pub hint : HintCalls (λ (x : List ℕ × FunctionIndex × InstructionOffset). askOlder (x .1) (x .2) 0 (x .0))
+  pub hint-through : HintCalls (λ (x : List ℕ × FunctionIndex × InstructionOffset). askOlderThrough (x .1) (x .2) (x .0))
+
+pub older-questions : OlderQuestions
+unfolding withOlder writePart shortest fewest ascii same preamble begins greatestId isCustom isCode isData rank custom isCalled nameSection hintSection nothing seeing idRules nameRules section sections framing walk payloadOf payloadIn customPayload through askOlderThrough hex digit number groups utf8 characters character completes sized name remaining times vector zeroByte olderKind olderHint olderEntry judgeOlder firstAt firstIn askOlder
+older-questions = record {
+  hint = hint-calls _ (hint-answers _
+      (hex "01 02 00 01 00 05", record { 0 = 2 }, record { 0 = 5 })
+      (hex "01 02 00 01 01 05", record { 0 = 2 }, record { 0 = 5 })
+      (refuses (hex "01 02 00 02 01 05 02 06", record { 0 = 2 }, record { 0 = 5 }) 12 6)
+      (refuses (hex "02 02 00 01 01 05 02 01", record { 0 = 2 }, record { 0 = 5 }) 17 7)
+      refl refl refl refl refl);
+  hint-through = hint-calls _ (hint-answers _
+      (withOlder "01 02 00 01 00 05", record { 0 = 2 }, record { 0 = 5 })
+      (withOlder "01 02 00 01 01 05", record { 0 = 2 }, record { 0 = 5 })
+      (refuses (withOlder "01 02 00 02 01 05 02 06", record { 0 = 2 }, record { 0 = 5 }) 12 28)
+      (refuses (withOlder "02 02 00 01 01 05 02 01", record { 0 = 2 }, record { 0 = 5 }) 17 29)
       refl refl refl refl refl);
 }

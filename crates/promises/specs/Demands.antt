@@ -12,30 +12,36 @@ use mathlib.Core.Path.{_≡_}
 use lib.ListN.{length, take, drop, getElem?}
 -- WHAT IS LENT. Bytes are a list of numbers, and `Bytes p` says that each is below 256.
 use Rattle.format.specs.Bytes.{Bytes}
--- THE SECTIONS that are asked, by the bytes of their names: `nameSection` is name, `metadataSection format` is metadata.code. with the format behind it, `branchHint` is the format branch_hint, and `hintSection` its section.
-use Rattle.format.specs.Walk.{nameSection, branchHint, hintSection}
+-- THE SECTIONS that are asked, by the bytes of their names: `nameSection` is name, `metadataSection format` is metadata.code. with the format behind it, `branchHint` is the format branch_hint, and `hintSection` its section; `olderHintSection` is branchHints.
+use Rattle.format.specs.Walk.{nameSection, branchHint, hintSection, olderHintSection}
 use Rattle.format.specs.Through.{metadataSection}
 -- WHAT COMES BACK. Each call answers with a record of four numbers: `kind` (0 none, 1 found, 2 refused, 3 unlikely, 4 likely), `code`, `offset` and `length`. `wmNone` is four times 0; `wmFound code offset length` is the answer of kind 1 with these; `wmRefused n at` is the answer of kind 2 with the refusal's number n as its code, its offset `at` and the length 0.
 use Rattle.wakemiono.specs.declared.WmAnswer.{WmAnswer}
 use Rattle.wakemiono.specs.Boundary.{wmNone, wmFound, wmRefused}
--- WHAT THE RULES REFUSE, each with its number and its offset, as the rules are written down in `crates/format/specs`, one file a topic: `Judged A` is `accepted v`, with what was read, or `refused number offset`. `judgeModule m` judges a module, `judgeNames knownKind at p` a name payload that begins at an offset of what was lent, `judgeNames widerKind at p` one by the wider edition, `judgeMetadata anyItem at p` metadata of any format, and `judgeMetadata hintItem at p` branch hints; `itemOf format` is `hintItem` for the format branch_hint and else `anyItem`. Of what was read, `rewriteNames` and `rewriteMetadata` are the bytes of the canonical rewriting.
+-- WHAT THE RULES REFUSE, each with its number and its offset, as the rules are written down in `crates/format/specs`, one file a topic: `Judged A` is `accepted v`, with what was read, or `refused number offset`. `judgeModule m` judges a module, `judgeNames knownKind at p` a name payload that begins at an offset of what was lent, `judgeNames widerKind at p` one by the wider edition, `judgeMetadata anyItem at p` metadata of any format, and `judgeMetadata hintItem at p` branch hints; `itemOf format` is `hintItem` for the format branch_hint and else `anyItem`; `judgeOlder at p` judges hints of the older edition. Of what was read, `rewriteNames` and `rewriteMetadata` are the bytes of the canonical rewriting, and of older hints `writeOlder (sortedFrom nil es)`.
 use Rattle.format.specs.Reading.{Judged, accepted, refused}
 use Rattle.format.specs.Walk.{walk as judgeModule}
 use Rattle.format.specs.Names.{knownKind, widerKind, judgeNames}
 use Rattle.format.specs.Metadata.{anyItem, hintItem, judgeMetadata}
 use Rattle.format.specs.Through.{itemOf}
 use Rattle.format.specs.Canonical.{rewriteNames, rewriteMetadata}
--- WHAT THE RULES ACCEPT. The sources' grammar, written down in the crate `grammar` line by line, apart from the library's readers: `NamePayload SourceIds p m`, in the wider edition `NamePayload WiderIds p m`, `CodeMetadata Unknown p m`, `CodeMetadata BranchHint p m` and `Module p m` say that the bytes p are a name payload, code metadata, branch hints or a module, and mean m. `U32 bs n`: the bytes bs are the number n in LEB128. `Grammar A` are the grammars with meanings in A.
+use Rattle.format.specs.Older.{judgeOlder, sortedFrom, writeOlder}
+-- WHAT THE RULES ACCEPT. The sources' grammar, written down in the crate `grammar` line by line, apart from the library's readers: `NamePayload SourceIds p m`, in the wider edition `NamePayload WiderIds p m`, `CodeMetadata Unknown p m`, `CodeMetadata BranchHint p m`, `OlderHints p m` and `Module p m` say that the bytes p are a name payload, code metadata, branch hints, hints of the older edition or a module, and mean m. `U32 bs n`: the bytes bs are the number n in LEB128. `Grammar A` are the grammars with meanings in A.
 use Rattle.grammar.specs.Numbers.{Grammar, U32}
 use Rattle.grammar.specs.Names.{SourceIds, WiderIds, NamePayload}
 use Rattle.grammar.specs.Metadata.{CodeMetadata, Unknown, BranchHint}
+use Rattle.grammar.specs.Older.{OlderHints}
 use Rattle.grammar.specs.Modules.{Module}
 -- WHAT IT MEANS. Metadata means a table of functions, each with a table of data by offset. A name payload means a table of subsections by id, each with what it holds: `single x` one name, `names t` a table of names by index, `namesBy t` a table of tables, `whole x` contents that are kept. `Has k v t`: the table t has a row with the number k and the value v, as its first, `Has k v (row k v t)`, or further on, `Has k v (row i w t)` from `Has k v t`.
-use Rattle.format.specs.Tables.{Table}
+use Rattle.format.specs.Tables.{Table, nil}
 use Rattle.format.specs.Names.{Kind, Content, single, names, namesBy, whole}
 use Rattle.format.specs.Holding.{Has}
 -- A module means a list of records: `id`, `contents`, and `custom`, which is `some` of a record of `name` and `payload` or `none`. `Among t ss`: t is one of ss. `Called x s`: s is custom and its name is x.
 use Rattle.grammar.specs.Modules.{Section, Among, Called}
+-- Hints of the older edition mean a list of entries in file order, each a record of its `function` and its `hints`; a hint is a record of its `kind`, `Unlikely` for the number 0 and `Likely` for 1, and its `offset`.
+use Rattle.format.specs.Older.{OlderHint, OlderEntry}
+use Rattle.format.specs.declared.Hint.{Hint}
+use Rattle.format.specs.declared.Hint.the-variants.{Unlikely, Likely}
 -- LISTS. `Indices is`: each number in the list is below 4,294,967,296. `sum ns`: the numbers added up. `Text x characters`: the bytes x are the UTF-8 encoding of the characters. `Lists k x indices lengths text`: k is listed, and x is its own stretch of the text. `Lists k x (k ∷ is) (n ∷ ns) text` from `take n text ≡ x`, and `Lists k x (i ∷ is) (n ∷ ns) text` from `Lists k x is ns (drop n text)`.
 use Rattle.format.specs.Lists.{Indices, sum}
 use Rattle.grammar.specs.Texts.{Text}
@@ -49,10 +55,10 @@ use Rattle.format.specs.declared.FieldIndex.{FieldIndex}
 use Rattle.format.specs.declared.TagIndex.{TagIndex}
 use Rattle.format.specs.declared.Question.{Question}
 use Rattle.format.specs.declared.Question.the-variants.{ModuleName, FunctionName, LocalName, LabelName, TypeName, TableName, MemoryName, GlobalName, ElementName, DataName, FieldName, TagName, KeptContents}
--- Of metadata and hints: `ItemQuestion` is a function and an offset, each a record of one number; `ItemInRange q` says that both are below 4,294,967,296.
-use Rattle.format.specs.Theorems.{ItemQuestion, ItemInRange}
+-- Of metadata and hints: `ItemQuestion` is a function and an offset, each a record of one number; `ItemInRange q` says that both are below 4,294,967,296. `OlderInRange q` says it of a question for a hint of the older edition.
+use Rattle.format.specs.Theorems.{ItemQuestion, ItemInRange, OlderInRange}
 -- THE CALLS, each by its promise: `wm-walk bytes a` says that the answer a is one that the promise of wm_walk allows for these bytes. It is the promise itself, the one name that stands in the `ensures` of the call in crates/wakemiono/src/lib.rt. What the promises come to is said below, so that nothing has to be known of how they are put. `wm-name q` is the promise of the call that asks q: wm_module_name asks `ModuleName`, wm_function_name `FunctionName` of its function, wm_type_name `TypeName` of its index, wm_tag_name `TagName` of its tag, wm_local_name `LocalName` of its function and its local, wm_field_name `FieldName` of its index and its field, wm_kept `KeptContents` of its id; `wm-name-in q` is that of the same call with `_in`, which is lent a module. `wm-wide-name q` and `wm-wide-name-in q` are those of the wider edition, wm_wide_module_name and so on, which has six more: wm_wide_label_name asks `LabelName` of its function and its label, wm_wide_table_name `TableName`, wm_wide_memory_name `MemoryName`, wm_wide_global_name `GlobalName`, wm_wide_element_name `ElementName` and wm_wide_data_name `DataName`. The calls that write are promised of the output before and after, too: `old` and `new`.
-use Rattle.wakemiono.specs.Calls.{wm-walk, wm-section, wm-custom, wm-names-judge, wm-name, wm-metadata-judge, wm-metadata, wm-hints-judge, wm-hint, wm-name-in, wm-metadata-in, wm-hint-in, wm-names-canonical, wm-metadata-canonical, wm-hints-canonical, wm-function-names-write, wm-names-is-canonical, wm-metadata-is-canonical, wm-hints-is-canonical, wm-wide-names-judge, wm-wide-name, wm-wide-name-in, wm-wide-names-canonical, wm-wide-names-is-canonical}
+use Rattle.wakemiono.specs.Calls.{wm-walk, wm-section, wm-custom, wm-names-judge, wm-name, wm-metadata-judge, wm-metadata, wm-hints-judge, wm-hint, wm-name-in, wm-metadata-in, wm-hint-in, wm-names-canonical, wm-metadata-canonical, wm-hints-canonical, wm-function-names-write, wm-names-is-canonical, wm-metadata-is-canonical, wm-hints-is-canonical, wm-wide-names-judge, wm-wide-name, wm-wide-name-in, wm-wide-names-canonical, wm-wide-names-is-canonical, wm-old-hints-judge, wm-old-hint, wm-old-hint-in, wm-old-hints-canonical, wm-old-hints-is-canonical}
 -- THE NUMBER READER of the library, by its promise: from the cursor c over the bytes s it reads the number v, says `told`, and stands at `next`; `left s c` are the bytes from c to the end of the innermost part, and `shortest v` is the shortest form of v. `Inside s c`: the cursor lies in what was lent.
 use Rattle.format.specs.Numbers.{shortest}
 use Rattle.reading.specs.Cursors.{Inside, left}
@@ -90,7 +96,7 @@ pub data HintReply : WmAnswer → Type 0 where
 
 -- The numbers that the calls refuse with. 16 is the listing program's alone
 abbrev pub numbers : List ℕ
-numbers = 1 ∷ 2 ∷ 3 ∷ 4 ∷ 5 ∷ 6 ∷ 7 ∷ 8 ∷ 9 ∷ 10 ∷ 11 ∷ 12 ∷ 13 ∷ 14 ∷ 15 ∷ []
+numbers = 1 ∷ 2 ∷ 3 ∷ 4 ∷ 5 ∷ 6 ∷ 7 ∷ 8 ∷ 9 ∷ 10 ∷ 11 ∷ 12 ∷ 13 ∷ 14 ∷ 15 ∷ 17 ∷ []
 
 -- whether a number is one of a list
 abbrev pub isAmong : List ℕ → ℕ → Bool
@@ -369,7 +375,8 @@ SameAnswer x y a b = (a .kind ≡ b .kind) × (take (a .length) (drop (a .offset
 
 -- A call that answered `found` wrote the first bytes of its output, as many as it says: `take (a .length) new`
 module _ {Q : Type 0} (judging : List ℕ → WmAnswer → Type 0) (asking : Q → List ℕ → WmAnswer → Type 0) (Allowed : Q → Type 0) (Same : (x y : List ℕ) (a b : WmAnswer) → Type 0) (rewriting : (payload old new : List ℕ) → WmAnswer → Type 0) where
-  pub record Rewrites : Type 0 where
+  -- of what was written, wherever something was
+  pub record Rewritten : Type 0 where
     -- "equal byte by byte exactly when every allowed question gets the same answer from both"
     pub same-exactly : (x y old new old′ new′ : List ℕ) (a b : WmAnswer) → Bytes x → Bytes y → rewriting x old new a → rewriting y old′ new′ b → a .kind ≡ 1 → b .kind ≡ 1 → (take (a .length) new ≡ take (b .length) new′) ↔ ((q : Q) → Allowed q → (c d : WmAnswer) → asking q x c → asking q y d → Same x y c d)
     -- "is accepted"
@@ -382,6 +389,9 @@ module _ {Q : Type 0} (judging : List ℕ → WmAnswer → Type 0) (asking : Q �
     pub comes-to-rest : (p old new : List ℕ) (a : WmAnswer) → rewriting p old new a → a .kind ≡ 1 → (old′ new′ : List ℕ) (b : WmAnswer) → a .length ≤ length old′ → rewriting (take (a .length) new) old′ new′ b → (b ≡ a) × (take (b .length) new′ ≡ take (a .length) new)
     -- a payload that the judging call refuses is refused alike
     pub refuses : (p old new : List ℕ) (a j : WmAnswer) → judging p j → rewriting p old new a → (n at : ℕ) → j ≡ wmRefused n at → a ≡ wmRefused n at
+
+  pub record Rewrites : Type 0 where
+    pub written : Rewritten
     -- every accepted payload has one: an output as long as the payload is enough
     pub room-enough : (p old new : List ℕ) (a j : WmAnswer) → judging p j → j .kind ≡ 1 → length p ≤ length old → rewriting p old new a → a .kind ≡ 1
 
@@ -441,3 +451,72 @@ pub record K9 : Type 0 where
   -- what the wider edition accepts the first accepts, and what both ask both answer alike
   pub accepted-by-both : (p : List ℕ) (a b : WmAnswer) → wm-wide-names-judge p a → wm-names-judge p b → a .kind ≡ 1 → b ≡ a
   pub answered-alike : (q : Question) → InBoth q → (p : List ℕ) (a b j : WmAnswer) → wm-wide-names-judge p j → j .kind ≡ 1 → wm-wide-name q p a → wm-name q p b → b ≡ a
+
+-- K2. "Builds from the older compiler. They carry hints in a section called `branchHints`: a list of (function index, one zero byte, list of (kind, offset)), kind and offset both numbers. That edition demands no order and allows repeats, so the first hint in the file for a pair answers: unlikely for kind 0, likely for kind 1, however the kind is padded, and none without one. It counts offsets from the first instruction, so the editions are kept and asked apart. Add reader, lookup, and a canonical rewriting, also sorted by function and offset, shadowed hints dropped, one entry per function. Demand 3 holds for it, with its own rule and questions; a payload whose rewriting is refused 15 has none, and demand 3 leaves it out. .. Refusals: 17, the byte is not zero, at that byte (missing: 2 at its place); 12 also for a kind above 1, at the kind, before the offset is read; 10 as before; for the rewriting 15, a payload above 4,294,967,295 bytes, then 13; 7 and 8 for `branchHints` counted by itself." Proved as `k2` in Proved.antt.
+
+-- The numbers that a payload is refused with: 2 and 3 are those of numbers that are cut off or too large
+abbrev pub olderNumbers : List ℕ
+olderNumbers = 2 ∷ 3 ∷ 10 ∷ 12 ∷ 17 ∷ []
+
+-- Which payload the rewriting refuses, and how: as it is judged; then 15, exactly where what would be written is above 4,294,967,295 bytes; then 13
+pub data OlderRefused (payload : List ℕ) (room : ℕ) : (number offset : ℕ) → Type 0 where
+  olderJudged : {number offset : ℕ} → judgeOlder 0 payload ≡ refused number offset → OlderRefused payload room number offset
+  olderTooLong : {es : List OlderEntry} → judgeOlder 0 payload ≡ accepted es → 4_294_967_295 < length (writeOlder (sortedFrom nil es)) → OlderRefused payload room 15 0
+  olderTooShort : {es : List OlderEntry} → judgeOlder 0 payload ≡ accepted es → length (writeOlder (sortedFrom nil es)) ≤ 4_294_967_295 → room < length (writeOlder (sortedFrom nil es)) → OlderRefused payload room 13 (length (writeOlder (sortedFrom nil es)))
+
+-- All hints of a meaning in file order, each with its function and its offset
+abbrev pub ofFunction : (function : ℕ) → List OlderHint → List (ℕ × ℕ × Hint)
+ofFunction function [] = []
+ofFunction function (h ∷ hs) = (function, h .offset, h .kind) ∷ ofFunction function hs
+
+abbrev pub inFile : List OlderEntry → List (ℕ × ℕ × Hint)
+inFile [] = []
+inFile (e ∷ es) = ofFunction (e .function) (e .hints) ++ inFile es
+
+-- The first hint for a pair is of this kind: it stands at a position, and at none before it stands one for the pair
+abbrev pub FirstHint : (function offset : ℕ) → List OlderEntry → Hint → Type 0
+FirstHint function offset m kind = (i : ℕ) × (getElem? (inFile m) i ≡ some (function, offset, kind)) × ((j : ℕ) (other : Hint) → j < i → getElem? (inFile m) j ≡ some (function, offset, other) → ⊥)
+
+pub record AnswersOlder : Type 0 where
+  pub likely : (function offset : ℕ) (p : List ℕ) (m : List OlderEntry) (a : WmAnswer) → OlderHints p m → wm-old-hint function offset p a → (a .kind ≡ 4) ↔ FirstHint function offset m Likely
+  pub unlikely : (function offset : ℕ) (p : List ℕ) (m : List OlderEntry) (a : WmAnswer) → OlderHints p m → wm-old-hint function offset p a → (a .kind ≡ 3) ↔ FirstHint function offset m Unlikely
+  pub none : (function offset : ℕ) (p : List ℕ) (m : List OlderEntry) (a : WmAnswer) → OlderHints p m → wm-old-hint function offset p a → (a .kind ≡ 0) ↔ ((i : ℕ) (kind : Hint) → getElem? (inFile m) i ≡ some (function, offset, kind) → ⊥)
+  pub refuses : (function offset : ℕ) → RefusesAs wm-old-hints-judge (wm-old-hint function offset)
+
+-- In order: each function above the one before, and in each entry each offset
+abbrev pub functionsOf : List OlderEntry → List ℕ
+functionsOf [] = []
+functionsOf (e ∷ es) = e .function ∷ functionsOf es
+
+abbrev pub offsetsOf : List OlderHint → List ℕ
+offsetsOf [] = []
+offsetsOf (h ∷ hs) = h .offset ∷ offsetsOf hs
+
+abbrev pub InOrder : List OlderEntry → Type 0
+InOrder m = Rise (functionsOf m) × ((i : ℕ) (e : OlderEntry) → getElem? m i ≡ some e → Rise (offsetsOf (e .hints)))
+
+pub record K2 : Type 0 where
+  -- demand 1 of the older edition
+  pub judge : (payload : List ℕ) (a : WmAnswer) → wm-old-hints-judge payload a → Answers Verdict (RefusedBy (judgeOlder 0 payload)) a
+  pub numbered : (payload : List ℕ) (a : WmAnswer) → wm-old-hints-judge payload a → (number offset : ℕ) → a ≡ wmRefused number offset → isAmong olderNumbers number ≡ true
+  pub hint : (function offset : ℕ) (payload : List ℕ) (a : WmAnswer) → wm-old-hint function offset payload a → Answers HintReply (RefusedBy (judgeOlder 0 payload)) a
+  pub hint-in : (function offset : ℕ) (bytes : List ℕ) (a : WmAnswer) → wm-old-hint-in function offset bytes a → Answers HintReply (RefusedThrough olderHintSection judgeOlder bytes) a
+  pub canonical : (payload : List ℕ) → Writing (OlderRefused payload) (wm-old-hints-canonical payload)
+  -- demand 2. "a list of (function index, one zero byte, list of (kind, offset)), kind and offset both numbers"
+  pub judged : JudgesExactly wm-old-hints-judge OlderHints
+  pub whole : (p : List ℕ) (a : WmAnswer) → wm-old-hints-judge p a → a .kind ≡ 1 → a ≡ wmFound 0 0 (length p)
+  -- "the first hint in the file for a pair answers: unlikely for kind 0, likely for kind 1, however the kind is padded, and none without one"
+  pub hints : AnswersOlder
+  -- "the editions are kept and asked apart": each call through a module asks its own section, and these have two names
+  pub through-modules : (function offset : ℕ) → PutThrough olderHintSection (wm-old-hint function offset) (wm-old-hint-in function offset)
+  pub newer-through-modules : (function offset : ℕ) → PutThrough hintSection (wm-hint function offset) (wm-hint-in function offset)
+  pub apart : olderHintSection ≢ hintSection
+  -- demand 3. Hints are the same where the whole answers are
+  pub rewritten : Rewritten wm-old-hints-judge (λ q. wm-old-hint (q .0 .0) (q .1 .0)) OlderInRange (λ _ _ a b. a ≡ b) wm-old-hints-canonical
+  -- "a payload whose rewriting is refused 15 has none": no payload below 4,294,967,296 bytes is, and where it is accepted an output as long as the payload is enough
+  pub never-15 : (p old new : List ℕ) (a : WmAnswer) → length p < 4_294_967_296 → wm-old-hints-canonical p old new a → (offset : ℕ) → a ≡ wmRefused 15 offset → ⊥
+  pub room-enough : (p old new : List ℕ) (a j : WmAnswer) → length p < 4_294_967_296 → wm-old-hints-judge p j → j .kind ≡ 1 → length p ≤ length old → wm-old-hints-canonical p old new a → a .kind ≡ 1
+  -- "sorted by function and offset, shadowed hints dropped, one entry per function"
+  pub in-order : (p old new : List ℕ) (a : WmAnswer) → wm-old-hints-canonical p old new a → a .kind ≡ 1 → (m : List OlderEntry) → OlderHints (take (a .length) new) m → InOrder m
+  -- the yes or no of K10
+  pub told : TellsCanonical wm-old-hints-judge wm-old-hints-canonical wm-old-hints-is-canonical

@@ -9,6 +9,10 @@ pub mod Lists
 pub mod Names
 pub mod Metadata
 pub mod Older
+pub mod In_order
+pub mod Sorting
+pub mod Out_of_order
+pub mod Reordering
 pub mod Rewrite
 pub mod Through
 pub mod Wakemiono

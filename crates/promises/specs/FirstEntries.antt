@@ -13,6 +13,7 @@ use Rattle.format.specs.Examples.{hex, digit}
 use Rattle.format.specs.Metadata.{hintOf, anyItem, hintItem, metadata, judgeMetadata}
 use Rattle.format.specs.Names.{known, knownKind, wider, widerKind, contents, subsections, payload, judgeNames}
 use Rattle.format.specs.Numbers.{number, groups, shortest, fewest}
+use Rattle.format.specs.Older.{times, vector, zeroByte, olderKind, olderHint, olderEntry, judgeOlder, putFirst, amend, withHints, sortedFrom, writeOlderHints, writeOlder, notTooLong, canonicalOlder}
 use Rattle.format.specs.Parts.{sized, name, remaining}
 use Rattle.format.specs.Reading.{Judged, accepted, refused, verdict}
 use Rattle.format.specs.Tables.{lookup, rows, table, size, mapTable}
@@ -116,7 +117,30 @@ metadata-judge-hints = by-table (λ p r meets. meets) hint-rows hints-computed
 pub wm-hints-judge : Demanded (λ p a. call.wm-hints-judge p a) saysVerdict hint-rows
 wm-hints-judge = by-table (λ p a meets. ap saysVerdict meets ∙ verdict-said (length p) (verdict (judgeMetadata hintItem 0 p))) hint-rows hints-computed
 
--- Sections: the second one repeated, unknown, past the module; a second `name`, and data after it
+-- Hints of the older edition: the second entry, and the first entry's second hint
+abbrev pub older-rows : List (Row (List ℕ) (Judged (Unit {0})))
+older-rows =
+    hex "01 02 00 01 01 05" demands accepted tt ∷
+    hex "02 02 00 01 01 05 02 00 00" demands accepted tt ∷
+    hex "02 02 00 01 01 05 02 80 00 00" demands refused 17 7 ∷
+    hex "02 02 00 01 01 05 02" demands refused 2 7 ∷
+    hex "02 02 00 01 01 05 03 00 01 02" demands refused 12 9 ∷
+    hex "01 02 00 02 01 05 01 05" demands accepted tt ∷
+    hex "01 02 00 02 01 05 02" demands refused 12 6 ∷
+    hex "01 02 00 02 01 05 01" demands refused 2 7 ∷
+    []
+
+older-computed : map (λ (row : Row (List ℕ) (Judged (Unit {0}))). verdict (judgeOlder 0 (row .input))) older-rows ≡ map (λ row. row .verdict) older-rows
+unfolding hex digit number groups times vector zeroByte olderKind olderHint olderEntry judgeOlder
+older-computed = refl
+
+pub older-judge : Demanded (λ p r. verdictOf r ≡ verdict (judgeOlder 0 p)) verdictOf older-rows
+older-judge = by-table (λ p r meets. meets) older-rows older-computed
+
+pub wm-old-hints-judge : Demanded (λ p a. call.wm-old-hints-judge p a) saysVerdict older-rows
+wm-old-hints-judge = by-table (λ p a meets. ap saysVerdict meets ∙ verdict-said (length p) (verdict (judgeOlder 0 p))) older-rows older-computed
+
+-- Sections: the second one repeated, unknown, past the module; a second `name`, and data after it; a second `branchHints`, and one after the code, and beside the newer edition's (K2)
 abbrev pub section-rows : List (Row (List ℕ) (Judged ℕ))
 section-rows =
     hex "00 61 73 6D 01 00 00 00 01 00" demands accepted 1 ∷
@@ -126,6 +150,10 @@ section-rows =
     hex "00 61 73 6D 01 00 00 00 00 05 04 6E 61 6D 65" demands accepted 1 ∷
     hex "00 61 73 6D 01 00 00 00 00 05 04 6E 61 6D 65 00 05 04 6E 61 6D 65" demands refused 7 15 ∷
     hex "00 61 73 6D 01 00 00 00 00 05 04 6E 61 6D 65 0B 00" demands refused 8 15 ∷
+    hex "00 61 73 6D 01 00 00 00 00 0C 0B 62 72 61 6E 63 68 48 69 6E 74 73" demands accepted 1 ∷
+    hex "00 61 73 6D 01 00 00 00 00 0C 0B 62 72 61 6E 63 68 48 69 6E 74 73 00 0C 0B 62 72 61 6E 63 68 48 69 6E 74 73" demands refused 7 22 ∷
+    hex "00 61 73 6D 01 00 00 00 0A 00 00 0C 0B 62 72 61 6E 63 68 48 69 6E 74 73" demands refused 8 10 ∷
+    hex "00 61 73 6D 01 00 00 00 00 0C 0B 62 72 61 6E 63 68 48 69 6E 74 73 00 1A 19 6D 65 74 61 64 61 74 61 2E 63 6F 64 65 2E 62 72 61 6E 63 68 5F 68 69 6E 74" demands accepted 2 ∷
     []
 
 sections-computed : map (λ (row : Row (List ℕ) (Judged ℕ)). sectionCount (row .input)) section-rows ≡ map (λ row. row .verdict) section-rows
@@ -168,3 +196,7 @@ rewrite-metadata = rewrites-so canonicalMetadata metadata-rows refl
 pub rewrite-hints : RewritesSo canonicalHints hint-rows
 unfolding same hex digit number groups shortest fewest sized size mapTable rows table hintOf hintItem metadata judgeMetadata writePart writeRows writeTable unlessEmpty keepRows rewriteMetadata canonicalOf canonicalHints fitting writeAnswer outputAfter
 rewrite-hints = rewrites-so canonicalHints hint-rows refl
+
+pub rewrite-older : RewritesSo canonicalOlder older-rows
+unfolding same hex digit number groups shortest fewest size writeRows writeTable times vector zeroByte olderKind olderHint olderEntry judgeOlder putFirst amend withHints sortedFrom writeOlderHints writeOlder notTooLong canonicalOlder fitting writeAnswer outputAfter
+rewrite-older = rewrites-so canonicalOlder older-rows refl

@@ -4,7 +4,7 @@ use mathlib.Core.Bool.{Bool, true, false, cond, _||_}
 use mathlib.Core.List.{List, [], _∷_}
 use mathlib.Core.Option.{some}
 use mathlib.Core.Path.{_≡_, refl, ap}
-use lib.Dec.{eqb}
+use lib.Dec.{eqb, ltb}
 use lib.ListN.{length, getD, set}
 use Rattle.format.specs.Names.{Kind, oneName, nameMap, indirectMap, kept, known, knownKind, wider, widerKind, kindIn}
 use Rattle.format.specs.Numbers.{fewest, shortest}
@@ -28,6 +28,7 @@ use Rattle.tables.specs.declared.telling.Tidy.the-variants.{Behind}
 use Rattle.tables.specs.declared.Held.{Held}
 use Rattle.tables.specs.declared.Held.the-variants.{Nothing as Absent, Part as At}
 use Rattle.reading.specs.Cursors.{overAll}
+use Rattle.sorting.specs.Order.{code}
 use Rattle.reading.specs.declared.Cursor.{Cursor}
 use Rattle.walk.specs.Sections.{bit, seenOf, ruling, IdRuled, rowCalled, NameRuled, Sees}
 use Rattle.walk.specs.declared.rules.Called.{Called}
@@ -142,3 +143,7 @@ judge-name-accepts = by-input name-told (λ j. Accepts j) (record { rank = 0; co
 -- walk: the name section is never seen, or always
 pub see : (seen : Bool) → RuledOut (λ (x : Seen × ℕ × Called) r. Sees (x .0) (x .1) (x .2) r) (λ _ r. bit (r .there) nameRow ≡ seen)
 see seen = by-two-inputs {says = λ r. bit (r .there) nameRow} {wanted = λ x. bit (x .0 .there) nameRow || isRow (rowCalled (x .2)) nameRow} (λ x r meets. meets .there-is .says nameRow) (λ b. some b) (λ b. b) (nothingSeen, 0, Row nameRow) (nothingSeen, 0, Other) refl refl refl refl seen
+
+-- sorting: always below, or never
+pub is-below : (wrong : Bool) → RuledOut (λ (x : ℕ × ℕ × ℕ × ℕ) r. r ≡ ltb (code (x .0) (x .1)) (code (x .2) (x .3))) (λ _ r. r ≡ wrong)
+is-below wrong = by-two-inputs {says = λ r. r} (λ x r meets. meets) (λ b. some b) (λ b. b) (0, 9, 1, 0) (1, 0, 0, 9) refl refl refl refl wrong

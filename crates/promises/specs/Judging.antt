@@ -9,6 +9,7 @@ use Rattle.format.specs.Examples.{hex, digit}
 use Rattle.format.specs.Metadata.{hintOf, anyItem, hintItem, metadata, judgeMetadata}
 use Rattle.format.specs.Names.{known, knownKind, wider, widerKind, kindIn, contents, subsections, payload, judgeNames}
 use Rattle.format.specs.Numbers.{number, groups}
+use Rattle.format.specs.Older.{times, vector, zeroByte, olderKind, olderHint, olderEntry, judgeOlder}
 use Rattle.format.specs.Parts.{sized}
 use Rattle.format.specs.Reading.{Judged, refused, verdict}
 use Rattle.format.specs.Tables.{lookup, rows, table}
@@ -78,3 +79,14 @@ metadata-judge-hints = judges-rightly (λ p r meets. meets) hints-verdicts
 
 pub wm-hints-judge : JudgesRightly (λ p a. call.wm-hints-judge p a) saysVerdict
 wm-hints-judge = judges-rightly (λ p a meets. ap saysVerdict meets ∙ verdict-said (length p) (verdict (judgeMetadata hintItem 0 p))) hints-verdicts
+
+-- Hints of the older edition: a payload without entries is accepted; one without its count, and a byte that is not zero, are refused
+older-verdicts : Verdicts (λ p. verdict (judgeOlder 0 p))
+unfolding hex digit number groups times vector zeroByte olderKind olderHint olderEntry judgeOlder
+older-verdicts = record { fine = hex "00"; bad = refuses (hex "") 2 0; worse = refuses (hex "01 00 80 00 00") 17 2; is-fine = λ h. h; is-bad = refl; is-worse = refl; apart = refl }
+
+pub older-judge : JudgesRightly (λ p r. verdictOf r ≡ verdict (judgeOlder 0 p)) verdictOf
+older-judge = judges-rightly (λ p r meets. meets) older-verdicts
+
+pub wm-old-hints-judge : JudgesRightly (λ p a. call.wm-old-hints-judge p a) saysVerdict
+wm-old-hints-judge = judges-rightly (λ p a meets. ap saysVerdict meets ∙ verdict-said (length p) (verdict (judgeOlder 0 p))) older-verdicts

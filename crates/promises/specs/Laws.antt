@@ -14,3 +14,4 @@ pub mod Moving
 pub mod Through
 pub mod Telling
 pub mod Editions
+pub mod Older

@@ -10,6 +10,7 @@ pub mod Handing
 pub mod Walking
 pub mod Writing
 pub mod Telling
+pub mod Older
 pub mod Demands
 pub mod Laws
 pub mod Proved

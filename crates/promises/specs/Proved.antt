@@ -1,9 +1,9 @@
 -- The proofs of the three demands in `Demands.antt`, and of the requests, by their names.
-use Prim.Native.Nat.{ℕ}
+use Prim.Native.Nat.{ℕ, _≤_, _<_}
 use mathlib.Core.List.{List}
 use mathlib.Core.Logic.{_↔_, Iff·trans}
 use mathlib.Core.Option.{Option, none, some}
-use mathlib.Core.Path.{_≡_, refl}
+use mathlib.Core.Path.{_≡_, refl, sym, _∙_}
 use lib.ListN.{length, take, drop}
 use Rattle.wakemiono.specs.declared.WmAnswer.{WmAnswer}
 use Rattle.wakemiono.specs.Boundary.{wmRefused}
@@ -22,16 +22,18 @@ use Rattle.format.specs.Metadata.{anyItem, hintItem, judgeMetadata, askMetadata
 use Rattle.format.specs.Names.{Kind, knownKind, widerKind, kindIn, judgeNames}
 use Rattle.format.specs.Questions.{AllowedBy, asPlace, ask}
 use Rattle.format.specs.Lists.{functionNames}
+use Rattle.format.specs.Older.{firstIn, judgeOlder, askOlder, canonicalOlder}
 use Rattle.format.specs.Options.{mapSome}
 use Rattle.format.specs.Reading.{mapJudged, verdict}
-use Rattle.format.specs.Telling.{isItsRewriting, namesAreCanonical, itemsAreCanonical}
-use Rattle.format.specs.Through.{askThrough, askMetadataThrough, askHintThrough}
+use Rattle.format.specs.Telling.{isItsRewriting, namesAreCanonical, itemsAreCanonical, olderIsCanonical}
+use Rattle.format.specs.Through.{askThrough, askMetadataThrough, askHintThrough, askOlderThrough}
 use Rattle.format.specs.Walk.{nameSection, sectionCount, sectionAt, customPayload}
 use Rattle.wakemiono.specs.Boundary.{wmCount, wmSection, wmPlace, wmJudged, wmHint, wmYes, WmWrites}
 use Rattle.walk.specs.Surveys.{sectionPlace}
-use Rattle.format.specs.Theorems.{Rewrites as AnyRewrites, questions-answered, hints-answered as all-hints-answered, any-metadata-answered, edition-rewritten, any-metadata-rewritten, hints-rewritten}
+use Rattle.format.specs.Theorems.{Rewrites as AnyRewrites, questions-answered, hints-answered as all-hints-answered, any-metadata-answered, edition-rewritten, any-metadata-rewritten, hints-rewritten, older-rewritten}
 use Rattle.format.specs.Canonical.{bare, bareItems}
 use Rattle.format.specs.Holding.{HasWithin, Holds}
+use Rattle.format.specs.Laws.Outcomes.{not-accepted, refused-exactly}
 use Rattle.format.specs.Outputs.{writeAnswer}
 use Rattle.format.specs.Parts.{Part}
 use Rattle.format.specs.Reading.{Judged, accepted, refused, Accepted}
@@ -41,7 +43,7 @@ use Rattle.format.specs.declared.Hint.the-variants.{Unlikely, Likely}
 use Rattle.format.specs.Questions.{idOf, queryOf}
 use Rattle.format.specs.Tables.{mapTable}
 use Rattle.grammar.specs.Forgetting.{bareSections}
-use Rattle.grammar.specs.Grammar.{Accepts, ids-exact, metadata-exact, hints-exact, modules-exact}
+use Rattle.grammar.specs.Grammar.{Accepts, ids-exact, metadata-exact, hints-exact, older-exact, modules-exact}
 use Rattle.grammar.specs.Laws.Metadata.{any-exact, metadata-complete}
 use Rattle.grammar.specs.Laws.Names.{SameIds, source-ids, wider-ids, names-complete}
 use Rattle.promises.specs.Laws.Judging.{found-grammar, refused-grammar}
@@ -50,16 +52,17 @@ use Rattle.promises.specs.Laws.Lists.{lists-fine, fine-written}
 use Rattle.promises.specs.Laws.Lookups.{tells-as, asked-tells, asked-refused, likely-held, unlikely-held, no-hint-held, hint-refused, name-held, contents-held, entry-held, inner-held, within-held}
 use Rattle.promises.specs.Laws.Outputs.{wrote, wrote-nothing, wrote-others, wrote-room, wrote-as-long, wrote-short, wrote-again}
 use Rattle.promises.specs.Laws.Editions.{none-kept, within-one-edition, accepted-by-both, answered-alike}
-use Rattle.promises.specs.Laws.Exactly.{name-in-exactly, metadata-in-exactly, hint-in-exactly, written-exactly, rewritten-exactly}
+use Rattle.promises.specs.Laws.Exactly.{name-in-exactly, metadata-in-exactly, hint-in-exactly, older-in-exactly, written-exactly, rewritten-exactly}
 use Rattle.promises.specs.Laws.ListsRefused.{lists-refused}
-use Rattle.promises.specs.Laws.Refusing.{Numbered, FairlyJudged, names-fair, any-fair, hint-fair, item-of-fair, items-fair, walk-fair}
-use Rattle.promises.specs.Laws.Rewriting.{hints-same, names-first-judged, metadata-first-judged, hints-first-judged, names-compared, metadata-compared, rewritten-same, rewritten-accepted, rewritten-alike, rewritten-shorter, rewritten-rests, rewritten-fits, rewriting-refused, names-refuse, metadata-refuse, hints-refuse}
+use Rattle.promises.specs.Laws.Older.{older-likely, older-unlikely, older-none, older-hint-refused, older-refused, older-never-15, older-ordered, sections-apart, never-empty}
+use Rattle.promises.specs.Laws.Refusing.{Numbered, FairlyJudged, names-fair, any-fair, hint-fair, item-of-fair, items-fair, older-fair, older-fair-by, walk-fair}
+use Rattle.promises.specs.Laws.Rewriting.{WhereWritten, always-written, hints-same, names-first-judged, metadata-first-judged, hints-first-judged, names-compared, metadata-compared, rewritten-same, rewritten-accepted, rewritten-alike, rewritten-shorter, rewritten-rests, rewritten-fits, rewriting-refused, names-refuse, metadata-refuse, hints-refuse, older-refuse, older-written}
 use Rattle.promises.specs.Laws.Saying.{Verdict as Says, judged-said, judged-whole, refused-said, hint-refused-said}
 use Rattle.promises.specs.Laws.Telling.{number-told, else-zero, yes-told}
-use Rattle.promises.specs.Laws.Through.{name-through, hint-through, metadata-through, hint-data-through}
+use Rattle.promises.specs.Laws.Through.{name-through, hint-through, older-through, metadata-through, hint-data-through}
 use Rattle.promises.specs.Laws.Walking.{walked, walk-counts, section-found, section-first, section-none, section-refused, custom-tells, custom-refused}
-use Rattle.wakemiono.specs.Calls.{wm-walk, wm-names-judge, wm-name, wm-metadata-judge, wm-metadata, wm-hints-judge, wm-hint, wm-names-canonical, wm-metadata-canonical, wm-hints-canonical, wm-function-names-write}
-use Rattle.promises.specs.Demands.{Verdict, Reply, SectionReply, HintReply, Answers, RefusedBy, RefusedThrough, RefusedOrShort, ListsRefused, Leaves, NeedsRoom, Writing, Demand1, HoldsName, HoldsData, JudgesExactly, AnswersNames, AnswersMetadata, AnswersHints, Walks, Demand2, SameAnswer, Rewrites, Demand3, yes, no, replyNone, replyFound, replyRefused, sectionNone, sectionFound, sectionRefused, hintNone, hintUnlikely, hintLikely, hintRefused, byTheWalk, byItsPayload, asJudged, tooShort, listsDisagree, notAbove, notText, subsectionTooLarge, outputTooShort, TellsCanonical, K10, K9}
+use Rattle.wakemiono.specs.Calls.{wm-walk, wm-names-judge, wm-name, wm-metadata-judge, wm-metadata, wm-hints-judge, wm-hint, wm-names-canonical, wm-metadata-canonical, wm-hints-canonical, wm-function-names-write, wm-old-hints-judge, wm-old-hint, wm-old-hints-canonical}
+use Rattle.promises.specs.Demands.{Verdict, Reply, SectionReply, HintReply, Answers, RefusedBy, RefusedThrough, RefusedOrShort, ListsRefused, Leaves, NeedsRoom, Writing, Demand1, HoldsName, HoldsData, JudgesExactly, AnswersNames, AnswersMetadata, AnswersHints, Walks, Demand2, SameAnswer, Rewritten, Rewrites, Demand3, yes, no, replyNone, replyFound, replyRefused, sectionNone, sectionFound, sectionRefused, hintNone, hintUnlikely, hintLikely, hintRefused, byTheWalk, byItsPayload, asJudged, tooShort, listsDisagree, notAbove, notText, subsectionTooLarge, outputTooShort, TellsCanonical, K10, K9, OlderRefused, AnswersOlder, K2, olderJudged, olderTooLong, olderTooShort}
 
 -- Demand 1
 judged-verdict : (n : ℕ) (j : Judged (Unit {0})) → Verdict (wmJudged n j)
@@ -280,55 +283,63 @@ demand-2 = record {
 }
 
 -- Demand 3
-module _ {A Q R : Type 0} {judgement : List ℕ → Judged A} {rewriting : List ℕ → Judged (List ℕ)} {answer : Q → List ℕ → R} {Allowed : Q → Type 0} (rewrites : AnyRewrites judgement rewriting answer Allowed)
-    (first-judged : (p bytes : List ℕ) → rewriting p ≡ accepted bytes → Accepted judgement p)
+module _ {A Q R : Type 0} {judgement : List ℕ → Judged A} {rewriting : List ℕ → Judged (List ℕ)} {answer : Q → List ℕ → R} {Allowed : Q → Type 0} (rewrites : WhereWritten judgement rewriting answer Allowed)
     (refuse : (p : List ℕ) (n at : ℕ) → judgement p ≡ refused n at → rewriting p ≡ refused n at)
     (asking : Q → List ℕ → WmAnswer → Type 0) (met : (q : Q) (x : List ℕ) → (a : WmAnswer) × asking q x a)
     (Same : (x y : List ℕ) (a b : WmAnswer) → Type 0)
     (compared : (q : Q) (x y : List ℕ) (a b : WmAnswer) → Accepted judgement x → Accepted judgement y → asking q x a → asking q y b → Same x y a b ↔ (answer q x ≡ answer q y)) where
-  rewritten : Rewrites (λ p j. j ≡ wmJudged (length p) (verdict (judgement p))) asking Allowed Same (λ p old new a. WmWrites (rewriting p) old new a)
+  rewritten : Rewritten (λ p j. j ≡ wmJudged (length p) (verdict (judgement p))) asking Allowed Same (λ p old new a. WmWrites (rewriting p) old new a)
   rewritten = record {
-    same-exactly = rewritten-same rewrites first-judged asking met Same compared;
-    is-accepted = λ p old new a w k j e. rewritten-accepted rewrites first-judged asking met Same compared p old new a w k j (judged-said _ (judgement (take (a .length) new)) e);
-    answers-alike = rewritten-alike rewrites first-judged asking met Same compared;
-    never-longer = rewritten-shorter rewrites first-judged asking met Same compared;
-    comes-to-rest = rewritten-rests rewrites first-judged asking met Same compared;
+    same-exactly = rewritten-same rewrites asking met Same compared;
+    is-accepted = λ p old new a w k j e. rewritten-accepted rewrites asking met Same compared p old new a w k j (judged-said _ (judgement (take (a .length) new)) e);
+    answers-alike = rewritten-alike rewrites asking met Same compared;
+    never-longer = rewritten-shorter rewrites asking met Same compared;
+    comes-to-rest = rewritten-rests rewrites asking met Same compared;
     refuses = λ p old new a j e. rewriting-refused rewriting refuse p old new a j (judged-said (length p) (judgement p) e);
-    room-enough = λ p old new a j e. rewritten-fits rewrites first-judged asking met Same compared p old new a j (judged-said (length p) (judgement p) e);
   }
+
+  fits : (p old new : List ℕ) (a j : WmAnswer) → (Accepted judgement p → (bytes : List ℕ) × (rewriting p ≡ accepted bytes)) → j ≡ wmJudged (length p) (verdict (judgement p)) → j .kind ≡ 1 → length p ≤ length old → WmWrites (rewriting p) old new a → a .kind ≡ 1
+  fits p old new a j has e = rewritten-fits rewrites asking met Same compared p old new a j has (judged-said (length p) (judgement p) e)
+
+  -- where every accepted payload has one
+  rewritten-always : ((p : List ℕ) → Accepted judgement p → (bytes : List ℕ) × (rewriting p ≡ accepted bytes)) → Rewrites (λ p j. j ≡ wmJudged (length p) (verdict (judgement p))) asking Allowed Same (λ p old new a. WmWrites (rewriting p) old new a)
+  rewritten-always has = record { written = rewritten; room-enough = λ p old new a j. fits p old new a j (has p) }
 
 -- of an edition
 names-rewritten : (edition : Edition) → Rewrites (λ p j. j ≡ wmJudged (length p) (verdict (judgeNames (kindIn edition) 0 p))) (λ q p a. a ≡ wmPlace (asPlace (ask (kindIn edition) q p))) (AllowedBy (kindIn edition)) SameAnswer (λ p old new a. WmWrites (canonicalNames (kindIn edition) p) old new a)
-names-rewritten edition = rewritten (edition-rewritten edition) (names-first-judged (kindIn edition)) (names-refuse (kindIn edition)) (λ q p a. a ≡ wmPlace (asPlace (ask (kindIn edition) q p))) (λ q x. (_, refl)) SameAnswer (names-compared (kindIn edition))
+names-rewritten edition = let rewrites = edition-rewritten edition in rewritten-always (always-written rewrites (names-first-judged (kindIn edition))) (names-refuse (kindIn edition)) (λ q p a. a ≡ wmPlace (asPlace (ask (kindIn edition) q p))) (λ q x. (_, refl)) SameAnswer (names-compared (kindIn edition)) (λ p a. rewrites .accepts a)
 
 pub demand-3 : Demand3
 demand-3 = record {
   names = names-rewritten First;
-  metadata = rewritten any-metadata-rewritten metadata-first-judged metadata-refuse (λ q. wm-metadata (q .0 .0) (q .1 .0)) (λ q x. (_, refl)) SameAnswer metadata-compared;
-  hints = rewritten hints-rewritten hints-first-judged hints-refuse (λ q. wm-hint (q .0 .0) (q .1 .0)) (λ q x. (_, refl)) (λ _ _ a b. a ≡ b) (λ q x y a b _ _. hints-same (askHint (q .0) (q .1) 0 x) (askHint (q .0) (q .1) 0 y));
+  metadata = rewritten-always (always-written any-metadata-rewritten metadata-first-judged) metadata-refuse (λ q. wm-metadata (q .0 .0) (q .1 .0)) (λ q x. (_, refl)) SameAnswer metadata-compared (λ p a. any-metadata-rewritten .accepts a);
+  hints = rewritten-always (always-written hints-rewritten hints-first-judged) hints-refuse (λ q. wm-hint (q .0 .0) (q .1 .0)) (λ q x. (_, refl)) (λ _ _ a b. a ≡ b) (λ q x y a b _ _. hints-same (askHint (q .0) (q .1) 0 x) (askHint (q .0) (q .1) 0 y)) (λ p a. hints-rewritten .accepts a);
 }
 
 -- K10
-module _ {A Q R : Type 0} {judgement : List ℕ → Judged A} {rewriting : List ℕ → Judged (List ℕ)} {answer : Q → List ℕ → R} {Allowed : Q → Type 0} (rewrites : AnyRewrites judgement rewriting answer Allowed)
-    (first-judged : (p bytes : List ℕ) → rewriting p ≡ accepted bytes → Accepted judgement p)
-    (rewritten-of : (p : List ℕ) → Accepted judgement p → (bytes : List ℕ) × (rewriting p ≡ accepted bytes)) where
+module _ {A Q R : Type 0} {judgement : List ℕ → Judged A} {rewriting : List ℕ → Judged (List ℕ)} {answer : Q → List ℕ → R} {Allowed : Q → Type 0} (rewrites : WhereWritten judgement rewriting answer Allowed)
+    (filled : (p : List ℕ) → Accepted judgement p → (n at : ℕ) → rewriting p ≡ refused n at → 0 < length p) where
   told : TellsCanonical (λ p j. j ≡ wmJudged (length p) (verdict (judgement p))) (λ p old new a. WmWrites (rewriting p) old new a) (λ p y. y ≡ wmYes (isItsRewriting (rewriting p) p))
   told = record {
-    yes-exactly = yes-told judgement rewriting first-judged (λ p a. let (bytes, wants) = rewritten-of p a in (bytes, wants, rewrites .rewritten a bytes wants .never-longer));
+    yes-exactly = yes-told judgement rewriting (λ p bytes c. rewrites .first-judged p c) (λ p bytes c. rewrites .rewritten p c .never-longer) filled;
     no-else = λ p y. else-zero (isItsRewriting (rewriting p) p);
   }
 
+-- where every accepted payload has a rewriting
+told-always : {A Q R : Type 0} {judgement : List ℕ → Judged A} {rewriting : List ℕ → Judged (List ℕ)} {answer : Q → List ℕ → R} {Allowed : Q → Type 0} → AnyRewrites judgement rewriting answer Allowed → ((p bytes : List ℕ) → rewriting p ≡ accepted bytes → Accepted judgement p) → TellsCanonical (λ p j. j ≡ wmJudged (length p) (verdict (judgement p))) (λ p old new a. WmWrites (rewriting p) old new a) (λ p y. y ≡ wmYes (isItsRewriting (rewriting p) p))
+told-always rewrites first-judged = told (always-written rewrites first-judged) (λ p a n at e. absurd (not-accepted (sym e ∙ rewrites .accepts a .1)))
+
 names-told : (edition : Edition) → TellsCanonical (λ p j. j ≡ wmJudged (length p) (verdict (judgeNames (kindIn edition) 0 p))) (λ p old new a. WmWrites (canonicalNames (kindIn edition) p) old new a) (λ p y. y ≡ wmYes (namesAreCanonical (kindIn edition) p))
 unfolding namesAreCanonical canonicalNames
-names-told edition = told (edition-rewritten edition) (names-first-judged (kindIn edition)) (λ p a. (rewriteNames (a .value), rw (a .judged)))
+names-told edition = told-always (edition-rewritten edition) (names-first-judged (kindIn edition))
 
 pub k10 : K10
 unfolding namesAreCanonical itemsAreCanonical canonicalNames canonicalMetadata canonicalHints canonicalOf
 k10 = record {
   numbers = number-told;
   names = names-told First;
-  metadata = told any-metadata-rewritten metadata-first-judged (λ p a. (rewriteMetadata (a .value), rw (a .judged)));
-  hints = told hints-rewritten hints-first-judged (λ p a. (rewriteMetadata (a .value), rw (a .judged)));
+  metadata = told-always any-metadata-rewritten metadata-first-judged;
+  hints = told-always hints-rewritten hints-first-judged;
 }
 
 pub k9 : K9
@@ -347,4 +358,53 @@ k9 = record {
   within-one-edition = within-one-edition;
   accepted-by-both = accepted-by-both;
   answered-alike = answered-alike;
+}
+
+-- K2
+older-refused-numbered : {p : List ℕ} {room n at : ℕ} → OlderRefused p room n at → Numbered n
+older-refused-numbered {p} {n = n} {at = at} (olderJudged e) = older-fair 0 p .numbered n at e
+older-refused-numbered (olderTooLong e long) = refl
+older-refused-numbered (olderTooShort e small short) = refl
+
+writes-older : (p : List ℕ) → Writing (OlderRefused p) (wm-old-hints-canonical p)
+writes-older p = record {
+  answers = λ old new a w. record {
+    answers = written-verdict (canonicalOlder p) old new a w;
+    refuses = exactly w;
+    numbered = λ n at e. older-refused-numbered (exactly w n at .0 e);
+  };
+  leaves = leaves (canonicalOlder p);
+  needs-room = needs-room (canonicalOlder p);
+}
+  where
+    exactly : {old new : List ℕ} {a : WmAnswer} → WmWrites (canonicalOlder p) old new a → (n at : ℕ) → (a ≡ wmRefused n at) ↔ OlderRefused p (length old) n at
+    exactly {old} w n at = Iff·trans (written-exactly (canonicalOlder p) w n at) (older-refused p (length old) n at)
+
+older-answered : AnswersOlder
+older-answered = record {
+  likely = λ f o p m a g e. older-likely (record { 0 = f }) (record { 0 = o }) p a e m g;
+  unlikely = λ f o p m a g e. older-unlikely (record { 0 = f }) (record { 0 = o }) p a e m g;
+  none = λ f o p m a g e. older-none (record { 0 = f }) (record { 0 = o }) p a e m g;
+  refuses = λ f o p a j e says. older-hint-refused (record { 0 = f }) (record { 0 = o }) p a e (judged-said (length p) (judgeOlder 0 p) says);
+}
+
+pub k2 : K2
+unfolding askOlder olderIsCanonical
+k2 = record {
+  judge = λ p a e. answers-as (older-fair 0 p) (rw e (judged-verdict (length p) (verdict (judgeOlder 0 p)))) (judged-said (length p) (judgeOlder 0 p) e .refusal);
+  numbered = λ p a e n at is. older-fair-by 0 p .numbered n at (judged-said (length p) (judgeOlder 0 p) e .refusal n at .0 is);
+  hint = λ f o p a e. answers-as (older-fair 0 p) (rw e (hint-reply (askOlder (record { 0 = f }) (record { 0 = o }) 0 p))) (rw e (λ n at. Iff·trans (hint-refused-said (askOlder (record { 0 = f }) (record { 0 = o }) 0 p) n at) (refused-exactly (firstIn f o) (judgeOlder 0 p))));
+  hint-in = λ f o m a e. answers-through older-fair (rw e (hint-reply (askOlderThrough (record { 0 = f }) (record { 0 = o }) m))) (older-in-exactly (record { 0 = f }) (record { 0 = o }) m a e);
+  canonical = writes-older;
+  judged = judges (judgeOlder 0) (λ es. es) wm-old-hints-judge (older-exact 0) (λ p a e. judged-said (length p) (judgeOlder 0 p) e);
+  whole = λ p a. judged-whole (length p) (verdict (judgeOlder 0 p));
+  hints = older-answered;
+  through-modules = λ f o. older-through (record { 0 = f }) (record { 0 = o });
+  newer-through-modules = λ f o. hint-through (record { 0 = f }) (record { 0 = o });
+  apart = sections-apart;
+  rewritten = rewritten older-written older-refuse (λ q. wm-old-hint (q .0 .0) (q .1 .0)) (λ q x. (_, refl)) (λ _ _ a b. a ≡ b) (λ q x y a b _ _. hints-same (askOlder (q .0) (q .1) 0 x) (askOlder (q .0) (q .1) 0 y));
+  never-15 = older-never-15;
+  room-enough = λ p old new a j l. fits older-written older-refuse (λ q. wm-old-hint (q .0 .0) (q .1 .0)) (λ q x. (_, refl)) (λ _ _ a b. a ≡ b) (λ q x y a b _ _. hints-same (askOlder (q .0) (q .1) 0 x) (askOlder (q .0) (q .1) 0 y)) p old new a j (λ acc. older-rewritten .accepts acc l);
+  in-order = older-ordered;
+  told = told older-written never-empty;
 }

@@ -13,6 +13,7 @@ use Rattle.format.specs.Examples.{hex, digit}
 use Rattle.format.specs.Metadata.{hintOf, anyItem, hintItem, metadata, judgeMetadata, itemAt, askMetadata, hintIn, askHint, hintAnswered}
 use Rattle.format.specs.Names.{known, knownKind, wider, widerKind, contents, subsections, payload, judgeNames}
 use Rattle.format.specs.Numbers.{number, groups, shortest, fewest}
+use Rattle.format.specs.Older.{times, vector, zeroByte, olderKind, olderHint, olderEntry, judgeOlder, firstAt, firstIn, askOlder}
 use Rattle.format.specs.Parts.{sized, name, remaining}
 use Rattle.format.specs.Questions.{answer, asked, idOf, queryOf, askAt, ask, asPlace, answered}
 use Rattle.format.specs.declared.Question.{Question}
@@ -22,6 +23,7 @@ use Rattle.format.specs.Tables.{lookup, rows, table}
 use Rattle.format.specs.Text.{utf8, characters, character, completes}
 use Rattle.format.specs.declared.CodeOffset.{CodeOffset}
 use Rattle.format.specs.declared.FunctionIndex.{FunctionIndex}
+use Rattle.format.specs.declared.InstructionOffset.{InstructionOffset}
 use Rattle.format.specs.declared.Hint.{Hint}
 use Rattle.format.specs.declared.Hint.the-variants.{Likely}
 use Rattle.format.specs.declared.Place.{Place}
@@ -48,7 +50,7 @@ module _ {Lent : Type 0} where
     c-call = by-table (λ x a meets. ap saysPlace meets ∙ place-said (wanted x)) table e;
   }
 
-  hints-demanded : (wanted : Lent → Judged (Option Hint)) (table : List (Row Lent (Judged (Option Hint)))) → map (λ row. wanted (row .input)) table ≡ map (λ row. row .verdict) table → HintsDemanded wanted table
+  pub hints-demanded : (wanted : Lent → Judged (Option Hint)) (table : List (Row Lent (Judged (Option Hint)))) → map (λ row. wanted (row .input)) table ≡ map (λ row. row .verdict) table → HintsDemanded wanted table
   hints-demanded wanted table e = record {
     call = by-table (λ x r meets. meets) table e;
     c-call = by-table (λ x a meets. ap saysHint meets ∙ hint-said (wanted x)) table e;
@@ -181,3 +183,17 @@ hint-rows =
 pub hint : HintsDemanded (λ (x : List ℕ × FunctionIndex × CodeOffset). askHint (x .1) (x .2) 0 (x .0)) hint-rows
 unfolding hex digit number groups sized lookup rows table hintOf hintItem metadata judgeMetadata itemAt askMetadata hintIn askHint
 hint = hints-demanded _ hint-rows refl
+
+-- Of the older edition: the second hint, and the second entry, also one for the same pair
+abbrev pub older-rows : List (Row (List ℕ × FunctionIndex × InstructionOffset) (Judged (Option Hint)))
+older-rows =
+    (hex "01 02 00 01 01 05", record { 0 = 2 }, record { 0 = 5 }) demands accepted (some Likely) ∷
+    (hex "01 02 00 02 01 05 02 05", record { 0 = 2 }, record { 0 = 5 }) demands refused 12 6 ∷
+    (hex "02 02 00 01 01 05 02 01", record { 0 = 2 }, record { 0 = 5 }) demands refused 17 7 ∷
+    (hex "02 02 00 01 01 05 03 00 01 00", record { 0 = 2 }, record { 0 = 5 }) demands refused 2 10 ∷
+    (hex "01 02 00 01 01 05 00", record { 0 = 2 }, record { 0 = 5 }) demands refused 10 6 ∷
+    []
+
+pub older-hint : HintsDemanded (λ (x : List ℕ × FunctionIndex × InstructionOffset). askOlder (x .1) (x .2) 0 (x .0)) older-rows
+unfolding hex digit number groups times vector zeroByte olderKind olderHint olderEntry judgeOlder firstAt firstIn askOlder
+older-hint = hints-demanded _ older-rows refl

@@ -11,11 +11,13 @@ use Rattle.format.specs.Parts.{sized, name, remaining}
 use Rattle.format.specs.Tables.{lookup, size, mapTable, rows, table}
 use Rattle.format.specs.Names.{known, knownKind, wider, widerKind, contents, subsections, payload, judgeNames}
 use Rattle.format.specs.Metadata.{hintOf, anyItem, hintItem, metadata, judgeMetadata}
+use Rattle.format.specs.Older.{times, vector, zeroByte, olderKind, olderHint, olderEntry, judgeOlder, putFirst, amend, withHints, sortedFrom, writeOlderHints, writeOlder, notTooLong, canonicalOlder}
 use Rattle.format.specs.Canonical.{writePart, writeRows, writeTable, unlessEmpty, keepRows, bare, writeContent, writeSubsections, rewriteNames, canonicalNames, rewriteMetadata, canonicalOf}
-use Rattle.format.specs.Telling.{isItsRewriting, namesAreCanonical, itemsAreCanonical}
+use Rattle.format.specs.Telling.{isItsRewriting, namesAreCanonical, itemsAreCanonical, olderIsCanonical}
 use Rattle.format.specs.declared.Edition.the-variants.{First, Wider}
 use Rattle.names.specs.Promises.{names-is-canonical}
 use Rattle.metadata.specs.Promises.{metadata-is-canonical, metadata-are-hints-canonical}
+use Rattle.reordering.specs.Promises.{reordering-is-canonical}
 use Rattle.wakemiono.specs.Calls as call
 use Rattle.promises.specs.RuledOut.{Row, _demands_, Demanded, by-table}
 
@@ -83,3 +85,26 @@ metadata-are-hints-canonical-told = by-table (λ p r meets. meets) (items-rows t
 pub wm-hints-is-canonical-told : Demanded call.wm-hints-is-canonical (λ y. y) (items-rows 1 0)
 unfolding items-rows hex digit same number groups shortest fewest sized lookup size mapTable rows table hintOf hintItem metadata judgeMetadata writePart writeRows writeTable unlessEmpty keepRows rewriteMetadata canonicalOf isItsRewriting itemsAreCanonical
 wm-hints-is-canonical-told = by-table (λ p y meets. meets) (items-rows 1 0) refl
+
+-- K2: of the older edition, with functions or offsets that do not rise, a pair twice, a padded kind, an entry without hints
+unfoldable pub older-rows : {B : Type 0} → (good bad : B) → List (Row (List ℕ) B)
+older-rows good bad =
+    hex "00" demands good ∷
+    hex "02 01 00 01 00 02 07 00 02 01 05 00 06" demands good ∷
+    hex "01" demands bad ∷
+    hex "80 00" demands bad ∷
+    hex "02 07 00 01 01 05 01 00 01 00 02" demands bad ∷
+    hex "01 00 00 02 01 06 01 05" demands bad ∷
+    hex "01 00 00 02 01 05 01 05" demands bad ∷
+    hex "02 00 00 01 01 05 00 00 01 01 06" demands bad ∷
+    hex "01 00 00 01 81 00 05" demands bad ∷
+    hex "01 00 00 00" demands bad ∷
+    []
+
+pub reordering-is-canonical-told : Demanded reordering-is-canonical (λ r. r) (older-rows true false)
+unfolding older-rows hex digit same number groups shortest fewest size writeRows writeTable times vector zeroByte olderKind olderHint olderEntry judgeOlder putFirst amend withHints sortedFrom writeOlderHints writeOlder notTooLong canonicalOlder isItsRewriting olderIsCanonical
+reordering-is-canonical-told = by-table (λ p r meets. meets) (older-rows true false) refl
+
+pub wm-old-hints-is-canonical-told : Demanded call.wm-old-hints-is-canonical (λ y. y) (older-rows 1 0)
+unfolding older-rows hex digit same number groups shortest fewest size writeRows writeTable times vector zeroByte olderKind olderHint olderEntry judgeOlder putFirst amend withHints sortedFrom writeOlderHints writeOlder notTooLong canonicalOlder isItsRewriting olderIsCanonical
+wm-old-hints-is-canonical-told = by-table (λ p y meets. meets) (older-rows 1 0) refl

@@ -17,6 +17,7 @@ use Rattle.format.specs.Lists.{sum, listed, unsortedAt, badTextAt, subsection, 
 use Rattle.format.specs.Metadata.{hintOf, anyItem, hintItem, metadata, judgeMetadata}
 use Rattle.format.specs.Names.{known, knownKind, wider, widerKind, contents, subsections, payload, judgeNames}
 use Rattle.format.specs.Numbers.{number, groups, shortest, fewest}
+use Rattle.format.specs.Older.{times, vector, zeroByte, olderKind, olderHint, olderEntry, judgeOlder, putFirst, amend, withHints, sortedFrom, writeOlderHints, writeOlder, notTooLong, canonicalOlder}
 use Rattle.format.specs.Outputs.{fitting, writeAnswer, outputAfter, writtenAs, Writes}
 use Rattle.format.specs.Parts.{sized, name, remaining}
 use Rattle.format.specs.Reading.{Judged, accepted, refused, mapJudged}
@@ -188,6 +189,23 @@ rewrite-hints = rewrite-calls canonicalHints (record {
   one = finds (hex "02 02 00 03 01 05 01 01", hex "AA AA AA AA AA AA AA") (hex "01 03 01 05 01 01");
   another = finds (hex "01 02 00", hex "AA") (hex "00");
   bad = refuses (hex "01 02 02 05 01 01 06 01 02", hex "AA AA AA AA AA AA AA AA AA") 12 7;
+  worse = refuses (hex "00", []) 13 1;
+  is-one = refl;
+  is-another = refl;
+  is-bad = refl;
+  is-worse = refl;
+  two = refl;
+  changed = refl;
+  apart = refl;
+}) refl
+
+-- Of the older edition: a pair twice; nothing but entries without hints; the second hint damaged; an output that is too short
+pub rewrite-older : RewriteCalls canonicalOlder
+unfolding same hex digit number groups shortest fewest size writeRows writeTable times vector zeroByte olderKind olderHint olderEntry judgeOlder putFirst amend withHints sortedFrom writeOlderHints writeOlder notTooLong canonicalOlder fitting writeAnswer outputAfter
+rewrite-older = rewrite-calls canonicalOlder (record {
+  one = finds (hex "01 00 00 02 01 05 01 05", hex "AA AA AA AA AA AA AA") (hex "01 00 00 01 01 05");
+  another = finds (hex "02 00 00 00 07 00 00", hex "AA") (hex "00");
+  bad = refuses (hex "01 02 00 02 01 05 02 06", hex "AA AA AA AA AA AA AA AA") 12 6;
   worse = refuses (hex "00", []) 13 1;
   is-one = refl;
   is-another = refl;

@@ -1,6 +1,6 @@
 -- Each promise of the crate `through` determines what comes back.
 use Rattle.format.specs.Determined.{Determines3, Determines4, DeterminesBoth4, DeterminesBoth5, answer-determined, hint-answer-determined, part-determined}
-use Rattle.through.specs.Promises.{through-ask, through-ask-bytes, through-metadata, through-metadata-bytes, through-hint}
+use Rattle.through.specs.Promises.{through-ask, through-ask-bytes, through-metadata, through-metadata-bytes, through-hint, through-older-hint}
 
 pub record Through : Type 0 where
   through-ask : Determines3 through-ask
@@ -8,6 +8,7 @@ pub record Through : Type 0 where
   through-metadata : Determines4 through-metadata
   through-metadata-bytes : DeterminesBoth5 through-metadata-bytes
   through-hint : Determines3 through-hint
+  through-older-hint : Determines3 through-older-hint
 
 pub determined : Through
 determined =
@@ -17,4 +18,5 @@ determined =
       through-metadata = λ m format f at. answer-determined _;
       through-metadata-bytes = λ m lent-at format f at. part-determined _ _;
       through-hint = λ m f at. hint-answer-determined _;
+      through-older-hint = λ m f at. hint-answer-determined _;
     }

@@ -5,7 +5,7 @@ use Rattle.format.specs.Determined.{Determines, Determines1, Determines2, Deter
 use Rattle.format.specs.Reading.{Judged}
 use Rattle.wakemiono.proofs.Same.{wm-writes-same}
 use Rattle.wakemiono.specs.Boundary.{WmWrites}
-use Rattle.wakemiono.specs.Calls.{wm-walk, wm-section, wm-custom, wm-names-judge, wm-name, wm-metadata-judge, wm-metadata, wm-hints-judge, wm-hint, wm-name-in, wm-metadata-in, wm-hint-in, wm-names-canonical, wm-metadata-canonical, wm-hints-canonical, wm-names-is-canonical, wm-metadata-is-canonical, wm-hints-is-canonical, wm-function-names-write, wm-wide-names-judge, wm-wide-name, wm-wide-name-in, wm-wide-names-canonical, wm-wide-names-is-canonical}
+use Rattle.wakemiono.specs.Calls.{wm-walk, wm-section, wm-custom, wm-names-judge, wm-name, wm-metadata-judge, wm-metadata, wm-hints-judge, wm-hint, wm-name-in, wm-metadata-in, wm-hint-in, wm-names-canonical, wm-metadata-canonical, wm-hints-canonical, wm-names-is-canonical, wm-metadata-is-canonical, wm-hints-is-canonical, wm-function-names-write, wm-wide-names-judge, wm-wide-name, wm-wide-name-in, wm-wide-names-canonical, wm-wide-names-is-canonical, wm-old-hints-judge, wm-old-hint, wm-old-hint-in, wm-old-hints-canonical, wm-old-hints-is-canonical}
 use Rattle.wakemiono.specs.declared.WmAnswer.{WmAnswer}
 
 -- One answer and one end state alone meet the promise of a write
@@ -37,6 +37,11 @@ pub record Wakemiono : Type 0 where
   wm-wide-name-in : Determines2 wm-wide-name-in
   wm-wide-names-canonical : DeterminesBoth2 wm-wide-names-canonical
   wm-wide-names-is-canonical : Determines1 wm-wide-names-is-canonical
+  wm-old-hints-judge : Determines1 wm-old-hints-judge
+  wm-old-hint : Determines3 wm-old-hint
+  wm-old-hint-in : Determines3 wm-old-hint-in
+  wm-old-hints-canonical : DeterminesBoth2 wm-old-hints-canonical
+  wm-old-hints-is-canonical : Determines1 wm-old-hints-is-canonical
 
 pub determined : Wakemiono
 determined =
@@ -65,4 +70,9 @@ determined =
       wm-wide-name-in = λ q bytes. equal-determined _;
       wm-wide-names-canonical = λ payload old. wm-writes-determined _ _;
       wm-wide-names-is-canonical = λ payload. equal-determined _;
+      wm-old-hints-judge = λ payload. equal-determined _;
+      wm-old-hint = λ function offset payload. equal-determined _;
+      wm-old-hint-in = λ function offset bytes. equal-determined _;
+      wm-old-hints-canonical = λ payload old. wm-writes-determined _ _;
+      wm-old-hints-is-canonical = λ payload. equal-determined _;
     }

@@ -11,14 +11,16 @@ use lib.ListN.{length, take, drop}
 use Rattle.format.specs.Laws.Outcomes.{not-accepted, accepted-is, byTest, refused-exactly}
 use Rattle.format.specs.Metadata.{hintItem, judgeMetadata, itemAt, askMetadata, hintIn, askHint}
 use Rattle.format.specs.Names.{Kind, judgeNames}
+use Rattle.format.specs.Older.{judgeOlder, firstIn, askOlder}
 use Rattle.format.specs.Outputs.{fitting, writeAnswer}
 use Rattle.format.specs.Parts.{Part}
 use Rattle.format.specs.Questions.{idOf, queryOf, answer, asked, askAt, asPlace}
 use Rattle.format.specs.Reading.{Judged, accepted, refused, judgedThen, mapJudged}
-use Rattle.format.specs.Through.{orNone, through, askThrough, metadataSection, itemOf, askMetadataThrough, askHintThrough}
-use Rattle.format.specs.Walk.{nameSection, hintSection, walk, payloadIn, customPayload}
+use Rattle.format.specs.Through.{orNone, through, askThrough, metadataSection, itemOf, askMetadataThrough, askHintThrough, askOlderThrough}
+use Rattle.format.specs.Walk.{nameSection, hintSection, olderHintSection, walk, payloadIn, customPayload}
 use Rattle.format.specs.declared.CodeOffset.{CodeOffset}
 use Rattle.format.specs.declared.FunctionIndex.{FunctionIndex}
+use Rattle.format.specs.declared.InstructionOffset.{InstructionOffset}
 use Rattle.format.specs.declared.Question.{Question}
 use Rattle.wakemiono.specs.Boundary.{wmFound, wmRefused, wmPlace, wmHint, WmWrites}
 use Rattle.wakemiono.specs.declared.WmAnswer.{WmAnswer}
@@ -63,6 +65,10 @@ metadata-in-exactly format f o m = through-exactly (λ j. wmPlace (asPlace j)) r
 pub hint-in-exactly : (f : FunctionIndex) (o : CodeOffset) (m : List ℕ) (a : WmAnswer) → a ≡ wmHint (askHintThrough f o m) → (n at : ℕ) → (a ≡ wmRefused n at) ↔ RefusedThrough hintSection (judgeMetadata hintItem) m n at
 unfolding askHintThrough askHint askMetadata
 hint-in-exactly f o m = through-exactly (λ j. wmHint j) hint-refused-said (judgeMetadata hintItem) (askHint f o) (λ k p n at. Iff·trans (refused-exactly hintIn (askMetadata hintItem f o k p)) (refused-exactly (itemAt f o) (judgeMetadata hintItem k p))) hintSection m
+
+pub older-in-exactly : (f : FunctionIndex) (o : InstructionOffset) (m : List ℕ) (a : WmAnswer) → a ≡ wmHint (askOlderThrough f o m) → (n at : ℕ) → (a ≡ wmRefused n at) ↔ RefusedThrough olderHintSection judgeOlder m n at
+unfolding askOlderThrough askOlder
+older-in-exactly f o m = through-exactly (λ j. wmHint j) hint-refused-said judgeOlder (askOlder f o) (λ k p n at. refused-exactly (firstIn (f .0) (o .0)) (judgeOlder k p)) olderHintSection m
 
 -- Writing: what a call that refuses for want of room knows of the judgement, whatever is said of the refusal
 module _ {A : Type 0} {judged : Judged A} {needed : A → ℕ} {room : ℕ} where

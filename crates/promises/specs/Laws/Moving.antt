@@ -6,7 +6,7 @@ use mathlib.Core.Option.{Option, none, some}
 use mathlib.Core.Path.{_≡_, refl, sym, ap, _∙_}
 use native.Mathlib.Nat.{add-zero, add-suc}
 use native.Mathlib.Omega.{arith}
-use lib.Dec.{ltb, leb}
+use lib.Dec.{ltb, leb, eqb}
 use lib.ListN.{length}
 use Rattle.format.specs.Laws.Options.{byOption}
 use Rattle.format.specs.Laws.Outcomes.{byTest}
@@ -14,6 +14,7 @@ use Rattle.format.specs.Laws.Tables.{lookup-map}
 use Rattle.format.specs.Metadata.{hintOf, anyItem, hintItem, metadata, judgeMetadata, itemAt, askMetadata, hintIn, askHint}
 use Rattle.format.specs.Names.{Kind, oneName, nameMap, indirectMap, kept, Content, single, names, namesBy, whole, contents, subsections, payload, judgeNames}
 use Rattle.format.specs.Numbers.{groups, number}
+use Rattle.format.specs.Older.{times, vector, zeroByte, olderKind, olderHint, olderEntry, judgeOlder, firstIn, askOlder}
 use Rattle.format.specs.Options.{thenSome, mapSome, isSome}
 use Rattle.format.specs.Parts.{Part, sized, name, remaining, goOn, cut}
 use Rattle.format.specs.Questions.{answerIn, answer, asked, idOf, queryOf, askAt}
@@ -25,6 +26,7 @@ use Rattle.format.specs.Tables.{Table, lookup, mapTable, rows, table}
 use Rattle.format.specs.Text.{utf8}
 use Rattle.format.specs.declared.CodeOffset.{CodeOffset}
 use Rattle.format.specs.declared.FunctionIndex.{FunctionIndex}
+use Rattle.format.specs.declared.InstructionOffset.{InstructionOffset}
 use Rattle.format.specs.declared.Reason.{Reason}
 
 abbrev pub movePart : ℕ → Part → Part
@@ -211,3 +213,55 @@ hint-asked-moves f o k p = ap (mapJudged hintIn) (hint-data-moves f o k p) ∙ m
     hinted : (x : Option Part) → hintIn (mapSome (movePart k) x) ≡ hintIn x
     hinted none = refl
     hinted (some p) = refl
+
+-- Hints of the older edition, which have no places
+module _ {A : Type 0} where
+  abbrev same : ℕ → A → A
+  same k v = v
+
+zero-byte-moves : Moves same zeroByte
+unfolding zeroByte
+zero-byte-moves k o [] = refl
+zero-byte-moves k o (b ∷ bs) = byTest (eqb b 0) (λ t. rw (t, add-suc k o)) (λ t. rw t)
+
+old-kind-moves : Moves same olderKind
+unfolding olderKind
+old-kind-moves k o bs =
+    then-moves (stays k) (same k) k (number o bs) (number (k + o) bs) _ _ (number-moves k o bs) λ v o₁ r₁.
+    check-moves (same k) k (leb v 1) _ o o₁ r₁ _ _ refl
+
+old-hint-moves : Moves same olderHint
+unfolding olderHint
+old-hint-moves k o bs =
+    then-moves (same k) (same k) k (olderKind o bs) (olderKind (k + o) bs) _ _ (old-kind-moves k o bs) λ v o₁ r₁.
+    then-moves (stays k) (same k) k (number o₁ r₁) (number (k + o₁) r₁) _ _ (number-moves k o₁ r₁) λ n o₂ r₂. refl
+
+module _ {A : Type 0} (read : Reader A) (moves : Moves same read) where
+  times-move : (n : ℕ) → Moves same (times read n)
+  unfolding times
+  times-move zero k o bs = refl
+  times-move (suc n) k o bs =
+      then-moves (same k) (same k) k (read o bs) (read (k + o) bs) _ _ (moves k o bs) λ v o₁ r₁.
+      then-moves (same k) (same k) k (times read n o₁ r₁) (times read n (k + o₁) r₁) _ _ (times-move n k o₁ r₁) λ vs o₂ r₂. refl
+
+  vector-moves : Moves same (vector read)
+  unfolding vector
+  vector-moves k o bs = then-moves (stays k) (same k) k (number o bs) (number (k + o) bs) _ _ (number-moves k o bs) λ n o₁ r₁. times-move n k o₁ r₁
+
+old-entry-moves : Moves same olderEntry
+unfolding olderEntry
+old-entry-moves k o bs =
+    then-moves (stays k) (same k) k (number o bs) (number (k + o) bs) _ _ (number-moves k o bs) λ f o₁ r₁.
+    then-moves (same k) (same k) k (zeroByte o₁ r₁) (zeroByte (k + o₁) r₁) _ _ (zero-byte-moves k o₁ r₁) λ _ o₂ r₂.
+    then-moves (same k) (same k) k (vector olderHint o₂ r₂) (vector olderHint (k + o₂) r₂) _ _ (vector-moves olderHint old-hint-moves k o₂ r₂) λ hs o₃ r₃. refl
+
+older-moves : (k : ℕ) (p : List ℕ) → judgeOlder k p ≡ movedJudged (λ es. es) k (judgeOlder 0 p)
+unfolding judgeOlder
+older-moves k p =
+    ap (λ n. judge (filling (vector olderEntry) n p)) (sym (add-zero k))
+    ∙ ap judge (filling-moves same (vector olderEntry) (vector-moves olderEntry old-entry-moves) k 0 p)
+    ∙ judge-moved _ k (filling (vector olderEntry) 0 p)
+
+pub older-asked-moves : (f : FunctionIndex) (o : InstructionOffset) (k : ℕ) (p : List ℕ) → askOlder f o k p ≡ movedJudged (λ h. h) k (askOlder f o 0 p)
+unfolding askOlder
+older-asked-moves f o k p = ap (mapJudged (firstIn (f .0) (o .0))) (older-moves k p) ∙ map-moved (firstIn (f .0) (o .0)) (λ es. es) (λ h. h) k (judgeOlder 0 p) (λ es. refl)

@@ -1,10 +1,11 @@
--- Every refusal of what is lent has one of the numbers that the demands list: 16 is the listing program's alone.
+-- Every refusal of what is lent has one of the numbers that the demands list: 16 is the listing program's alone. A payload of older hints has a list of its own.
 use Prim.Native.Nat.{ℕ, zero, suc, _+_, _*_, _%_}
 use mathlib.Core.Bool.{Bool, true, false, cond, not, _&&_, _||_}
 use mathlib.Core.List.{List, [], _∷_}
 use mathlib.Core.Option.{Option, none, some}
 use mathlib.Core.Path.{_≡_, refl, sym}
 use native.Mathlib.Omega.{arith}
+use borrow.Author.Tests.{eqb-true}
 use lib.Dec.{ltb, leb, eqb}
 use lib.ListN.{length}
 use Rattle.format.specs.Bytes.{same}
@@ -12,6 +13,7 @@ use Rattle.format.specs.Laws.Outcomes.{not-accepted, byTest}
 use Rattle.format.specs.Metadata.{hintOf, anyItem, hintItem, metadata, judgeMetadata}
 use Rattle.format.specs.Names.{Kind, oneName, nameMap, indirectMap, kept, contents, subsections, payload, judgeNames}
 use Rattle.format.specs.Numbers.{groups, number}
+use Rattle.format.specs.Older.{times, vector, zeroByte, olderKind, olderHint, olderEntry, judgeOlder}
 use Rattle.format.specs.Options.{isSome}
 use Rattle.format.specs.Parts.{Part, sized, name, remaining, goOn}
 use Rattle.format.specs.Reading.{Outcome, got, stop, Reader, andThen, _>>_, checked, atEnd, filling, Judged, accepted, refused, judge}
@@ -21,60 +23,76 @@ use Rattle.format.specs.Text.{utf8}
 use Rattle.format.specs.Through.{itemOf}
 use Rattle.format.specs.Walk.{preamble, begins, greatestId, isCustom, isData, rank, custom, branchHint, nameRow, beforeCode, rowOf, Seen, nothing, seeing, idRules, nameRules, section, sections, framing, walk}
 use Rattle.format.specs.declared.Reason.{Reason}
-use Rattle.promises.specs.Demands.{numbers, isAmong}
+use Rattle.promises.specs.Demands.{numbers, olderNumbers, isAmong}
+use Rattle.promises.specs.RuledOut.{not-both}
 
 abbrev pub Numbered : ℕ → Type 0
 Numbered n = isAmong numbers n ≡ true
 
--- an outcome, or a judgement, that refuses with such a number alone
-pub record Fair {A : Type 0} (r : Outcome A) : Type 0 where
-  pub numbered : (n at : ℕ) → r ≡ stop n at → Numbered n
+-- an outcome, or a judgement, that refuses with a number of a list alone
+pub record FairBy (listed : List ℕ) {A : Type 0} (r : Outcome A) : Type 0 where
+  pub numbered : (n at : ℕ) → r ≡ stop n at → isAmong listed n ≡ true
 
-pub record FairlyJudged {A : Type 0} (j : Judged A) : Type 0 where
-  pub numbered : (n at : ℕ) → j ≡ refused n at → Numbered n
+abbrev pub Fair : {A : Type 0} → Outcome A → Type 0
+Fair r = FairBy numbers r
 
-module _ {A : Type 0} where
-  fair-got : {v : A} {o : ℕ} {bs : List ℕ} → Fair (got v o bs)
+pub record FairlyJudgedBy (listed : List ℕ) {A : Type 0} (j : Judged A) : Type 0 where
+  pub numbered : (n at : ℕ) → j ≡ refused n at → isAmong listed n ≡ true
+
+abbrev pub FairlyJudged : {A : Type 0} → Judged A → Type 0
+FairlyJudged j = FairlyJudgedBy numbers j
+
+module _ {listed : List ℕ} {A : Type 0} where
+  fair-got : {v : A} {o : ℕ} {bs : List ℕ} → FairBy listed (got v o bs)
   fair-got = record { numbered = λ n at e. absurd (let z : _≡_ {A = ℕ} 0 1 = cc in omega arith) }
 
-  fair-stop : {n at : ℕ} → Numbered n → Fair {A = A} (stop n at)
+  fair-stop : {n at : ℕ} → isAmong listed n ≡ true → FairBy listed {A = A} (stop n at)
   fair-stop {n} l = record { numbered = λ m at e. let q : n ≡ m = cc in rw (← q) l }
 
-  fair-either : {r s : Outcome A} (b : Bool) → Fair r → Fair s → Fair (cond b r s)
+  fair-either : {r s : Outcome A} (b : Bool) → FairBy listed r → FairBy listed s → FairBy listed (cond b r s)
   fair-either true f g = f
   fair-either false f g = g
 
-  fair-end : (v : A) (o : ℕ) (bs : List ℕ) → Fair (atEnd v o bs)
-  fair-end v o [] = fair-got
-  fair-end v o (b ∷ bs) = fair-stop refl
+  fair-end : isAmong listed 10 ≡ true → (v : A) (o : ℕ) (bs : List ℕ) → FairBy listed (atEnd v o bs)
+  fair-end ten v o [] = fair-got
+  fair-end ten v o (b ∷ bs) = fair-stop ten
 
-  fair-part : (r : Outcome A) (o : ℕ) (bs : List ℕ) → Fair r → Fair (goOn r o bs)
+  fair-part : (r : Outcome A) (o : ℕ) (bs : List ℕ) → FairBy listed r → FairBy listed (goOn r o bs)
   fair-part (got v o₁ r₁) o bs f = fair-got
   fair-part (stop n at) o bs f = f
 
-fair-then : {A B : Type 0} (r : Outcome A) (f : A → Reader B) → Fair r → ((v : A) (o : ℕ) (bs : List ℕ) → Fair (f v o bs)) → Fair (andThen r f)
-fair-then (got v o bs) f h k = k v o bs
-fair-then (stop n at) f h k = record { numbered = λ m at′ e. h .numbered m at′ (let c : n ≡ m = cc in let o : at ≡ at′ = cc in rw (c, o)) }
+module _ {listed : List ℕ} where
+  fair-then : {A B : Type 0} (r : Outcome A) (f : A → Reader B) → FairBy listed r → ((v : A) (o : ℕ) (bs : List ℕ) → FairBy listed (f v o bs)) → FairBy listed (andThen r f)
+  fair-then (got v o bs) f h k = k v o bs
+  fair-then (stop n at) f h k = record { numbered = λ m at′ e. h .numbered m at′ (let c : n ≡ m = cc in let o : at ≡ at′ = cc in rw (c, o)) }
 
-fair-check : (b : Bool) (why : Reason) (at o : ℕ) (bs : List ℕ) → Numbered (numberOf why) → Fair (checked b why at o bs)
-fair-check true why at o bs l = fair-got
-fair-check false why at o bs l = fair-stop l
+  fair-check : (b : Bool) (why : Reason) (at o : ℕ) (bs : List ℕ) → isAmong listed (numberOf why) ≡ true → FairBy listed (checked b why at o bs)
+  fair-check true why at o bs l = fair-got
+  fair-check false why at o bs l = fair-stop l
 
-fair-after : {B : Type 0} (b : Bool) (why : Reason) (at o : ℕ) (bs : List ℕ) (f : Reader B) → Numbered (numberOf why) → Fair (f o bs) → Fair ((checked b why at >> f) o bs)
-fair-after true why at o bs f l h = h
-fair-after false why at o bs f l h = fair-stop l
+  fair-after : {B : Type 0} (b : Bool) (why : Reason) (at o : ℕ) (bs : List ℕ) (f : Reader B) → isAmong listed (numberOf why) ≡ true → FairBy listed (f o bs) → FairBy listed ((checked b why at >> f) o bs)
+  fair-after true why at o bs f l h = h
+  fair-after false why at o bs f l h = fair-stop l
+
+  -- Numbers are refused with 2 and 3
+  module _ (two : isAmong listed 2 ≡ true) (three : isAmong listed 3 ≡ true) where
+    groups-fair : (more first o : ℕ) (bs : List ℕ) → FairBy listed (groups more first o bs)
+    unfolding groups
+    groups-fair zero first o [] = fair-stop two
+    groups-fair (suc more) first o [] = fair-stop two
+    groups-fair zero first o (b ∷ bs) = fair-either (leb b 0x0F) fair-got (fair-stop three)
+    groups-fair (suc more) first o (b ∷ bs) = fair-either (ltb b 128) fair-got (fair-then (groups more first (suc o) bs) (λ v o bs. got (b % 128 + 128 * v) o bs) (groups-fair more first (suc o) bs) (λ v o bs. fair-got))
+
+    number-fair-by : (o : ℕ) (bs : List ℕ) → FairBy listed (number o bs)
+    unfolding number
+    number-fair-by o bs = groups-fair 4 o o bs
+
+  filling-fair-by : {A : Type 0} (read : Reader A) → isAmong listed 10 ≡ true → ((o : ℕ) (bs : List ℕ) → FairBy listed (read o bs)) → (o : ℕ) (bs : List ℕ) → FairBy listed (filling read o bs)
+  filling-fair-by read ten fair o bs = fair-then (read o bs) _ (fair o bs) (fair-end ten)
 
 -- Numbers, parts and tables
-groups-fair : (more first o : ℕ) (bs : List ℕ) → Fair (groups more first o bs)
-unfolding groups
-groups-fair zero first o [] = fair-stop refl
-groups-fair (suc more) first o [] = fair-stop refl
-groups-fair zero first o (b ∷ bs) = fair-either (leb b 0x0F) fair-got (fair-stop refl)
-groups-fair (suc more) first o (b ∷ bs) = fair-either (ltb b 128) fair-got (fair-then (groups more first (suc o) bs) (λ v o bs. got (b % 128 + 128 * v) o bs) (groups-fair more first (suc o) bs) (λ v o bs. fair-got))
-
 number-fair : (o : ℕ) (bs : List ℕ) → Fair (number o bs)
-unfolding number
-number-fair o bs = groups-fair 4 o o bs
+number-fair = number-fair-by refl refl
 
 sized-fair : (o : ℕ) (bs : List ℕ) → Fair (sized o bs)
 unfolding sized
@@ -97,7 +115,7 @@ module _ {A : Type 0} (read : Reader A) (fair : (o : ℕ) (bs : List ℕ) → Fa
   table-fair o bs = fair-then (number o bs) _ (number-fair o bs) λ n o₁ r₁. rows-fair n 0 o₁ r₁
 
   filling-fair : (o : ℕ) (bs : List ℕ) → Fair (filling read o bs)
-  filling-fair o bs = fair-then (read o bs) _ (fair o bs) fair-end
+  filling-fair = filling-fair-by read refl fair
 
 -- Name payloads
 contents-fair : (k : Kind) (o : ℕ) (bs : List ℕ) → Fair (contents k o bs)
@@ -118,11 +136,11 @@ subsections-fair kindOf (suc most) least o (id ∷ bs) =
     fair-then (subsections kindOf most (suc id) o₂ r₂) _ (subsections-fair kindOf most (suc id) o₂ r₂) λ t o₃ r₃. fair-got)
 
 -- Judgements
-module _ {A : Type 0} where
-  fairly-accepted : {v : A} → FairlyJudged (accepted v)
+module _ {listed : List ℕ} {A : Type 0} where
+  fairly-accepted : {v : A} → FairlyJudgedBy listed (accepted v)
   fairly-accepted = record { numbered = λ n at e. absurd (not-accepted (sym e)) }
 
-  fairly-judged : (r : Outcome A) → Fair r → FairlyJudged (judge r)
+  fairly-judged : (r : Outcome A) → FairBy listed r → FairlyJudgedBy listed (judge r)
   fairly-judged (got v o bs) f = fairly-accepted
   fairly-judged (stop n at) f = record { numbered = λ m at′ e. f .numbered m at′ (let c : n ≡ m = cc in let o : at ≡ at′ = cc in rw (c, o)) }
 
@@ -146,6 +164,63 @@ module _ {item : Reader Part} (fair : (o : ℕ) (bs : List ℕ) → Fair (item o
   pub items-fair : (at : ℕ) (p : List ℕ) → FairlyJudged (judgeMetadata item at p)
   unfolding judgeMetadata metadata
   items-fair at p = fairly-judged (metadata item at p) (filling-fair (table (table item)) (table-fair (table item) (table-fair item fair)) at p)
+
+-- Hints of the older edition, by their own list, and so by the other
+abbrev OlderFair : {A : Type 0} → Reader A → Type 0
+OlderFair read = (o : ℕ) (bs : List ℕ) → FairBy olderNumbers (read o bs)
+
+old-number-fair : OlderFair number
+old-number-fair = number-fair-by refl refl
+
+zero-byte-fair : OlderFair zeroByte
+unfolding zeroByte
+zero-byte-fair o [] = fair-stop refl
+zero-byte-fair o (b ∷ bs) = fair-check (eqb b 0) _ _ _ _ refl
+
+old-kind-fair : OlderFair olderKind
+unfolding olderKind
+old-kind-fair o bs = fair-then (number o bs) _ (old-number-fair o bs) λ k o₁ r₁. fair-after (leb k 1) _ _ _ _ _ refl fair-got
+
+old-hint-fair : OlderFair olderHint
+unfolding olderHint
+old-hint-fair o bs = fair-then (olderKind o bs) _ (old-kind-fair o bs) λ k o₁ r₁. fair-then (number o₁ r₁) _ (old-number-fair o₁ r₁) λ n o₂ r₂. fair-got
+
+module _ {A : Type 0} (read : Reader A) (fair : OlderFair read) where
+  times-fair : (n : ℕ) → OlderFair (times read n)
+  unfolding times
+  times-fair zero o bs = fair-got
+  times-fair (suc n) o bs = fair-then (read o bs) _ (fair o bs) λ v o₁ r₁. fair-then (times read n o₁ r₁) _ (times-fair n o₁ r₁) λ vs o₂ r₂. fair-got
+
+  vector-fair : OlderFair (vector read)
+  unfolding vector
+  vector-fair o bs = fair-then (number o bs) _ (old-number-fair o bs) times-fair
+
+old-entry-fair : OlderFair olderEntry
+unfolding olderEntry
+old-entry-fair o bs =
+    fair-then (number o bs) _ (old-number-fair o bs) λ f o₁ r₁. fair-then (zeroByte o₁ r₁) _ (zero-byte-fair o₁ r₁) λ _ o₂ r₂.
+    fair-then (vector olderHint o₂ r₂) _ (vector-fair olderHint old-hint-fair o₂ r₂) λ hs o₃ r₃. fair-got
+
+pub older-fair-by : (at : ℕ) (p : List ℕ) → FairlyJudgedBy olderNumbers (judgeOlder at p)
+unfolding judgeOlder
+older-fair-by at p = fairly-judged (filling (vector olderEntry) at p) (filling-fair-by (vector olderEntry) refl (vector-fair olderEntry old-entry-fair) at p)
+
+-- each of these is one of the others
+among-all : (n : ℕ) → isAmong olderNumbers n ≡ true → Numbered n
+among-all n l =
+    byTest (eqb n 2) (λ t. rw (eqb-true n 2 t)) λ t₁.
+    byTest (eqb n 3) (λ t. rw (eqb-true n 3 t)) λ t₂.
+    byTest (eqb n 10) (λ t. rw (eqb-true n 10 t)) λ t₃.
+    byTest (eqb n 12) (λ t. rw (eqb-true n 12 t)) λ t₄.
+    byTest (eqb n 17) (λ t. rw (eqb-true n 17 t)) λ t₅.
+    absurd (not-both (sym (rw (t₁, t₂, t₃, t₄, t₅) at l)))
+
+pub older-fair : (at : ℕ) (p : List ℕ) → FairlyJudged (judgeOlder at p)
+older-fair at p = record { numbered = λ n o e. among-all n (older-fair-by at p .numbered n o e) }
+
+-- and 15 is none of these
+pub older-not-15 : (at : ℕ) (p : List ℕ) {o : ℕ} → judgeOlder at p ≡ refused 15 o → ⊥
+older-not-15 at p {o} e = not-both (sym (older-fair-by at p .numbered 15 o e))
 
 -- The walk
 begins-fair : (xs : List ℕ) (o : ℕ) (bs : List ℕ) → Fair (begins xs o bs)

@@ -8,11 +8,13 @@ use native.Mathlib.Omega.{arith}
 use lib.ListN.{length, take}
 use Rattle.format.specs.Bytes.{Bytes}
 use Rattle.format.specs.Canonical.{rewriteNames, canonicalNames, rewriteMetadata, canonicalOf, canonicalMetadata, canonicalHints}
-use Rattle.format.specs.Theorems.{VeryBytes, Rewrites, ItemQuestion, itemTold, questions-answered, any-metadata-answered}
+use Rattle.format.specs.Theorems.{VeryBytes, Rewritten, Rewrites, ItemQuestion, itemTold, OlderInRange, olderTold, questions-answered, any-metadata-answered, older-rewritten}
+use Rattle.format.specs.Laws.CanonicalOlder.{rewriting}
 use Rattle.format.specs.Laws.Options.{not-some, some-is}
 use Rattle.format.specs.Laws.Outcomes.{accepted-is, mapped}
 use Rattle.format.specs.Metadata.{anyItem, hintItem, judgeMetadata, itemAt, askMetadata}
 use Rattle.format.specs.Names.{Kind, judgeNames}
+use Rattle.format.specs.Older.{judgeOlder, canonicalOlder}
 use Rattle.format.specs.Parts.{Part}
 use Rattle.format.specs.Questions.{idOf, queryOf, answer, asked, askAt, ask, asPlace, asTold}
 use Rattle.format.specs.declared.Question.{Question}
@@ -44,19 +46,37 @@ places-same {x = x} {y = y} f j k {v} {w} is is′ very very′ e e′ =
 pub hints-same : {a b : WmAnswer} (j k : Judged (Option Hint)) → a ≡ wmHint j → b ≡ wmHint k → (a ≡ b) ↔ (j ≡ k)
 hints-same j k e e′ = (λ same. sym (hint-said j) ∙ ap saysHint (sym e ∙ same ∙ e′) ∙ hint-said k, λ same. e ∙ ap (λ j. wmHint j) same ∙ sym e′)
 
-module _ {A Q R : Type 0} {judgement : List ℕ → Judged A} {rewriting : List ℕ → Judged (List ℕ)} {told : Q → List ℕ → R} {Allows : Q → Type 0} (rewrites : Rewrites judgement rewriting told Allows)
-    (first-judged : (p bytes : List ℕ) → rewriting p ≡ accepted bytes → Accepted judgement p)
+-- What is known of a rewriting, wherever a payload has one
+pub record WhereWritten {A Q R : Type 0} (judgement : List ℕ → Judged A) (rewriting : List ℕ → Judged (List ℕ)) (told : Q → List ℕ → R) (Allows : Q → Type 0) : Type 0 where
+  pub first-judged : (p : List ℕ) {bytes : List ℕ} → rewriting p ≡ accepted bytes → Accepted judgement p
+  pub same-exactly : (x y : List ℕ) {v w : List ℕ} → Bytes x → Bytes y → rewriting x ≡ accepted v → rewriting y ≡ accepted w → (v ≡ w) ↔ ((q : Q) → Allows q → told q x ≡ told q y)
+  pub rewritten : (p : List ℕ) {bytes : List ℕ} → rewriting p ≡ accepted bytes → Rewritten judgement rewriting told Allows p bytes
+
+-- where every accepted payload has one
+pub always-written : {A Q R : Type 0} {judgement : List ℕ → Judged A} {rewriting : List ℕ → Judged (List ℕ)} {told : Q → List ℕ → R} {Allows : Q → Type 0} → Rewrites judgement rewriting told Allows → ((p bytes : List ℕ) → rewriting p ≡ accepted bytes → Accepted judgement p) → WhereWritten judgement rewriting told Allows
+always-written rewrites first-judged = record {
+  first-judged = λ p {bytes} c. first-judged p bytes c;
+  same-exactly = λ x y {v} {w} bx by c d. Iff·trans (λ e. c ∙ ap accepted e ∙ sym d, λ e. accepted-is (sym c ∙ e ∙ d)) (rewrites .same-exactly bx by (first-judged x v c) (first-judged y w d));
+  rewritten = λ p {bytes} c. rewrites .rewritten (first-judged p bytes c) bytes c;
+}
+
+-- and where one that is too long has none
+pub older-written : WhereWritten (judgeOlder 0) canonicalOlder olderTold OlderInRange
+older-written = record {
+  first-judged = λ p c. rewriting c .original;
+  same-exactly = λ x y _ _ c d. older-rewritten .same-exactly x y c d;
+  rewritten = λ p c. older-rewritten .rewritten p c;
+}
+
+module _ {A Q R : Type 0} {judgement : List ℕ → Judged A} {rewriting : List ℕ → Judged (List ℕ)} {told : Q → List ℕ → R} {Allows : Q → Type 0} (rewrites : WhereWritten judgement rewriting told Allows)
     (asking : Q → List ℕ → WmAnswer → Type 0) (met : (q : Q) (x : List ℕ) → (a : WmAnswer) × asking q x a)
     (Same : (x y : List ℕ) (a b : WmAnswer) → Type 0)
     (compared : (q : Q) (x y : List ℕ) (a b : WmAnswer) → Accepted judgement x → Accepted judgement y → asking q x a → asking q y b → Same x y a b ↔ (told q x ≡ told q y)) where
   was-accepted : (p : List ℕ) {old new : List ℕ} {a : WmAnswer} → Wrote (rewriting p) old new a → Accepted judgement p
-  was-accepted p w = first-judged p (w .bytes) (w .wants)
+  was-accepted p w = rewrites .first-judged p (w .wants)
 
-  equally-written : {x y old new old′ new′ : List ℕ} {a b : WmAnswer} → Wrote (rewriting x) old new a → Wrote (rewriting y) old′ new′ b → (take (a .length) new ≡ take (b .length) new′) ↔ (rewriting x ≡ rewriting y)
-  equally-written v w = (
-    λ e. v .wants ∙ ap accepted (sym (wrote-first v) ∙ e ∙ wrote-first w) ∙ sym (w .wants),
-    λ e. wrote-first v ∙ accepted-is (sym (v .wants) ∙ e ∙ w .wants) ∙ sym (wrote-first w),
-  )
+  equally-written : {x y old new old′ new′ : List ℕ} {a b : WmAnswer} (v : Wrote (rewriting x) old new a) (w : Wrote (rewriting y) old′ new′ b) → (take (a .length) new ≡ take (b .length) new′) ↔ (v .bytes ≡ w .bytes)
+  equally-written v w = (λ e. sym (wrote-first v) ∙ e ∙ wrote-first w, λ e. wrote-first v ∙ e ∙ sym (wrote-first w))
 
   pub rewritten-same : (x y old new old′ new′ : List ℕ) (a b : WmAnswer) → Bytes x → Bytes y → WmWrites (rewriting x) old new a → WmWrites (rewriting y) old′ new′ b → a .kind ≡ 1 → b .kind ≡ 1
       → (take (a .length) new ≡ take (b .length) new′) ↔ ((q : Q) → Allows q → (c d : WmAnswer) → asking q x c → asking q y d → Same x y c d)
@@ -65,7 +85,7 @@ module _ {A Q R : Type 0} {judgement : List ℕ → Judged A} {rewriting : List 
       let w = wrote (rewriting y) w l in
       let ax = was-accepted x v in
       let ay = was-accepted y w in
-      Iff·trans (equally-written v w) (Iff·trans (rewrites .same-exactly bx by ax ay) (
+      Iff·trans (equally-written v w) (Iff·trans (rewrites .same-exactly x y bx by (v .wants) (w .wants)) (
         λ same q allowed c d e e′. compared q x y c d ax ay e e′ .1 (same q allowed),
         λ same q allowed. let (c, e) = met q x in let (d, e′) = met q y in compared q x y c d ax ay e e′ .0 (same q allowed c d e e′),
       ))
@@ -75,7 +95,7 @@ module _ {A Q R : Type 0} {judgement : List ℕ → Judged A} {rewriting : List 
     rewriting-wrote = wrote (rewriting p) writes k
 
     again-accepted : Accepted judgement (take (a .length) new)
-    again-accepted = rw (wrote-first rewriting-wrote) (rewrites .rewritten (was-accepted p rewriting-wrote) (rewriting-wrote .bytes) (rewriting-wrote .wants) .is-accepted)
+    again-accepted = rw (wrote-first rewriting-wrote) (rewrites .rewritten p (rewriting-wrote .wants) .is-accepted)
 
     pub rewritten-accepted : (j : WmAnswer) → Verdict j (judgement (take (a .length) new)) → j .kind ≡ 1
     rewritten-accepted j says = says .found .1 (again-accepted .value, again-accepted .judged)
@@ -83,26 +103,27 @@ module _ {A Q R : Type 0} {judgement : List ℕ → Judged A} {rewriting : List 
     pub rewritten-alike : (q : Q) (c d : WmAnswer) → asking q p c → asking q (take (a .length) new) d → Same p (take (a .length) new) c d
     rewritten-alike q c d e e′ =
         let w = rewriting-wrote in
-        let alike : told q (take (a .length) new) ≡ told q p = rw (wrote-first w) (rewrites .rewritten (was-accepted p w) (w .bytes) (w .wants) .answers-alike q) in
+        let alike : told q (take (a .length) new) ≡ told q p = rw (wrote-first w) (rewrites .rewritten p (w .wants) .answers-alike q) in
         compared q p (take (a .length) new) c d (was-accepted p w) again-accepted e e′ .1 (sym alike)
 
     pub rewritten-shorter : a .length ≤ length p
-    rewritten-shorter = let w = rewriting-wrote in rw (wrote-long w) (rewrites .rewritten (was-accepted p w) (w .bytes) (w .wants) .never-longer)
+    rewritten-shorter = let w = rewriting-wrote in rw (wrote-long w) (rewrites .rewritten p (w .wants) .never-longer)
 
     pub rewritten-rests : (old′ new′ : List ℕ) (b : WmAnswer) → a .length ≤ length old′ → WmWrites (rewriting (take (a .length) new)) old′ new′ b → (b ≡ a) × (take (b .length) new′ ≡ take (a .length) new)
     rewritten-rests old′ new′ b room again =
         let w = rewriting-wrote in
-        let rests = rewrites .rewritten (was-accepted p w) (w .bytes) (w .wants) .comes-to-rest in
+        let rests = rewrites .rewritten p (w .wants) .comes-to-rest in
         let same : rewriting (take (a .length) new) ≡ accepted (w .bytes) = rw (wrote-first w) rests in
         let v = wrote-there (w .bytes) (rw (← wrote-long w) room) (rw same at again) in
         let one = sym (accepted-is (v .wants)) in
         (v .is ∙ ap (λ bs. wmFound 0 0 (length bs)) one ∙ sym (w .is), wrote-first v ∙ one ∙ sym (wrote-first w))
 
-  pub rewritten-fits : (p old new : List ℕ) (a j : WmAnswer) → Verdict j (judgement p) → j .kind ≡ 1 → length p ≤ length old → WmWrites (rewriting p) old new a → a .kind ≡ 1
-  rewritten-fits p old new a j says k room writes =
+  -- where it has one an output as long as the payload is enough
+  pub rewritten-fits : (p old new : List ℕ) (a j : WmAnswer) → (Accepted judgement p → (bytes : List ℕ) × (rewriting p ≡ accepted bytes)) → Verdict j (judgement p) → j .kind ≡ 1 → length p ≤ length old → WmWrites (rewriting p) old new a → a .kind ≡ 1
+  rewritten-fits p old new a j has says k room writes =
       let (v, e) = says .found .0 k in
-      let (bytes, wants) = rewrites .accepts (record { value = v; judged = e }) in
-      let short = rewrites .rewritten (record { value = v; judged = e }) bytes wants .never-longer in
+      let (bytes, wants) = has (record { value = v; judged = e }) in
+      let short = rewrites .rewritten p wants .never-longer in
       ap (λ (a : WmAnswer). a .kind) (wrote-there bytes (omega (arith, short, room)) (rw wants at writes) .is)
 
 pub rewriting-refused : {A : Type 0} {judgement : List ℕ → Judged A} (rewriting : List ℕ → Judged (List ℕ)) → ((p : List ℕ) (n at : ℕ) → judgement p ≡ refused n at → rewriting p ≡ refused n at) → (p old new : List ℕ) (a j : WmAnswer) → Verdict j (judgement p) → WmWrites (rewriting p) old new a → (n at : ℕ) → j ≡ wmRefused n at → a ≡ wmRefused n at
@@ -136,6 +157,10 @@ metadata-refuse p n at e = rw e
 pub hints-refuse : (p : List ℕ) (n at : ℕ) → judgeMetadata hintItem 0 p ≡ refused n at → canonicalHints p ≡ refused n at
 unfolding canonicalHints canonicalOf
 hints-refuse p n at e = rw e
+
+pub older-refuse : (p : List ℕ) (n at : ℕ) → judgeOlder 0 p ≡ refused n at → canonicalOlder p ≡ refused n at
+unfolding canonicalOlder
+older-refuse p n at e = rw e
 
 pub names-compared : (kindOf : ℕ → Kind) (q : Question) (x y : List ℕ) (a b : WmAnswer) → Accepted (judgeNames kindOf 0) x → Accepted (judgeNames kindOf 0) y → a ≡ wmPlace (asPlace (ask kindOf q x)) → b ≡ wmPlace (asPlace (ask kindOf q y)) → SameAnswer x y a b ↔ (asTold (ask kindOf q x) ≡ asTold (ask kindOf q y))
 unfolding ask askAt asked

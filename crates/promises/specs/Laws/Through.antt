@@ -14,6 +14,7 @@ use Rattle.format.specs.Laws.Laxer.{hint-laxer, table-laxer, filled-laxer}
 use Rattle.format.specs.Laws.Outcomes.{byTest, judged}
 use Rattle.format.specs.Laws.Places.{lies-there, lies-inside}
 use Rattle.format.specs.Metadata.{anyItem, hintItem, metadata, judgeMetadata, askMetadata, askHint}
+use Rattle.format.specs.Older.{askOlder}
 use Rattle.format.specs.Options.{mapSome}
 use Rattle.format.specs.Parts.{Part}
 use Rattle.format.specs.Names.{Kind}
@@ -21,16 +22,17 @@ use Rattle.format.specs.Questions.{askAt, ask, asPlace}
 use Rattle.format.specs.declared.Question.{Question}
 use Rattle.format.specs.Reading.{Judged, accepted, refused, judgedThen, verdict}
 use Rattle.format.specs.Tables.{Table}
-use Rattle.format.specs.Through.{orNone, through, askThrough, metadataSection, itemOf, askMetadataThrough, askHintThrough}
-use Rattle.format.specs.Walk.{nameSection, branchHint, hintSection, customPayload}
+use Rattle.format.specs.Through.{orNone, through, askThrough, metadataSection, itemOf, askMetadataThrough, askHintThrough, askOlderThrough}
+use Rattle.format.specs.Walk.{nameSection, branchHint, hintSection, olderHintSection, customPayload}
 use Rattle.format.specs.declared.CodeOffset.{CodeOffset}
 use Rattle.format.specs.declared.FunctionIndex.{FunctionIndex}
+use Rattle.format.specs.declared.InstructionOffset.{InstructionOffset}
 use Rattle.format.specs.declared.Hint.{Hint}
 use Rattle.format.specs.declared.Hint.the-variants.{Unlikely, Likely}
 use Rattle.wakemiono.specs.Boundary.{wmNone, wmRefused, wmPlace, wmJudged, wmHint}
 use Rattle.wakemiono.specs.declared.WmAnswer.{WmAnswer}
 use Rattle.promises.specs.Demands.{Moved, PutThrough}
-use Rattle.promises.specs.Laws.Moving.{movePart, movedJudged, name-asked-moves, any-asked-moves, hint-data-moves, hint-asked-moves}
+use Rattle.promises.specs.Laws.Moving.{movePart, movedJudged, name-asked-moves, any-asked-moves, hint-data-moves, hint-asked-moves, older-asked-moves}
 use Rattle.promises.specs.Laws.Saying.{judged-said}
 
 place-moved : (k : ℕ) (j : Judged (Option Part)) → Moved k (wmPlace (asPlace j)) (wmPlace (asPlace (movedJudged (mapSome (movePart k)) k j)))
@@ -103,13 +105,20 @@ pub name-through : (kindOf : ℕ → Kind) (q : Question) → PutThrough nameSec
 unfolding askThrough ask
 name-through kindOf q = places-through nameSection (askAt kindOf q) (name-asked-moves kindOf q)
 
+hints-through : (x : List ℕ) (question : ℕ → List ℕ → Judged (Option Hint)) → ((k : ℕ) (p : List ℕ) → question k p ≡ movedJudged (λ h. h) k (question 0 p)) → PutThrough x (λ p b. b ≡ wmHint (question 0 p)) (λ m a. a ≡ wmHint (through x question m))
+hints-through x question moves m a c e d = (
+  through-none (λ j. wmHint j) question x m a c e d refl,
+  through-refused (λ j. wmHint j) question x m a c e d (λ n at. refl),
+  through-moved (λ j. wmHint j) question x m a c e d (λ k p. rw (moves k p) (hint-moved k (question 0 p))),
+)
+
 pub hint-through : (f : FunctionIndex) (o : CodeOffset) → PutThrough hintSection (λ p b. b ≡ wmHint (askHint f o 0 p)) (λ m a. a ≡ wmHint (askHintThrough f o m))
 unfolding askHintThrough
-hint-through f o m a c e d = (
-  through-none (λ j. wmHint j) (askHint f o) hintSection m a c e d refl,
-  through-refused (λ j. wmHint j) (askHint f o) hintSection m a c e d (λ n at. refl),
-  through-moved (λ j. wmHint j) (askHint f o) hintSection m a c e d (λ k p. rw (hint-asked-moves f o k p) (hint-moved k (askHint f o 0 p))),
-)
+hint-through f o = hints-through hintSection (askHint f o) (hint-asked-moves f o)
+
+pub older-through : (f : FunctionIndex) (o : InstructionOffset) → PutThrough olderHintSection (λ p b. b ≡ wmHint (askOlder f o 0 p)) (λ m a. a ≡ wmHint (askOlderThrough f o m))
+unfolding askOlderThrough
+older-through f o = hints-through olderHintSection (askOlder f o) (older-asked-moves f o)
 
 other-item : (format : List ℕ) → format ≢ branchHint → itemOf format ≡ anyItem
 unfolding itemOf
