@@ -96,6 +96,21 @@ pub fn held_old_hints(r: &mut Random) -> OldHints {
     OldHints(entries.collect())
 }
 
+/// So many hints of the older edition in entries of up to four, for functions and offsets below these bounds, in no order
+/// and with repeats.
+pub fn many_old_hints(r: &mut Random, hints: usize, functions: usize, offsets: usize) -> OldHints {
+    let mut entries = Vec::new();
+    let mut left = hints;
+    while left > 0 {
+        let count = left.min(1 + r.below(4));
+        let hint = |_| (r.below(2) as u32, r.below(offsets) as u32);
+        let hints = (0..count).map(hint).collect();
+        entries.push((r.below(functions) as u32, hints));
+        left -= count;
+    }
+    OldHints(entries)
+}
+
 /// A canonical payload, or one with padding and empty lists.
 fn payload(r: &mut Random, held: impl Held) -> Vec<u8> {
     match r.once_in(ONE_CANONICAL_IN) {

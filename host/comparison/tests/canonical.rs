@@ -105,6 +105,22 @@ fn old_hints_out_of_order() {
     assert_eq!((said.canonical, said.not_canonical), (0, others));
 }
 
+/// The rewriting takes 2,048 hints in one pass: around that number, and several times as many, with pairs that come again
+/// in another pass, of one function, of some and of many.
+#[test]
+fn old_hints_of_several_passes() {
+    let mut r = Random::new(seed());
+    let mut tally = Tally::default();
+    for hints in [2_047, 2_048, 2_049, 4_096, 5_000] {
+        for (functions, offsets) in [(1, 20_000), (40, 100), (5_000, 3)] {
+            let held = made::many_old_hints(&mut r, hints, functions, offsets);
+            tally.old_hints(&held.spelled(&mut unpadded));
+        }
+    }
+    println!("compared {} calls", tally.calls);
+    assert_eq!(tally.old_said.not_canonical, 15);
+}
+
 #[test]
 fn old_hints_into_outputs_of_every_length() {
     let mut r = Random::new(seed());
