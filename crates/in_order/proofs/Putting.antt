@@ -6,11 +6,12 @@ use native.Mathlib.Omega.{arith}
 use borrow.Author.Needs.{needs}
 use lib.ListN.{length, length-append}
 use Rattle.format.specs.Numbers.{number, shortest}
+use Rattle.format.specs.Reading.{Reader}
 use Rattle.format.specs.Older.{OlderHint, times, olderHint, olderEntry}
 use Rattle.format.specs.OlderInOrder.{hintsBytes, entriesBytes}
 use Rattle.reading.specs.Standing.{Stands, Known}
 use Rattle.reading.specs.declared.Cursor.{Cursor}
-use Rattle.reading.proofs.Standing.{one-value}
+use Rattle.reading.proofs.Standing.{Passable, one-value}
 use Rattle.writing.specs.Wrote.{Wrote}
 use Rattle.writing.proofs.Laws.{wrote-nothing, wrote-join, wrote-length}
 use Rattle.copying.specs.Standing.{Fits, Puts}
@@ -29,61 +30,71 @@ second-room second w h = omega (arith, w .next-is, wrote-length w)
 
 pub ruleset putting-hint = (second-room, wrote-join, wrote-length, needs)
 
--- Hints
-pub record PuttingHints (n : ℕ) (s : List ℕ) (c : Cursor) (old : List ℕ) (start : ℕ) (new : List ℕ) (at : ℕ) (next : Cursor) (more : ℕ) : Type 0 where
-  pub along : Along olderHint n s c next more
+-- What is written of a list on the way through it, whatever it is a list of
+pub record Putting {A : Type 0} (read : Reader A) (write : List A → List ℕ) (n : ℕ) (s : List ℕ) (c : Cursor) (old : List ℕ) (start : ℕ) (new : List ℕ) (at : ℕ) (next : Cursor) (more : ℕ) : Type 0 where
+  pub along : Along read n s c next more
   pub done : List ℕ
   pub so-far : Wrote old new start at done
-  pub joined : done ++ hintsBytes (along .to-come) ≡ hintsBytes (along .all)
-  pub room : start + length (hintsBytes (along .all)) ≤ length old
+  pub joined : done ++ write (along .to-come) ≡ write (along .all)
+  pub room : start + length (write (along .all)) ≤ length old
 
-module _ {n : ℕ} {s : List ℕ} {c : Cursor} {old : List ℕ} {start : ℕ} where
-  pub hints-begun : Fits (times olderHint n) hintsBytes s c old start → PuttingHints n s c old start old start c n
-  hints-begun f = record { along = setting-out (f .stands); done = []; so-far = wrote-nothing (omega (arith, f .room)); joined = refl; room = f .room }
+module _ {A : Type 0} {read : Reader A} {write : List A → List ℕ} {n : ℕ} {s : List ℕ} {c : Cursor} {old : List ℕ} {start : ℕ} where
+  pub put-begun : Fits (times read n) write s c old start → Putting read write n s c old start old start c n
+  put-begun f = record { along = setting-out (f .stands); done = []; so-far = wrote-nothing (omega (arith, f .room)); joined = refl; room = f .room }
 
-  module _ {new : List ℕ} {at : ℕ} {next : Cursor} {more : ℕ} (t : PuttingHints n s c old start new at next more) where
-    pub hint-known : 0 < more → Known olderHint s next
-    hint-known h = first-known (t .along) hint-passable h
+  module _ {new : List ℕ} {at : ℕ} {next : Cursor} {more : ℕ} (t : Putting read write n s c old start new at next more) where
+    pub put-known : Passable read → 0 < more → Known read s next
+    put-known passes h = first-known (t .along) passes h
 
-    pub hints-same-length : length new ≡ length old
-    hints-same-length = wrote-length (t .so-far)
+    pub put-same-length : length new ≡ length old
+    put-same-length = wrote-length (t .so-far)
 
-    module _ {r : HintHere} (here : StandsHint s next r) (h : 0 < more) where
-      -- the hint that is to be written, and what comes behind it
-      hint-ahead : Onward (t .along) (hintOf r) (r .next)
-      hint-ahead = onward (t .along) h (here .stands)
+    -- the next one, by its bytes
+    module _ {v : A} {behind : Cursor} (o : Onward (t .along) v behind) (bytes : List ℕ) (split : write (v ∷ o .along .to-come) ≡ bytes ++ write (o .along .to-come)) where
+      put-joined : (t .done ++ bytes) ++ write (o .along .to-come) ≡ write (t .along .all)
+      put-joined = append-assoc (t .done) bytes (write (o .along .to-come)) ∙ rw (← (ap write (o .split) ∙ split)) (t .joined)
 
-      hint-joined : (t .done ++ (shortest (r .kind) ++ shortest (r .offset))) ++ hintsBytes (hint-ahead .along .to-come) ≡ hintsBytes (t .along .all)
-      hint-joined =
-          let o = hint-ahead in
-          let rest = hintsBytes (o .along .to-come) in
-          let split : hintsBytes (t .along .to-come) ≡ (shortest (r .kind) ++ shortest (r .offset)) ++ rest = ap hintsBytes (o .split) ∙ hints-one (r .offset) (o .along .to-come) (here .known-kind) ∙ sym (append-assoc (shortest (r .kind)) (shortest (r .offset)) rest) in
-          append-assoc (t .done) (shortest (r .kind) ++ shortest (r .offset)) rest ∙ rw (← split) (t .joined)
-
-      pub hint-room : at + length (shortest (r .kind)) + length (shortest (r .offset)) ≤ length new
-      hint-room =
-          let lengths : length (t .done) + (length (shortest (r .kind)) + length (shortest (r .offset))) + length (hintsBytes (hint-ahead .along .to-come)) ≡ length (hintsBytes (t .along .all)) = sym (simp length-append) ∙ ap length hint-joined in
+      put-room : at + length bytes ≤ length new
+      put-room =
+          let lengths : length (t .done) + length bytes + length (write (o .along .to-come)) ≡ length (write (t .along .all)) = sym (simp length-append) ∙ ap length put-joined in
           omega (arith, lengths, t .room, t .so-far .next-is, wrote-length (t .so-far))
 
-      pub hints-more : {after : List ℕ} {place : ℕ} → Wrote new after at place (shortest (r .kind) ++ shortest (r .offset)) → PuttingHints n s c old start after place (r .next) (more - 1)
-      hints-more w =
-          let o = hint-ahead in
-          record {
-            along = o .along;
-            done = t .done ++ (shortest (r .kind) ++ shortest (r .offset));
-            so-far = wrote-join (t .so-far) w;
-            joined = rw (o .same-all) hint-joined;
-            room = rw (o .same-all) (t .room);
-          }
+      put-more : {after : List ℕ} {place : ℕ} → Wrote new after at place bytes → Putting read write n s c old start after place behind (more - 1)
+      put-more w = record {
+        along = o .along;
+        done = t .done ++ bytes;
+        so-far = wrote-join (t .so-far) w;
+        joined = rw (o .same-all) put-joined;
+        room = rw (o .same-all) (t .room);
+      }
 
-    pub hints-end : more ≤ 0 → Puts (times olderHint n) hintsBytes s c old new start (record { at = at; next = next })
-    hints-end h =
+    put-end : write [] ≡ [] → more ≤ 0 → Puts (times read n) write s c old new start (record { at = at; next = next })
+    put-end none h =
         let end = ended (t .along) h in
-        let nothing : hintsBytes (t .along .to-come) ≡ [] = rw (end .nothing, hints-nil) in
-        let done-is : t .done ≡ hintsBytes (t .along .all) = sym (append-nil (t .done)) ∙ rw (← nothing) (t .joined) in
+        let nothing : write (t .along .to-come) ≡ [] = rw (end .nothing, none) in
+        let done-is : t .done ≡ write (t .along .all) = sym (append-nil (t .done)) ∙ rw (← nothing) (t .joined) in
         record { value = t .along .all; stands = end .stands; wrote = rw done-is at (t .so-far) }
 
-pub ruleset putting-hints = (hints-begun, hint-known, hint-room, hints-more, hints-same-length, hints-end, wrote-length, needs)
+-- Hints
+module _ {n : ℕ} {s : List ℕ} {c : Cursor} {old : List ℕ} {start : ℕ} {new : List ℕ} {at : ℕ} {next : Cursor} {more : ℕ} (t : Putting olderHint hintsBytes n s c old start new at next more) where
+  module _ {r : HintHere} (here : StandsHint s next r) (h : 0 < more) where
+    -- the hint that is to be written, and what comes behind it
+    hint-ahead : Onward (t .along) (hintOf r) (r .next)
+    hint-ahead = onward (t .along) h (here .stands)
+
+    hint-split : hintsBytes (hintOf r ∷ hint-ahead .along .to-come) ≡ (shortest (r .kind) ++ shortest (r .offset)) ++ hintsBytes (hint-ahead .along .to-come)
+    hint-split = let rest = hint-ahead .along .to-come in hints-one (r .offset) rest (here .known-kind) ∙ sym (append-assoc (shortest (r .kind)) (shortest (r .offset)) (hintsBytes rest))
+
+    pub hint-room : at + length (shortest (r .kind)) + length (shortest (r .offset)) ≤ length new
+    hint-room = let e = length-append (shortest (r .kind)) (shortest (r .offset)) in omega (arith, put-room t hint-ahead (shortest (r .kind) ++ shortest (r .offset)) hint-split, e)
+
+    pub hints-more : {after : List ℕ} {place : ℕ} → Wrote new after at place (shortest (r .kind) ++ shortest (r .offset)) → Putting olderHint hintsBytes n s c old start after place (r .next) (more - 1)
+    hints-more w = put-more t hint-ahead (shortest (r .kind) ++ shortest (r .offset)) hint-split w
+
+  pub hints-end : more ≤ 0 → Puts (times olderHint n) hintsBytes s c old new start (record { at = at; next = next })
+  hints-end h = put-end t hints-nil h
+
+pub ruleset putting-hints = (put-begun, put-known, hint-passable, hint-room, hints-more, put-same-length, hints-end, wrote-length, needs)
 
 -- One entry
 module _ (f m : ℕ) {s : List ℕ} {c : Cursor} {old : List ℕ} {at : ℕ} (fits : Fits (times olderHint m) (entryOf f) s c old at) where
@@ -123,62 +134,26 @@ module _ (f m : ℕ) {s : List ℕ} {c : Cursor} {old : List ℕ} {at : ℕ} (fi
 pub ruleset putting-entry = (entry-left-out, function-room, zero-room, count-room, hints-room, entry-put, wrote-length, needs)
 
 -- Entries
-pub record Putting (n : ℕ) (s : List ℕ) (c : Cursor) (old : List ℕ) (start : ℕ) (new : List ℕ) (at : ℕ) (next : Cursor) (more : ℕ) : Type 0 where
-  pub along : Along olderEntry n s c next more
-  pub done : List ℕ
-  pub so-far : Wrote old new start at done
-  pub joined : done ++ entriesBytes (along .to-come) ≡ entriesBytes (along .all)
-  pub room : start + length (entriesBytes (along .all)) ≤ length old
+module _ {n : ℕ} {s : List ℕ} {c : Cursor} {old : List ℕ} {start : ℕ} {new : List ℕ} {at : ℕ} {next : Cursor} {more : ℕ} (t : Putting olderEntry entriesBytes n s c old start new at next more) where
+  module _ {f : ℕ} {d : Cursor} (opens : Stands opening s next f d) (h : 0 < more) where
+    pub count-known : Known number s d
+    count-known = entry-count (put-known t entry-passable h) opens
 
-module _ {n : ℕ} {s : List ℕ} {c : Cursor} {old : List ℕ} {start : ℕ} where
-  pub entries-begun : Fits (times olderEntry n) entriesBytes s c old start → Putting n s c old start old start c n
-  entries-begun f = record { along = setting-out (f .stands); done = []; so-far = wrote-nothing (omega (arith, f .room)); joined = refl; room = f .room }
+    module _ {m : ℕ} {e : Cursor} (count : Stands number s d m e) where
+      -- the entry that is to be written, and what comes behind it
+      entry-ahead : {hs : List OlderHint} {behind : Cursor} → Stands (times olderHint m) s e hs behind → Onward (t .along) (record { function = f; hints = hs }) behind
+      entry-ahead w = onward (t .along) h (entry-stands opens count w)
 
-  module _ {new : List ℕ} {at : ℕ} {next : Cursor} {more : ℕ} (t : Putting n s c old start new at next more) where
-    pub entry-known : 0 < more → Known olderEntry s next
-    entry-known h = first-known (t .along) entry-passable h
+      pub entry-room : Fits (times olderHint m) (entryOf f) s e new at
+      entry-room =
+          let k = entry-hints (put-known t entry-passable h) opens count in
+          let o = entry-ahead (k .stands) in
+          record { value = k .value; next = k .next; stands = k .stands; room = put-room t o (entryOf f (k .value)) (entries-one f (k .value) (o .along .to-come)) }
 
-    pub entries-same-length : length new ≡ length old
-    entries-same-length = wrote-length (t .so-far)
+      pub entries-more : {after : List ℕ} {r : Put} → Puts (times olderHint m) (entryOf f) s e new after at r → Putting olderEntry entriesBytes n s c old start after (r .at) (r .next) (more - 1)
+      entries-more p = let o = entry-ahead (p .stands) in put-more t o (entryOf f (p .value)) (entries-one f (p .value) (o .along .to-come)) (p .wrote)
 
-    module _ {f : ℕ} {d : Cursor} (opens : Stands opening s next f d) (h : 0 < more) where
-      pub count-known : Known number s d
-      count-known = entry-count (entry-known h) opens
+  pub entries-end : more ≤ 0 → Puts (times olderEntry n) entriesBytes s c old new start (record { at = at; next = next })
+  entries-end h = put-end t entries-nil h
 
-      module _ {m : ℕ} {e : Cursor} (count : Stands number s d m e) where
-        -- the entry that is to be written, and what comes behind it
-        entry-ahead : {hs : List OlderHint} {behind : Cursor} → Stands (times olderHint m) s e hs behind → Onward (t .along) (record { function = f; hints = hs }) behind
-        entry-ahead w = onward (t .along) h (entry-stands opens count w)
-
-        entry-joined : {hs : List OlderHint} {behind : Cursor} (w : Stands (times olderHint m) s e hs behind) → (t .done ++ entryOf f hs) ++ entriesBytes (entry-ahead w .along .to-come) ≡ entriesBytes (t .along .all)
-        entry-joined {hs} w =
-            let o = entry-ahead w in
-            let split : entriesBytes (t .along .to-come) ≡ entryOf f hs ++ entriesBytes (o .along .to-come) = ap entriesBytes (o .split) ∙ entries-one f hs (o .along .to-come) in
-            append-assoc (t .done) (entryOf f hs) (entriesBytes (o .along .to-come)) ∙ rw (← split) (t .joined)
-
-        pub entry-room : Fits (times olderHint m) (entryOf f) s e new at
-        entry-room =
-            let k = entry-hints (entry-known h) opens count in
-            let w = k .stands in
-            let lengths : length (t .done) + length (entryOf f (k .value)) + length (entriesBytes (entry-ahead w .along .to-come)) ≡ length (entriesBytes (t .along .all)) = sym (simp length-append) ∙ ap length (entry-joined w) in
-            record { value = k .value; next = k .next; stands = w; room = omega (arith, lengths, t .room, t .so-far .next-is, wrote-length (t .so-far)) }
-
-        pub entries-more : {after : List ℕ} {r : Put} → Puts (times olderHint m) (entryOf f) s e new after at r → Putting n s c old start after (r .at) (r .next) (more - 1)
-        entries-more p =
-            let o = entry-ahead (p .stands) in
-            record {
-              along = o .along;
-              done = t .done ++ entryOf f (p .value);
-              so-far = wrote-join (t .so-far) (p .wrote);
-              joined = rw (o .same-all) (entry-joined (p .stands));
-              room = rw (o .same-all) (t .room);
-            }
-
-    pub entries-end : more ≤ 0 → Puts (times olderEntry n) entriesBytes s c old new start (record { at = at; next = next })
-    entries-end h =
-        let end = ended (t .along) h in
-        let nothing : entriesBytes (t .along .to-come) ≡ [] = rw (end .nothing, entries-nil) in
-        let done-is : t .done ≡ entriesBytes (t .along .all) = sym (append-nil (t .done)) ∙ rw (← nothing) (t .joined) in
-        record { value = t .along .all; stands = end .stands; wrote = rw done-is at (t .so-far) }
-
-pub ruleset putting-entries = (entries-begun, entry-known, count-known, entry-room, entries-more, entries-same-length, entries-end, wrote-length, needs)
+pub ruleset putting-entries = (put-begun, put-known, entry-passable, count-known, entry-room, entries-more, put-same-length, entries-end, wrote-length, needs)

@@ -1,9 +1,11 @@
+use Rattle.format.specs.Older.{olderEntry}
+use Rattle.format.specs.OlderInOrder.{entriesBytes}
 use Rattle.in_order.proofs.Putting.{Putting, putting-entries}
 use Rattle.in_order.proofs.put_entries.Statement.{statement}
 use Rattle.in_order.proofs.put_entries.Tie as tie
 
 abbrev Inv-loop : tie.InvT-loop
-Inv-loop out₀ at s n next₀ more₀ to₀ out next more to = Putting n s next₀ out₀ at out to next more
+Inv-loop out₀ at s n next₀ more₀ to₀ out next more to = Putting olderEntry entriesBytes n s next₀ out₀ at out to next more
 
 abbrev μ-loop : tie.MeasureT-loop
 μ-loop out₀ at s n next₀ more₀ to₀ out next more to = more

@@ -1,9 +1,11 @@
-use Rattle.in_order.proofs.Putting.{PuttingHints, putting-hints}
+use Rattle.format.specs.Older.{olderHint}
+use Rattle.format.specs.OlderInOrder.{hintsBytes}
+use Rattle.in_order.proofs.Putting.{Putting, putting-hints}
 use Rattle.in_order.proofs.put_hints.Statement.{statement}
 use Rattle.in_order.proofs.put_hints.Tie as tie
 
 abbrev Inv-loop : tie.InvT-loop
-Inv-loop out₀ at s n next₀ more₀ to₀ out next more to = PuttingHints n s next₀ out₀ at out to next more
+Inv-loop out₀ at s n next₀ more₀ to₀ out next more to = Putting olderHint hintsBytes n s next₀ out₀ at out to next more
 
 abbrev μ-loop : tie.MeasureT-loop
 μ-loop out₀ at s n next₀ more₀ to₀ out next more to = more
