@@ -56,7 +56,7 @@ pub enum Reason {
     TooLate = 8,
     /// A subsection id is not above the one before.
     SubsectionOrder = 9,
-    /// Bytes are left over in a subsection or a metadata payload.
+    /// Bytes are left over in a subsection, in metadata or in hints.
     LeftOver = 10,
     /// An index or offset is not above the one before.
     NotAscending = 11,

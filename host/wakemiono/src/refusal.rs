@@ -39,7 +39,7 @@ pub enum Reason {
     SectionTooLate = 8,
     /// 9: a subsection's id is not above the one before. The offset is that of the id.
     SubsectionOrder = 9,
-    /// 10: bytes are left over in a subsection or a metadata payload. The offset is that of the
+    /// 10: bytes are left over in a subsection, in metadata or in hints. The offset is that of the
     /// first of them.
     LeftOver = 10,
     /// 11: an index or code offset is not above the one before. The offset is that of the number;
@@ -185,7 +185,7 @@ impl fmt::Display for Reason {
             }
             Reason::SectionTooLate => "a data section follows `name`, or branch hints follow code",
             Reason::SubsectionOrder => "a subsection id is not above the one before",
-            Reason::LeftOver => "bytes are left over in a subsection or a metadata payload",
+            Reason::LeftOver => "bytes are left over in a subsection, in metadata or in hints",
             Reason::NotRising => "an index or code offset is not above the one before",
             Reason::NotAHint => "a branch hint has a size other than 1, or data or a kind above 1",
             Reason::OutputTooShort => "the output is shorter than needed",

@@ -74,7 +74,7 @@ fn of_payloads() {
     says(
         names(&[0x01, 0x02, 0x00, 0x00]),
         Reason::LeftOver,
-        "bytes are left over in a subsection or a metadata payload: the first of them stands at \
+        "bytes are left over in a subsection, in metadata or in hints: the first of them stands at \
          byte 0x3 (3)",
     );
     says(
