@@ -159,7 +159,12 @@ pub fn refusal_of(verdict: Verdict) -> Refusal
     ensures { λ r. ⌜ format-refusal-of verdict r ⌝ }
 {
     match verdict {
-        Verdict::Refused(r) => r,
+        // field by field, since the bytes between the fields would be copied with the whole
+        Verdict::Refused(r) => {
+            let reason = r.reason;
+            let offset = r.offset;
+            Refusal { reason, offset }
+        }
         // never asked for
         Verdict::Accepted => Refusal {
             reason: Reason::NoPreamble,

@@ -110,13 +110,7 @@ stops kindOf most least o (id ∷ bs) e =
     (λ t. byOutcome (sized (suc o) bs) (λ p o₁ r₁ e₁. absurd (not-got (sym (rw (t, e₁) at e)))) (λ n at e₁. payload-told-none kindOf most least o id bs e₁))
     (λ t. payload-told-low kindOf most least o id bs (leb-false least id t))
 
--- a yes or no, said and taken apart
-is-yes : {x : Told} {o : ℕ} {rest : List ℕ} → x ≡ behind o rest → true ≡ isYes x
-is-yes e = rw e
-
-is-no : {x : Told} → x ≡ no → false ≡ isYes x
-is-no e = rw e
-
+-- a yes or no, taken apart
 not-yes : (x : Told) → isYes x ≡ false → x ≡ no
 not-yes (behind o rest) e = absurd (let z : _≡_ {A = ℕ} 0 1 = cc in omega arith)
 not-yes no e = refl
@@ -132,34 +126,34 @@ a-yes {C = C} kindOf id o bs e k =
     byTold no f g = g refl
 
 -- The loop: whenever it is reached, what is left to tell is what the subsections to come are
-pub record Telling (kindOf : ℕ → AnyKind) (s : List ℕ) (c next : Cursor) (least : ℕ) : Type 0 where
+pub record Telling (kindOf : ℕ → AnyKind) (s : List ℕ) (next : Cursor) (least : ℕ) : Type 0 where
   pub most : ℕ
   pub inside : Inside s next
   pub enough : next .end - next .at ≤ most
-  pub same : told payloadForm (left s c) (payload kindOf (c .at) (left s c)) ≡ told payloadForm (left s next) (subsections kindOf most least (next .at) (left s next))
+  pub same : namesAreCanonical kindOf s ≡ isYes (told payloadForm (left s next) (subsections kindOf most least (next .at) (left s next)))
 
-module _ {kindOf : ℕ → AnyKind} {s : List ℕ} {c : Cursor} where
-  pub tell-begins : Inside s c → Telling kindOf s c c 0
+module _ {kindOf : ℕ → AnyKind} {s : List ℕ} where
+  pub tell-begins : {c : Cursor} → Bytes s → c ≡ overAll s → Telling kindOf s c 0
   unfolding payload
-  tell-begins i = record { most = length (left s c); inside = i; enough = omega (arith, length-slice (c .at) (c .end) s (i .within)); same = refl }
+  tell-begins h over = rw over (record { most = length s; inside = over-inside refl; enough = omega arith; same = rw (left-all s) (payload-told kindOf s h) })
 
-  module _ {next : Cursor} {least : ℕ} {x : FrameRead} (t : Telling kindOf s c next least) (f : FrameReads frame least s next x) where
+  module _ {next : Cursor} {least : ℕ} {x : FrameRead} (t : Telling kindOf s next least) (f : FrameReads frame least s next x) where
     -- while bytes are left, one more may be read
-    opened : 0 < length (left s next) → told payloadForm (left s c) (payload kindOf (c .at) (left s c)) ≡ told payloadForm (left s next) (subsections kindOf (suc (t .most - 1)) least (next .at) (left s next))
+    opened : 0 < length (left s next) → namesAreCanonical kindOf s ≡ isYes (told payloadForm (left s next) (subsections kindOf (suc (t .most - 1)) least (next .at) (left s next)))
     opened h =
         let one : t .most ≡ suc (t .most - 1) = omega (arith, t .enough, length-slice (next .at) (next .end) s (t .inside .within)) in
-        t .same ∙ ap (λ m. told payloadForm (left s next) (subsections kindOf m least (next .at) (left s next))) one
+        t .same ∙ ap (λ m. isYes (told payloadForm (left s next) (subsections kindOf m least (next .at) (left s next)))) one
 
-    pub tell-ends : tagOf frame-type.the-type x ≡ 1 → true ≡ isYes (told payloadForm (left s c) (payload kindOf (c .at) (left s c)))
+    pub tell-ends : tagOf frame-type.the-type x ≡ 1 → true ≡ namesAreCanonical kindOf s
     tell-ends h =
         let nothing = at-the-end least (next .at) (left s next) (rw (as-end x h) at (f .means)) in
-        is-yes {o = next .at} {rest = []} (t .same ∙ rw nothing (payload-told-end kindOf (t .most) least (next .at)))
+        sym (t .same ∙ rw nothing (ap isYes (payload-told-end kindOf (t .most) least (next .at))))
 
-    pub tell-refused : tagOf frame-type.the-type x ≡ 2 → false ≡ isYes (told payloadForm (left s c) (payload kindOf (c .at) (left s c)))
+    pub tell-refused : tagOf frame-type.the-type x ≡ 2 → false ≡ namesAreCanonical kindOf s
     tell-refused h =
         let (r, e) = as-refused x h in
         let halted = sym (rw e at (f .means)) in
-        is-no (opened (stops-inside least (next .at) (left s next) halted) ∙ stops kindOf (t .most - 1) least (next .at) (left s next) halted)
+        sym (opened (stops-inside least (next .at) (left s next) halted) ∙ ap isYes (stops kindOf (t .most - 1) least (next .at) (left s next) halted))
 
     module _ {id : ℕ} {part after : Cursor} {short : Bool} (e : x ≡ Frame id part after short) where
       -- what the frame says of the subsection's bytes
@@ -177,17 +171,17 @@ module _ {kindOf : ℕ → AnyKind} {s : List ℕ} {c : Cursor} where
               let both = sym first ∙ cut in
               rw add-one (let z = both in cc)
 
-      pub tell-padded : short ≡ false → false ≡ isYes (told payloadForm (left s c) (payload kindOf (c .at) (left s c)))
-      tell-padded g = head λ bs first above e₁ tells. is-no (opened (rw first (omega arith)) ∙ rw first (payload-told-padded kindOf (t .most - 1) least (next .at) id bs e₁ (sym tells ∙ g)))
+      pub tell-padded : short ≡ false → false ≡ namesAreCanonical kindOf s
+      tell-padded g = head λ bs first above e₁ tells. sym (opened (rw first (omega arith)) ∙ rw first (ap isYes (payload-told-padded kindOf (t .most - 1) least (next .at) id bs e₁ (sym tells ∙ g))))
 
       module _ {kind : AnyKind} {b : Bool} (k : kind ≡ kindOf id) (v : TellsContent kind s part b) where
-        pub tell-not : b ≡ false → false ≡ isYes (told payloadForm (left s c) (payload kindOf (c .at) (left s c)))
+        pub tell-not : b ≡ false → false ≡ namesAreCanonical kindOf s
         tell-not g =
             head λ bs first above e₁ tells.
             let not-so = not-yes (told contentForm (left s part) (contents (kindOf id) (part .at) (left s part))) (sym (rw k at (v .says)) ∙ g) in
-            is-no (opened (rw first (omega arith)) ∙ rw first (payload-told-no kindOf (t .most - 1) least (next .at) id bs e₁ not-so))
+            sym (opened (rw first (omega arith)) ∙ rw first (ap isYes (payload-told-no kindOf (t .most - 1) least (next .at) id bs e₁ not-so)))
 
-        pub tell-next : short ≡ true → b ≡ true → Telling kindOf s c after (id + 1)
+        pub tell-next : short ≡ true → b ≡ true → Telling kindOf s after (id + 1)
         tell-next g h =
             let far = forward f e in
             head λ bs first above e₁ tells.
@@ -196,13 +190,7 @@ module _ {kindOf : ℕ → AnyKind} {s : List ℕ} {c : Cursor} where
               most = t .most - 1;
               inside = far .in-rest;
               enough = omega (arith, t .enough, far .moves, far .same-end, far .in-rest .ahead);
-              same = opened (rw first (omega arith)) ∙ rw (first, add-one) (payload-told-on kindOf (t .most - 1) least (next .at) id bs e₁ (sym tells ∙ g) above yes);
+              same = opened (rw first (omega arith)) ∙ rw (first, add-one) (ap isYes (payload-told-on kindOf (t .most - 1) least (next .at) id bs e₁ (sym tells ∙ g) above yes));
             }
 
-pub ruleset tell-turns = (tell-begins, tell-ends, tell-refused, tell-padded, tell-not, tell-next, frame-inside, frame-shorter, needs)
-
--- all of what was lent
-pub tell-all : (kindOf : ℕ → AnyKind) (s : List ℕ) {c : Cursor} {r : Bool} → Bytes s → c ≡ overAll s → r ≡ isYes (told payloadForm (left s c) (payload kindOf (c .at) (left s c))) → r ≡ namesAreCanonical kindOf s
-tell-all kindOf s h over e = rw (over, left-all s) at e ∙ sym (payload-told kindOf s h)
-
-pub ruleset tell-steps = (tell-all, over-inside, needs)
+pub ruleset tell-turns = (tell-begins, tell-ends, tell-refused, tell-padded, tell-not, tell-next, frame-inside, frame-shorter, over-inside, needs)

@@ -3,7 +3,9 @@ use Prim.Native.Nat.{ℕ, _+_}
 use mathlib.Core.Bool.{Bool}
 use mathlib.Core.List.{List}
 use mathlib.Core.Path.{_≡_}
-use Rattle.format.specs.Names.{oneName, nameMap, indirectMap, kept, kindIn, judgeNames}
+use Rattle.format.specs.Forms.{partForm}
+use Rattle.format.specs.Names.{oneName, nameMap, indirectMap, kept, knownKind, widerKind, kindIn, judgeNames}
+use Rattle.format.specs.Parts.{name}
 use Rattle.format.specs.Questions.{askAt, ask, asPlace, asBytes, startOf, answered}
 use Rattle.format.specs.Reading.{verdict}
 use Rattle.format.specs.Telling.{namesAreCanonical}
@@ -18,7 +20,9 @@ use Rattle.names.specs.Frames.{frame, subsection, FrameReads}
 use Rattle.names.specs.Places.{Puts, placedAt, AsksAt, Finds}
 use Rattle.names.specs.declared.frames.FrameRead.{FrameRead}
 use Rattle.names.specs.declared.kinds.Kind.{Kind}
+use Rattle.tables.specs.Telling.{Tells}
 use Rattle.tables.specs.declared.Held.{Held}
+use Rattle.tables.specs.declared.telling.Tidy.{Tidy}
 use Rattle.reading.specs.Cursors.{left}
 use Rattle.reading.specs.declared.Cursor.{Cursor}
 
@@ -75,8 +79,15 @@ abbrev pub names-place-of : (places : List ℕ) (id : ℕ) → Held → Type 0
 names-place-of places id r = r ≡ placedAt places id
 
 -- names::telling
-abbrev pub names-is-canonical : (p : List ℕ) (edition : Edition) → Bool → Type 0
-names-is-canonical p edition r = r ≡ namesAreCanonical (kindIn edition) p
+abbrev pub names-tidy-name : (s : List ℕ) (part : Cursor) → Tidy → Type 0
+names-tidy-name s part r = Tells name partForm s part r
+
+abbrev pub names-is-canonical : (p : List ℕ) → Bool → Type 0
+names-is-canonical p r = r ≡ namesAreCanonical knownKind p
+
+-- names::telling_widely
+abbrev pub names-is-canonical-widely : (p : List ℕ) → Bool → Type 0
+names-is-canonical-widely p r = r ≡ namesAreCanonical widerKind p
 
 -- names::within
 abbrev pub names-ask-in : (s : List ℕ) (c : Cursor) (edition : Edition) (q : Question) → Answer → Type 0

@@ -22,6 +22,7 @@ pub mod judging;
 pub mod kinds;
 pub mod places;
 pub mod telling;
+pub mod telling_widely;
 pub mod within;
 
 // A payload that lies in what was lent: its verdict and, if it is accepted, where its known subsections lie. It stays in this

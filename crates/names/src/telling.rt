@@ -1,13 +1,8 @@
-// Judges a name payload and tells, in the same pass, whether it stands as its canonical rewriting would.
-ghost use mathlib.Core.Path.{_≡_};
-ghost use Rattle.format.specs.Names.{kindIn, payload};
-ghost use Rattle.format.specs.Parts.{name};
-ghost use Rattle.format.specs.Forms.{isYes, told, partForm, payloadForm};
-ghost use Rattle.reading.specs.Cursors.{Inside, left};
-ghost use Rattle.tables.specs.Telling.{Tells};
+// Judges a name payload by the first edition and tells, in the same pass, whether it stands as its canonical rewriting would.
+ghost use Rattle.reading.specs.Cursors.{Inside};
 ghost use Rattle.names.specs.Contents.{kindMeant};
 ghost use Rattle.names.specs.Telling.{TellsContent};
-ghost use Rattle.names.specs.Promises.{names-is-canonical};
+ghost use Rattle.names.specs.Promises.{names-is-canonical, names-tidy-name};
 use crate::frames::FrameRead;
 use crate::frames::frame;
 use crate::kinds::Kind;
@@ -22,9 +17,9 @@ use tables::telling::tidy_table;
 use tables::telling::tidy_tables;
 
 // One name.
-fn tidy_name(s: &[u8], part: Cursor) -> Tidy
+pub fn tidy_name(s: &[u8], part: Cursor) -> Tidy
     requires { ⌜ Inside (now s) part ⌝ }
-    ensures { λ r. ⌜ Tells name partForm (now (s .entry)) part r ⌝ }
+    ensures { λ r. ⌜ names-tidy-name (now (s .entry)) part r ⌝ }
 {
     match part.name(s) {
         PartRead::Refused(_) => Tidy::Not,
@@ -50,15 +45,14 @@ fn is_tidy(s: &[u8], part: Cursor, kind: Kind) -> bool
     }
 }
 
-// A payload that lies in what was lent.
-fn is_canonical_in(s: &[u8], c: Cursor, edition: Edition) -> bool
-    requires { ⌜ Inside (now s) c ⌝ }
-    ensures { λ r. ⌜ r ≡ isYes (told payloadForm (left (now (s .entry)) c) (payload (kindIn edition) (c .at) (left (now (s .entry)) c))) ⌝ }
+// Whether a payload is accepted by the first edition and equals its canonical rewriting.
+pub fn is_canonical(p: &[u8]) -> bool
+    ensures { λ r. ⌜ names-is-canonical (now (p .entry)) r ⌝ }
 {
-    let mut next = c;
+    let mut next = Cursor::over(p);
     let mut least: u32 = 0;
     loop {
-        match frame(s, next, least) {
+        match frame(p, next, least) {
             FrameRead::Refused(_) => {
                 return false;
             }
@@ -67,7 +61,7 @@ fn is_canonical_in(s: &[u8], c: Cursor, edition: Edition) -> bool
             }
             FrameRead::Frame(id, part, after, shortest) => {
                 if shortest {
-                    if is_tidy(s, part, kind_of(edition, id)) {
+                    if is_tidy(p, part, kind_of(Edition::First, id)) {
                         next = after;
                         least = (id as u32) + 1;
                     } else {
@@ -79,11 +73,4 @@ fn is_canonical_in(s: &[u8], c: Cursor, edition: Edition) -> bool
             }
         }
     }
-}
-
-// Whether a payload is accepted and equals its canonical rewriting.
-pub fn is_canonical(p: &[u8], edition: Edition) -> bool
-    ensures { λ r. ⌜ names-is-canonical (now (p .entry)) edition r ⌝ }
-{
-    is_canonical_in(p, Cursor::over(p), edition)
 }

@@ -14,8 +14,7 @@ use Rattle.format.specs.Metadata.{hintOf, anyItem, hintItem, metadata, judgeMet
 use Rattle.format.specs.Older.{times, vector, zeroByte, olderKind, olderHint, olderEntry, judgeOlder, putFirst, amend, withHints, sortedFrom, writeOlderHints, writeOlder, notTooLong, canonicalOlder}
 use Rattle.format.specs.Canonical.{writePart, writeRows, writeTable, unlessEmpty, keepRows, bare, writeContent, writeSubsections, rewriteNames, canonicalNames, rewriteMetadata, canonicalOf}
 use Rattle.format.specs.Telling.{isItsRewriting, namesAreCanonical, itemsAreCanonical, olderIsCanonical}
-use Rattle.format.specs.declared.Edition.the-variants.{First, Wider}
-use Rattle.names.specs.Promises.{names-is-canonical}
+use Rattle.names.specs.Promises.{names-is-canonical, names-is-canonical-widely}
 use Rattle.metadata.specs.Promises.{metadata-is-canonical, metadata-are-hints-canonical}
 use Rattle.reordering.specs.Promises.{reordering-is-canonical}
 use Rattle.wakemiono.specs.Calls as call
@@ -54,7 +53,7 @@ items-rows good bad =
     hex "01 02 00" demands bad ∷
     []
 
-pub names-is-canonical-told : Demanded (λ p r. names-is-canonical p First r) (λ r. r) (names-rows true false)
+pub names-is-canonical-told : Demanded names-is-canonical (λ r. r) (names-rows true false)
 unfolding names-rows hex digit same number groups shortest fewest utf8 characters character completes sized name remaining lookup size mapTable rows table known knownKind contents subsections payload judgeNames writePart writeRows writeTable unlessEmpty keepRows bare writeContent writeSubsections rewriteNames canonicalNames isItsRewriting namesAreCanonical
 names-is-canonical-told = by-table (λ p r meets. meets) (names-rows true false) refl
 
@@ -62,9 +61,9 @@ pub wm-names-is-canonical-told : Demanded call.wm-names-is-canonical (λ y. y) (
 unfolding names-rows hex digit same number groups shortest fewest utf8 characters character completes sized name remaining lookup size mapTable rows table known knownKind contents subsections payload judgeNames writePart writeRows writeTable unlessEmpty keepRows bare writeContent writeSubsections rewriteNames canonicalNames isItsRewriting namesAreCanonical
 wm-names-is-canonical-told = by-table (λ p y meets. meets) (names-rows 1 0) refl
 
-pub names-wide-is-canonical-told : Demanded (λ p r. names-is-canonical p Wider r) (λ r. r) (wide-rows true false)
+pub names-is-canonical-widely-told : Demanded names-is-canonical-widely (λ r. r) (wide-rows true false)
 unfolding wide-rows hex digit same number groups shortest fewest utf8 characters character completes sized name remaining lookup size mapTable rows table wider widerKind contents subsections payload judgeNames writePart writeRows writeTable unlessEmpty keepRows bare writeContent writeSubsections rewriteNames canonicalNames isItsRewriting namesAreCanonical
-names-wide-is-canonical-told = by-table (λ p r meets. meets) (wide-rows true false) refl
+names-is-canonical-widely-told = by-table (λ p r meets. meets) (wide-rows true false) refl
 
 pub wm-wide-names-is-canonical-told : Demanded call.wm-wide-names-is-canonical (λ y. y) (wide-rows 1 0)
 unfolding wide-rows hex digit same number groups shortest fewest utf8 characters character completes sized name remaining lookup size mapTable rows table wider widerKind contents subsections payload judgeNames writePart writeRows writeTable unlessEmpty keepRows bare writeContent writeSubsections rewriteNames canonicalNames isItsRewriting namesAreCanonical

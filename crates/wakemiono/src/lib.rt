@@ -417,7 +417,7 @@ pub extern "C" fn wm_hints_canonical(payload: &[u8], out: &mut [u8]) -> WmAnswer
 pub extern "C" fn wm_names_is_canonical(payload: &[u8]) -> u32
     ensures { λ a. ⌜ wm-names-is-canonical (now (payload .entry)) a ⌝ }
 {
-    of_yes(names::telling::is_canonical(payload, Edition::First))
+    of_yes(names::telling::is_canonical(payload))
 }
 
 #[no_mangle]

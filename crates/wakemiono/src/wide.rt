@@ -242,5 +242,5 @@ pub extern "C" fn wm_wide_names_canonical(payload: &[u8], out: &mut [u8]) -> WmA
 pub extern "C" fn wm_wide_names_is_canonical(payload: &[u8]) -> u32
     ensures { λ a. ⌜ wm-wide-names-is-canonical (now (payload .entry)) a ⌝ }
 {
-    of_yes(names::telling::is_canonical(payload, Edition::Wider))
+    of_yes(names::telling_widely::is_canonical_widely(payload))
 }

@@ -2,7 +2,7 @@
 use Prim.Native.Nat.{ℕ}
 use mathlib.Core.List.{List}
 use mathlib.Core.Path.{_≡_, sym, _∙_}
-use Rattle.format.specs.Determined.{Determines2, Determines3, Determines4, DeterminesBoth4, Determines, equal-determined, meaning-determined, answer-determined, part-determined}
+use Rattle.format.specs.Determined.{Determines1, Determines2, Determines3, Determines4, DeterminesBoth4, Determines, equal-determined, meaning-determined, answer-determined, part-determined}
 use Rattle.format.specs.Laws.Answers.{same-answer}
 use Rattle.format.specs.Laws.Refusals.{same-verdict}
 use Rattle.format.specs.Parts.{Part}
@@ -10,12 +10,13 @@ use Rattle.format.specs.Questions.{answered}
 use Rattle.format.specs.Reading.{verdict, accepted}
 use Rattle.format.specs.Tables.{Table}
 use Rattle.format.specs.declared.Answer.{Answer}
+use Rattle.tables.proofs.Same.{tells-same}
 use Rattle.names.proofs.Same.{kind-same, frame-same, put-same, stands-same}
 use Rattle.names.specs.Frames.{judgeFrames}
 use Rattle.names.specs.declared.kinds.Kind.{Kind}
 use Rattle.reading.specs.Cursors.{left}
 use Rattle.reading.specs.declared.Cursor.{Cursor}
-use Rattle.names.specs.Promises.{names-ask, names-ask-bytes, names-the-name, names-named, names-named-within, names-all-kept, names-one-name, names-content, names-frame, names-subsection, names-judge, names-find, names-kind-of, names-put-place, names-place-of, names-is-canonical, names-ask-in}
+use Rattle.names.specs.Promises.{names-ask, names-ask-bytes, names-the-name, names-named, names-named-within, names-all-kept, names-one-name, names-content, names-frame, names-subsection, names-judge, names-find, names-kind-of, names-put-place, names-place-of, names-tidy-name, names-is-canonical, names-is-canonical-widely, names-ask-in}
 
 pub record Names : Type 0 where
   -- names
@@ -39,7 +40,10 @@ pub record Names : Type 0 where
   names-put-place : Determines4 names-put-place
   names-place-of : Determines2 names-place-of
   -- names::telling
-  names-is-canonical : Determines2 names-is-canonical
+  names-tidy-name : Determines2 names-tidy-name
+  names-is-canonical : Determines1 names-is-canonical
+  -- names::telling_widely
+  names-is-canonical-widely : Determines1 names-is-canonical-widely
   -- names::within
   names-ask-in : Determines4 names-ask-in
 
@@ -59,7 +63,9 @@ determined =
       names-kind-of = λ edition id. meaning-determined kind-same _;
       names-put-place = λ old edition id part. put-same;
       names-place-of = λ places id. equal-determined _;
-      names-is-canonical = λ p edition. equal-determined _;
+      names-tidy-name = λ s part. tells-same;
+      names-is-canonical = λ p. equal-determined _;
+      names-is-canonical-widely = λ p. equal-determined _;
       names-ask-in = λ s c edition q. answer-determined _;
     }
 

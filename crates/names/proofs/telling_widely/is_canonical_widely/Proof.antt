@@ -1,17 +1,24 @@
 use Prim.Native.Nat.{_-_}
-use Rattle.format.specs.Names.{kindIn}
+use denote.Ref.{now}
+use Rattle.format.specs.Bytes.{Bytes}
+use Rattle.format.specs.Names.{widerKind}
 use Rattle.names.proofs.TellLaws.{Telling, tell-turns}
-use Rattle.names.proofs.telling.is_canonical_in.Statement.{statement}
-use Rattle.names.proofs.telling.is_canonical_in.Tie as tie
+use Rattle.names.proofs.telling_widely.is_canonical_widely.Statement.{statement}
+use Rattle.names.proofs.telling_widely.is_canonical_widely.Tie as tie
 
 abbrev Inv-loop : tie.InvT-loop
-Inv-loop s edition next₀ least₀ next least = Telling (kindIn edition) s next₀ next least
+Inv-loop p next₀ least₀ next least = Telling widerKind p next least
 
 abbrev μ-loop : tie.MeasureT-loop
-μ-loop s edition next₀ least₀ next least = next .end - next .at
+μ-loop p next₀ least₀ next least = next .end - next .at
+
+over-requires : tie.Need-over-requires Inv-loop μ-loop
+over-requires c κs = search tell-turns
 
 loop-holds : tie.Need-loop-holds Inv-loop μ-loop
-loop-holds c = search tell-turns
+loop-holds c =
+    let known : Bytes (now (c .before .before .args .p)) = λ i. c .before .shared-slice-known .given i .fits in
+    search (tell-turns, known)
 
 frame-requires : tie.Need-frame-requires Inv-loop μ-loop
 frame-requires c κs = search tell-turns
@@ -34,8 +41,8 @@ enum-known-id c = search tell-turns
 kind-of-requires : tie.Need-kind-of-requires Inv-loop μ-loop
 kind-of-requires c κs = search tell-turns
 
-is-tidy-requires : tie.Need-is-tidy-requires Inv-loop μ-loop
-is-tidy-requires c κs = search tell-turns
+is-tidy-widely-requires : tie.Need-is-tidy-widely-requires Inv-loop μ-loop
+is-tidy-widely-requires c κs = search tell-turns
 
 cast-least : tie.Need-cast-least Inv-loop μ-loop
 cast-least c = search tell-turns
@@ -55,5 +62,5 @@ returns-3 c = search tell-turns
 returns-4 : tie.Need-returns-4 Inv-loop μ-loop
 returns-4 c = search tell-turns
 
-pub is-canonical-in-spec : {M : Type 1} → statement M
-is-canonical-in-spec = tie.close (tie.spec Inv-loop μ-loop loop-holds frame-requires enum-told returns enum-told-2 returns-2 enum-known-id kind-of-requires is-tidy-requires cast-least add-least loop-less loop-again returns-3 returns-4)
+pub is-canonical-widely-spec : {M : Type 1} → statement M
+is-canonical-widely-spec = tie.close (tie.spec Inv-loop μ-loop over-requires loop-holds frame-requires enum-told returns enum-told-2 returns-2 enum-known-id kind-of-requires is-tidy-widely-requires cast-least add-least loop-less loop-again returns-3 returns-4)
