@@ -4,8 +4,10 @@ use mathlib.Core.Bool.{true}
 use mathlib.Core.List.{List, _++_}
 use mathlib.Core.Logic.{_↔_, Iff·trans}
 use mathlib.Core.Option.{Option, none, some}
-use mathlib.Core.Path.{_≡_, refl}
+use mathlib.Core.Path.{_≡_, refl, sym, _∙_}
 use native.Mathlib.Omega.{arith}
+use borrow.Author.Tests.{eqb-true, eqb-false}
+use lib.Dec.{eqb}
 use lib.ListN.{length, take, drop, length-append}
 use Rattle.format.specs.Bytes.{Bytes, ascii, same}
 use Rattle.format.specs.Reading.{got, Reader, Judged, accepted, refused, mapJudged, Accepted}
@@ -26,7 +28,7 @@ use Rattle.format.specs.Canonical.{bare, bareItems, rewriteNames, canoni
 use Rattle.format.specs.Older.{judgeOlder, askOlder, writeOlder, canonicalOlder}
 use Rattle.format.specs.OlderInOrder.{risingEntries}
 use Rattle.format.specs.Lists.{Indices, functionNames}
-use Rattle.format.specs.Laws.Outcomes.{accepted-exactly, refused-exactly}
+use Rattle.format.specs.Laws.Outcomes.{byTest, accepted-exactly, refused-exactly}
 use Rattle.format.specs.Laws.Codecs.{Codec, number-sound, number-back, any-codec, hint-codec}
 use Rattle.format.specs.Laws.Passing.{number-passes, Reaches, reach, reach-step}
 use Rattle.format.specs.Laws.Walk.{walk-covers}
@@ -37,8 +39,9 @@ use Rattle.format.specs.Laws.Answers.{told-none}
 use Rattle.format.specs.Laws.Questions.{AllPosed, all-posed, posed-told}
 use Rattle.format.specs.Laws.CanonicalNames.{told-is, canonical-is, canonical-accepted, canonical-stays, rewriting-canonical, rewriting-told, rewriting-shorter, same-answers, same-rewriting}
 use Rattle.format.specs.Laws.CanonicalMetadata.{items-whole, item-told, items-canonical-is, items-accepted, items-told, items-again, items-shorter, same-items}
+use Rattle.format.specs.Laws.Unchanged.{names-unchanged, items-unchanged}
 use Rattle.format.specs.Laws.Hints.{hint-exactly, no-hint-exactly, same-hints, hints-told}
-use Rattle.format.specs.Laws.CanonicalOlder.{inOrder, order-shorter, older-canonical-is, rewriting, older-accepted, older-told, older-shorter, older-again, same-older}
+use Rattle.format.specs.Laws.CanonicalOlder.{inOrder, order-shorter, older-canonical-is, rewriting, older-least, older-accepted, older-told, older-shorter, older-again, same-older}
 use Rattle.format.specs.Laws.UnchangedOlder.{older-rises}
 use Rattle.format.specs.Laws.Lists.{written, listed-told, other-told, lists-stay}
 use Rattle.format.specs.declared.FunctionIndex.{FunctionIndex}
@@ -89,6 +92,14 @@ module _ {A Q R : Type 0} (judgement : List ℕ → Judged A) (rewriting : List 
     pub same-exactly : (x y : List ℕ) {v w : List ℕ} → rewriting x ≡ accepted v → rewriting y ≡ accepted w → (v ≡ w) ↔ ((q : Q) → Allows q → answer q x ≡ answer q y)
     pub accepts : {p : List ℕ} → Accepted judgement p → length p < limit32 → (x : List ℕ) × (rewriting p ≡ accepted x)
     pub rewritten : (p : List ℕ) {x : List ℕ} → rewriting p ≡ accepted x → Rewritten p x
+
+  -- K11. "Every other accepted payload giving the same answers to every question is strictly longer than the canonical one": x is what p is rewritten to, and y any bytes that are accepted.
+  abbrev pub OthersLonger : Type 0
+  OthersLonger = (p x y : List ℕ) → Bytes p → Bytes y → Accepted judgement p → rewriting p ≡ accepted x → Accepted judgement y → ((q : Q) → Allows q → answer q p ≡ answer q y) → (y ≡ x → ⊥) → length x < length y
+
+  -- "For `branchHints`, whose order is free, show that none is shorter."
+  abbrev pub NoneShorter : Type 0
+  NoneShorter = (p x y : List ℕ) → rewriting p ≡ accepted x → Accepted judgement y → ((q : Q) → Allows q → answer q p ≡ answer q y) → length x ≤ length y
 
 -- Demand 2 for hints. "For hints it is none, likely, unlikely or a refusal."
 pub record AnswersHints : Type 0 where
@@ -181,9 +192,19 @@ module _ (kindOf : ℕ → Kind) where
     };
   }
 
+-- Where a rewriting that is as long as its payload is the payload, another that answers alike is longer: it has the same rewriting, which is not longer, and as long only where it is the payload itself
+others-longer : {A Q R : Type 0} {judgement : List ℕ → Judged A} {rewriting : List ℕ → Judged (List ℕ)} {answer : Q → List ℕ → R} {Allows : Q → Type 0} → Rewrites judgement rewriting answer Allows → ((p x : List ℕ) → Bytes p → rewriting p ≡ accepted x → length x ≡ length p → x ≡ p) → OthersLonger judgement rewriting answer Allows
+others-longer rewrites unchanged p x y bp by a e b alike other =
+    let same = sym (rewrites .same-exactly bp by a b .1 alike) ∙ e in
+    let shorter = rewrites .rewritten b x same .never-longer in
+    byTest (eqb (length x) (length y)) (λ t. absurd (other (sym (unchanged y x by same (eqb-true (length x) (length y) t))))) (λ t. let less = eqb-false (length x) (length y) t in omega arith)
+
 -- of an edition
 pub edition-rewritten : (edition : Edition) → Rewrites (judgeNames (kindIn edition) 0) (canonicalNames (kindIn edition)) (λ q p. asTold (ask (kindIn edition) q p)) (AllowedBy (kindIn edition))
 edition-rewritten edition = questions-rewritten (kindIn edition) (all-posed edition)
+
+pub edition-shortest : (edition : Edition) → OthersLonger (judgeNames (kindIn edition) 0) (canonicalNames (kindIn edition)) (λ q p. asTold (ask (kindIn edition) q p)) (AllowedBy (kindIn edition))
+edition-shortest edition = others-longer (edition-rewritten edition) (names-unchanged (kindIn edition))
 
 -- Code metadata, over any item; what is asked is a function and an offset
 abbrev pub ItemQuestion : Type 0
@@ -235,6 +256,10 @@ pub any-metadata-rewritten : Rewrites (judgeMetadata anyItem 0) canonicalMetadat
 unfolding canonicalMetadata
 any-metadata-rewritten = metadata-rewritten any-codec
 
+pub any-metadata-shortest : OthersLonger (judgeMetadata anyItem 0) canonicalMetadata (itemTold anyItem) ItemInRange
+unfolding canonicalMetadata
+any-metadata-shortest = others-longer any-metadata-rewritten (items-unchanged any-codec)
+
 -- Hints: by their data as any metadata, and by likelihood
 pub hint-data-answered : AnswersItems hintItem
 hint-data-answered = metadata-answered hint-codec hint-located
@@ -260,6 +285,10 @@ hints-rewritten = let any = metadata-rewritten hint-codec in record {
   };
 }
 
+pub hints-shortest : OthersLonger (judgeMetadata hintItem 0) canonicalHints hintTold ItemInRange
+unfolding canonicalHints
+hints-shortest = others-longer hints-rewritten (items-unchanged hint-codec)
+
 -- Hints of the older edition; what is asked is a function and an instruction's offset
 abbrev pub OlderQuestion : Type 0
 OlderQuestion = FunctionIndex × InstructionOffset
@@ -281,6 +310,9 @@ older-rewritten = record {
     comes-to-rest = older-again r;
   };
 }
+
+pub older-shortest : NoneShorter (judgeOlder 0) canonicalOlder olderTold OlderInRange
+older-shortest p x y c b alike = older-least (rewriting c) b (λ f at l m. alike (f, at) (l, m))
 
 -- "sorted by function and offset, shadowed hints dropped, one entry per function": in what is written each function is above the one before, and so is each of its offsets
 pub older-in-order : (p : List ℕ) {x : List ℕ} → canonicalOlder p ≡ accepted x → (a : Accepted (judgeOlder 0) x) → risingEntries 0 (a .value) ≡ true

@@ -42,6 +42,8 @@ use Rattle.grammar.specs.Modules.{Section, Among, Called}
 use Rattle.format.specs.Older.{OlderHint, OlderEntry}
 use Rattle.format.specs.declared.Hint.{Hint}
 use Rattle.format.specs.declared.Hint.the-variants.{Unlikely, Likely}
+-- EXAMPLES are written as their bytes: `hex "07 01 00"`.
+use Rattle.format.specs.Examples.{hex}
 -- LISTS. `Indices is`: each number in the list is below 4,294,967,296. `sum ns`: the numbers added up. `Text x characters`: the bytes x are the UTF-8 encoding of the characters. `Lists k x indices lengths text`: k is listed, and x is its own stretch of the text. `Lists k x (k ∷ is) (n ∷ ns) text` from `take n text ≡ x`, and `Lists k x (i ∷ is) (n ∷ ns) text` from `Lists k x is ns (drop n text)`.
 use Rattle.format.specs.Lists.{Indices, sum}
 use Rattle.grammar.specs.Texts.{Text}
@@ -520,3 +522,44 @@ pub record K2 : Type 0 where
   pub in-order : (p old new : List ℕ) (a : WmAnswer) → wm-old-hints-canonical p old new a → a .kind ≡ 1 → (m : List OlderEntry) → OlderHints (take (a .length) new) m → InOrder m
   -- the yes or no of K10
   pub told : TellsCanonical wm-old-hints-judge wm-old-hints-canonical wm-old-hints-is-canonical
+
+-- K11. "Nothing shorter says the same. Storage asks whether another tool could save a byte. Show that every other accepted payload giving the same answers to every question is strictly longer than the canonical one, for names in each edition and for the metadata sections. For `branchHints`, whose order is free, show that none is shorter." Proved as `k11` in Proved.antt.
+
+module _ {Q : Type 0} (judging : List ℕ → WmAnswer → Type 0) (asking : Q → List ℕ → WmAnswer → Type 0) (Allowed : Q → Type 0) (Same : (x y : List ℕ) (a b : WmAnswer) → Type 0) (rewriting : (payload old new : List ℕ) → WmAnswer → Type 0) where
+  -- "accepted payload giving the same answers to every question": y is any bytes, of any length, that the judging call accepts and that answer as x does
+  pub record SaysTheSame (x y : List ℕ) : Type 0 where
+    pub are-bytes : Bytes y
+    pub is-accepted : (j : WmAnswer) → judging y j → j .kind ≡ 1
+    pub answers-alike : (q : Q) → Allowed q → (c d : WmAnswer) → asking q x c → asking q y d → Same x y c d
+
+  -- "every other .. is strictly longer than the canonical one", which is what the rewriting call wrote of x
+  abbrev pub OthersLonger : Type 0
+  OthersLonger = (x y old new : List ℕ) (a : WmAnswer) → Bytes x → rewriting x old new a → a .kind ≡ 1 → SaysTheSame x y → y ≢ take (a .length) new → a .length < length y
+
+  -- "none is shorter"
+  abbrev pub NoneShorter : Type 0
+  NoneShorter = (x y old new : List ℕ) (a : WmAnswer) → rewriting x old new a → a .kind ≡ 1 → SaysTheSame x y → a .length ≤ length y
+
+  -- And there are others: of two payloads with these lengths the first is canonical, and the second is not the first and says the same
+  pub record Another (x y : List ℕ) (long other : ℕ) : Type 0 where
+    pub lengths : (length x ≡ long) × (length y ≡ other)
+    pub is-canonical : (old new : List ℕ) (a : WmAnswer) → rewriting x old new a → a .kind ≡ 1 → take (a .length) new ≡ x
+    pub differs : y ≢ x
+    pub says-the-same : SaysTheSame x y
+
+pub record K11 : Type 0 where
+  pub names : OthersLonger wm-names-judge wm-name (AllowedBy knownKind) SameAnswer wm-names-canonical
+  pub wide-names : OthersLonger wm-wide-names-judge wm-wide-name (AllowedBy widerKind) SameAnswer wm-wide-names-canonical
+  pub metadata : OthersLonger wm-metadata-judge (λ q. wm-metadata (q .0 .0) (q .1 .0)) ItemInRange SameAnswer wm-metadata-canonical
+  pub hints : OthersLonger wm-hints-judge (λ q. wm-hint (q .0 .0) (q .1 .0)) ItemInRange (λ _ _ a b. a ≡ b) wm-hints-canonical
+  pub old-hints : NoneShorter wm-old-hints-judge (λ q. wm-old-hint (q .0 .0) (q .1 .0)) OlderInRange (λ _ _ a b. a ≡ b) wm-old-hints-canonical
+  -- function 0 is a, the size of the subsection padded
+  pub other-names : Another wm-names-judge wm-name (AllowedBy knownKind) SameAnswer wm-names-canonical (hex "01 04 01 00 01 61") (hex "01 84 00 01 00 01 61") 6 7
+  -- global 0 is a, a map of no tables before it
+  pub other-wide-names : Another wm-wide-names-judge wm-wide-name (AllowedBy widerKind) SameAnswer wm-wide-names-canonical (hex "07 04 01 00 01 61") (hex "05 01 00 07 04 01 00 01 61") 6 9
+  -- one byte at offset 5 of function 2, and a function without items behind it
+  pub other-metadata : Another wm-metadata-judge (λ q. wm-metadata (q .0 .0) (q .1 .0)) ItemInRange SameAnswer wm-metadata-canonical (hex "01 02 01 05 01 FF") (hex "02 02 01 05 01 FF 03 00") 6 8
+  -- likely at offset 5 of function 2, the hint's size padded
+  pub other-hints : Another wm-hints-judge (λ q. wm-hint (q .0 .0) (q .1 .0)) ItemInRange (λ _ _ a b. a ≡ b) wm-hints-canonical (hex "01 02 01 05 01 01") (hex "01 02 01 05 81 00 01") 6 7
+  -- likely at offset 5 of function 0 and unlikely at offset 7 of function 3, the functions the other way round: as long, and not canonical
+  pub other-old-hints : Another wm-old-hints-judge (λ q. wm-old-hint (q .0 .0) (q .1 .0)) OlderInRange (λ _ _ a b. a ≡ b) wm-old-hints-canonical (hex "02 00 00 01 01 05 03 00 01 00 07") (hex "02 03 00 01 00 07 00 00 01 01 05") 11 11

@@ -15,3 +15,4 @@ pub mod Through
 pub mod Telling
 pub mod Editions
 pub mod Older
+pub mod Shortest

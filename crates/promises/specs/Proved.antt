@@ -30,7 +30,7 @@ use Rattle.format.specs.Through.{askThrough, askMetadataThrough, askHintThrough
 use Rattle.format.specs.Walk.{nameSection, sectionCount, sectionAt, customPayload}
 use Rattle.wakemiono.specs.Boundary.{wmCount, wmSection, wmPlace, wmJudged, wmHint, wmYes, WmWrites}
 use Rattle.walk.specs.Surveys.{sectionPlace}
-use Rattle.format.specs.Theorems.{Rewrites as AnyRewrites, questions-answered, hints-answered as all-hints-answered, any-metadata-answered, edition-rewritten, any-metadata-rewritten, hints-rewritten, older-rewritten}
+use Rattle.format.specs.Theorems.{Rewrites as AnyRewrites, questions-answered, hints-answered as all-hints-answered, any-metadata-answered, edition-rewritten, any-metadata-rewritten, hints-rewritten, older-rewritten, edition-shortest, any-metadata-shortest, hints-shortest, older-shortest}
 use Rattle.format.specs.Canonical.{bare, bareItems}
 use Rattle.format.specs.Holding.{HasWithin, Holds}
 use Rattle.format.specs.Laws.Outcomes.{not-accepted, refused-exactly}
@@ -56,13 +56,14 @@ use Rattle.promises.specs.Laws.Exactly.{name-in-exactly, metadata-in-exa
 use Rattle.promises.specs.Laws.ListsRefused.{lists-refused}
 use Rattle.promises.specs.Laws.Older.{older-likely, older-unlikely, older-none, older-hint-refused, older-refused, older-never-15, older-ordered, sections-apart, never-empty}
 use Rattle.promises.specs.Laws.Refusing.{Numbered, FairlyJudged, names-fair, any-fair, hint-fair, item-of-fair, items-fair, older-fair, older-fair-by, walk-fair}
-use Rattle.promises.specs.Laws.Rewriting.{WhereWritten, always-written, hints-same, names-first-judged, metadata-first-judged, hints-first-judged, names-compared, metadata-compared, rewritten-same, rewritten-accepted, rewritten-alike, rewritten-shorter, rewritten-rests, rewritten-fits, rewriting-refused, names-refuse, metadata-refuse, hints-refuse, older-refuse, older-written}
+use Rattle.promises.specs.Laws.Rewriting.{WhereWritten, always-written, Asked, names-asked, metadata-asked, hints-asked, older-asked, names-written, metadata-written, hints-written, names-first-judged, metadata-first-judged, hints-first-judged, rewritten-same, rewritten-accepted, rewritten-alike, rewritten-shorter, rewritten-rests, rewritten-fits, rewriting-refused, names-refuse, metadata-refuse, hints-refuse, older-refuse, older-written}
 use Rattle.promises.specs.Laws.Saying.{Verdict as Says, judged-said, judged-whole, refused-said, hint-refused-said}
+use Rattle.promises.specs.Laws.Shortest.{longer, least, other-names, other-wide-names, other-metadata, other-hints, other-old-hints}
 use Rattle.promises.specs.Laws.Telling.{number-told, else-zero, yes-told}
 use Rattle.promises.specs.Laws.Through.{name-through, hint-through, older-through, metadata-through, hint-data-through}
 use Rattle.promises.specs.Laws.Walking.{walked, walk-counts, section-found, section-first, section-none, section-refused, custom-tells, custom-refused}
 use Rattle.wakemiono.specs.Calls.{wm-walk, wm-names-judge, wm-name, wm-metadata-judge, wm-metadata, wm-hints-judge, wm-hint, wm-names-canonical, wm-metadata-canonical, wm-hints-canonical, wm-function-names-write, wm-old-hints-judge, wm-old-hint, wm-old-hints-canonical}
-use Rattle.promises.specs.Demands.{Verdict, Reply, SectionReply, HintReply, Answers, RefusedBy, RefusedThrough, RefusedOrShort, ListsRefused, Leaves, NeedsRoom, Writing, Demand1, HoldsName, HoldsData, JudgesExactly, AnswersNames, AnswersMetadata, AnswersHints, Walks, Demand2, SameAnswer, Rewritten, Rewrites, Demand3, yes, no, replyNone, replyFound, replyRefused, sectionNone, sectionFound, sectionRefused, hintNone, hintUnlikely, hintLikely, hintRefused, byTheWalk, byItsPayload, asJudged, tooShort, listsDisagree, notAbove, notText, subsectionTooLarge, outputTooShort, TellsCanonical, K10, K9, OlderRefused, AnswersOlder, K2, olderJudged, olderTooLong, olderTooShort}
+use Rattle.promises.specs.Demands.{Verdict, Reply, SectionReply, HintReply, Answers, RefusedBy, RefusedThrough, RefusedOrShort, ListsRefused, Leaves, NeedsRoom, Writing, Demand1, HoldsName, HoldsData, JudgesExactly, AnswersNames, AnswersMetadata, AnswersHints, Walks, Demand2, SameAnswer, Rewritten, Rewrites, Demand3, yes, no, replyNone, replyFound, replyRefused, sectionNone, sectionFound, sectionRefused, hintNone, hintUnlikely, hintLikely, hintRefused, byTheWalk, byItsPayload, asJudged, tooShort, listsDisagree, notAbove, notText, subsectionTooLarge, outputTooShort, TellsCanonical, K10, K9, OlderRefused, AnswersOlder, K2, olderJudged, olderTooLong, olderTooShort, K11}
 
 -- Demand 1
 judged-verdict : (n : ℕ) (j : Judged (Unit {0})) → Verdict (wmJudged n j)
@@ -285,21 +286,19 @@ demand-2 = record {
 -- Demand 3
 module _ {A Q R : Type 0} {judgement : List ℕ → Judged A} {rewriting : List ℕ → Judged (List ℕ)} {answer : Q → List ℕ → R} {Allowed : Q → Type 0} (rewrites : WhereWritten judgement rewriting answer Allowed)
     (refuse : (p : List ℕ) (n at : ℕ) → judgement p ≡ refused n at → rewriting p ≡ refused n at)
-    (asking : Q → List ℕ → WmAnswer → Type 0) (met : (q : Q) (x : List ℕ) → (a : WmAnswer) × asking q x a)
-    (Same : (x y : List ℕ) (a b : WmAnswer) → Type 0)
-    (compared : (q : Q) (x y : List ℕ) (a b : WmAnswer) → Accepted judgement x → Accepted judgement y → asking q x a → asking q y b → Same x y a b ↔ (answer q x ≡ answer q y)) where
+    {asking : Q → List ℕ → WmAnswer → Type 0} {Same : (x y : List ℕ) (a b : WmAnswer) → Type 0} (asked : Asked judgement answer asking Same) where
   rewritten : Rewritten (λ p j. j ≡ wmJudged (length p) (verdict (judgement p))) asking Allowed Same (λ p old new a. WmWrites (rewriting p) old new a)
   rewritten = record {
-    same-exactly = rewritten-same rewrites asking met Same compared;
-    is-accepted = λ p old new a w k j e. rewritten-accepted rewrites asking met Same compared p old new a w k j (judged-said _ (judgement (take (a .length) new)) e);
-    answers-alike = rewritten-alike rewrites asking met Same compared;
-    never-longer = rewritten-shorter rewrites asking met Same compared;
-    comes-to-rest = rewritten-rests rewrites asking met Same compared;
+    same-exactly = rewritten-same rewrites asked;
+    is-accepted = λ p old new a w k j e. rewritten-accepted rewrites asked p old new a w k j (judged-said _ (judgement (take (a .length) new)) e);
+    answers-alike = rewritten-alike rewrites asked;
+    never-longer = rewritten-shorter rewrites asked;
+    comes-to-rest = rewritten-rests rewrites asked;
     refuses = λ p old new a j e. rewriting-refused rewriting refuse p old new a j (judged-said (length p) (judgement p) e);
   }
 
   fits : (p old new : List ℕ) (a j : WmAnswer) → (Accepted judgement p → (bytes : List ℕ) × (rewriting p ≡ accepted bytes)) → j ≡ wmJudged (length p) (verdict (judgement p)) → j .kind ≡ 1 → length p ≤ length old → WmWrites (rewriting p) old new a → a .kind ≡ 1
-  fits p old new a j has e = rewritten-fits rewrites asking met Same compared p old new a j has (judged-said (length p) (judgement p) e)
+  fits p old new a j has e = rewritten-fits rewrites asked p old new a j has (judged-said (length p) (judgement p) e)
 
   -- where every accepted payload has one
   rewritten-always : ((p : List ℕ) → Accepted judgement p → (bytes : List ℕ) × (rewriting p ≡ accepted bytes)) → Rewrites (λ p j. j ≡ wmJudged (length p) (verdict (judgement p))) asking Allowed Same (λ p old new a. WmWrites (rewriting p) old new a)
@@ -307,13 +306,13 @@ module _ {A Q R : Type 0} {judgement : List ℕ → Judged A} {rewriting : List 
 
 -- of an edition
 names-rewritten : (edition : Edition) → Rewrites (λ p j. j ≡ wmJudged (length p) (verdict (judgeNames (kindIn edition) 0 p))) (λ q p a. a ≡ wmPlace (asPlace (ask (kindIn edition) q p))) (AllowedBy (kindIn edition)) SameAnswer (λ p old new a. WmWrites (canonicalNames (kindIn edition) p) old new a)
-names-rewritten edition = let rewrites = edition-rewritten edition in rewritten-always (always-written rewrites (names-first-judged (kindIn edition))) (names-refuse (kindIn edition)) (λ q p a. a ≡ wmPlace (asPlace (ask (kindIn edition) q p))) (λ q x. (_, refl)) SameAnswer (names-compared (kindIn edition)) (λ p a. rewrites .accepts a)
+names-rewritten edition = let rewrites = edition-rewritten edition in rewritten-always (names-written edition) (names-refuse (kindIn edition)) (names-asked (kindIn edition)) (λ p a. rewrites .accepts a)
 
 pub demand-3 : Demand3
 demand-3 = record {
   names = names-rewritten First;
-  metadata = rewritten-always (always-written any-metadata-rewritten metadata-first-judged) metadata-refuse (λ q. wm-metadata (q .0 .0) (q .1 .0)) (λ q x. (_, refl)) SameAnswer metadata-compared (λ p a. any-metadata-rewritten .accepts a);
-  hints = rewritten-always (always-written hints-rewritten hints-first-judged) hints-refuse (λ q. wm-hint (q .0 .0) (q .1 .0)) (λ q x. (_, refl)) (λ _ _ a b. a ≡ b) (λ q x y a b _ _. hints-same (askHint (q .0) (q .1) 0 x) (askHint (q .0) (q .1) 0 y)) (λ p a. hints-rewritten .accepts a);
+  metadata = rewritten-always metadata-written metadata-refuse metadata-asked (λ p a. any-metadata-rewritten .accepts a);
+  hints = rewritten-always hints-written hints-refuse hints-asked (λ p a. hints-rewritten .accepts a);
 }
 
 -- K10
@@ -402,9 +401,23 @@ k2 = record {
   through-modules = λ f o. older-through (record { 0 = f }) (record { 0 = o });
   newer-through-modules = λ f o. hint-through (record { 0 = f }) (record { 0 = o });
   apart = sections-apart;
-  rewritten = rewritten older-written older-refuse (λ q. wm-old-hint (q .0 .0) (q .1 .0)) (λ q x. (_, refl)) (λ _ _ a b. a ≡ b) (λ q x y a b _ _. hints-same (askOlder (q .0) (q .1) 0 x) (askOlder (q .0) (q .1) 0 y));
+  rewritten = rewritten older-written older-refuse older-asked;
   never-15 = older-never-15;
-  room-enough = λ p old new a j l. fits older-written older-refuse (λ q. wm-old-hint (q .0 .0) (q .1 .0)) (λ q x. (_, refl)) (λ _ _ a b. a ≡ b) (λ q x y a b _ _. hints-same (askOlder (q .0) (q .1) 0 x) (askOlder (q .0) (q .1) 0 y)) p old new a j (λ acc. older-rewritten .accepts acc l);
+  room-enough = λ p old new a j l. fits older-written older-refuse older-asked p old new a j (λ acc. older-rewritten .accepts acc l);
   in-order = older-ordered;
   told = told older-written never-empty;
+}
+
+pub k11 : K11
+k11 = record {
+  names = longer (names-written First) (names-asked knownKind) (edition-shortest First);
+  wide-names = longer (names-written Wider) (names-asked widerKind) (edition-shortest Wider);
+  metadata = longer metadata-written metadata-asked any-metadata-shortest;
+  hints = longer hints-written hints-asked hints-shortest;
+  old-hints = least older-written older-asked older-shortest;
+  other-names = other-names;
+  other-wide-names = other-wide-names;
+  other-metadata = other-metadata;
+  other-hints = other-hints;
+  other-old-hints = other-old-hints;
 }

@@ -1,7 +1,10 @@
 //! Canonical payloads, and what one padded number or one empty list makes of them.
 
 use comparison::held::{Held, FIRST, WIDER};
-use comparison::library::old_hints_canonical;
+use comparison::library::{
+    hints_canonical, metadata_canonical, names_canonical, old_hints_canonical, wide_names_canonical,
+    Told,
+};
 use comparison::made;
 use comparison::random::{seed, Random};
 use comparison::spelling::unpadded;
@@ -53,28 +56,51 @@ fn compare<Of: Held>(
     }
 }
 
+/// Whatever else says the same is longer than the canonical payload, and comes to it.
+fn others_are_longer<Of: Held>(
+    make: fn(&mut Random) -> Of,
+    rewrite: fn(&[u8], &mut [u8]) -> Told,
+) {
+    let mut others = 0;
+    for held in held(make) {
+        let [canonical, padded, with_empty] = payloads(&[held]);
+        for other in padded.iter().chain(&with_empty) {
+            let mut out = vec![0; other.len()];
+            let length = rewrite(other, &mut out).length as usize;
+            assert_eq!(out[..length], canonical[0], "{other:02X?}");
+            assert!(length < other.len(), "{other:02X?}");
+            others += 1;
+        }
+    }
+    assert!(others >= FEWEST_OTHERS, "only {others}");
+}
+
 #[test]
 fn names() {
     let make = |r: &mut Random| made::held_names(r, &FIRST);
     compare(make, Tally::first_names, |tally| tally.names_said);
+    others_are_longer(make, names_canonical);
 }
 
 #[test]
 fn names_of_the_wider_edition() {
     let make = |r: &mut Random| made::held_names(r, &WIDER);
     compare(make, Tally::wide_names, |tally| tally.wide_said);
+    others_are_longer(make, wide_names_canonical);
 }
 
 #[test]
 fn metadata() {
     let make = |r: &mut Random| made::held_metadata(r, false);
     compare(make, Tally::metadata, |tally| tally.metadata_said);
+    others_are_longer(make, metadata_canonical);
 }
 
 #[test]
 fn hints() {
     let make = |r: &mut Random| made::held_metadata(r, true);
     compare(make, Tally::metadata, |tally| tally.hints_said);
+    others_are_longer(make, hints_canonical);
 }
 
 #[test]
@@ -83,11 +109,13 @@ fn old_hints() {
     compare(make, Tally::old_hints, |tally| tally.old_said);
 }
 
-/// Older hints in no order, or said more than once: none is canonical, and each comes to the same canonical payload.
+/// Older hints in no order, or said more than once: none is canonical, and each comes to the same canonical payload, which
+/// none is shorter than, and some are as long as.
 #[test]
 fn old_hints_out_of_order() {
     let mut tally = Tally::default();
     let mut others = 0;
+    let mut as_long = 0;
     for held in held(|r| made::held_old_hints(r).in_order()) {
         let canonical = held.spelled(&mut unpadded);
         for other in held.out_of_order() {
@@ -96,11 +124,14 @@ fn old_hints_out_of_order() {
             let mut out = vec![0; payload.len()];
             let told = old_hints_canonical(&payload, &mut out);
             assert_eq!(out[..told.length as usize], canonical, "{payload:02X?}");
+            assert!(canonical.len() <= payload.len(), "{payload:02X?}");
+            as_long += usize::from(canonical.len() == payload.len());
             others += 1;
         }
     }
     println!("compared {} calls", tally.calls);
     assert!(others >= FEWEST_OTHERS as u64, "only {others}");
+    assert!(as_long > 0, "none is as long");
     let said = tally.old_said;
     assert_eq!((said.canonical, said.not_canonical), (0, others));
 }

@@ -112,20 +112,29 @@ module _ {bs x : List ℕ} (r : Rewriting bs x) where
 asked-or-none {ℓ} : {C : Type ℓ} {bs : List ℕ} (a : Accepted (judgeOlder 0) bs) (k j : ℕ) → (k < limit32 → j < limit32 → C) → (thenSome (lookup k (inOrder a)) (lookup j) ≡ none → C) → C
 asked-or-none a k j f g = in-range-or-none (λ _ u p. (p .number, p .sorted)) (λ _ x p. p) (older-sorted a) k j f g
 
+-- every question in range gets the same answer from both
+abbrev pub AskedAlike : (x y : List ℕ) → Type 0
+AskedAlike x y = (f : FunctionIndex) (at : InstructionOffset) → f .0 < limit32 → at .0 < limit32 → askOlder f at 0 x ≡ askOlder f at 0 y
+
+-- then what they hold is in order the same
+module _ {x y : List ℕ} (a : Accepted (judgeOlder 0) x) (b : Accepted (judgeOlder 0) y) (alike : AskedAlike x y) where
+  told-alike : (k j : ℕ) → thenSome (lookup k (inOrder a)) (lookup j) ≡ thenSome (lookup k (inOrder b)) (lookup j)
+  told-alike k j =
+      let told : k < limit32 → j < limit32 → thenSome (lookup k (inOrder a)) (lookup j) ≡ thenSome (lookup k (inOrder b)) (lookup j) = λ l m. accepted-is (sym (older-answer a (record { 0 = k }) (record { 0 = j })) ∙ alike (record { 0 = k }) (record { 0 = j }) l m ∙ older-answer b (record { 0 = k }) (record { 0 = j })) in
+      asked-or-none a k j told (λ n. asked-or-none b k j told (λ m. n ∙ sym m))
+
+  same-order : inOrder a ≡ inOrder b
+  same-order = groups-told (older-sorted a) (older-sorted b) told-alike
+
 -- two payloads have one rewriting exactly where every question gets the same answer
-pub same-older : {x y v w : List ℕ} → Rewriting x v → Rewriting y w → (v ≡ w) ↔ ((f : FunctionIndex) (at : InstructionOffset) → f .0 < limit32 → at .0 < limit32 → askOlder f at 0 x ≡ askOlder f at 0 y)
-same-older {x} {y} {v} {w} r q = (to, from)
-  where
-    Same : Type 0
-    Same = (f : FunctionIndex) (at : InstructionOffset) → f .0 < limit32 → at .0 < limit32 → askOlder f at 0 x ≡ askOlder f at 0 y
+pub same-older : {x y v w : List ℕ} → Rewriting x v → Rewriting y w → (v ≡ w) ↔ AskedAlike x y
+same-older r q = (
+  λ e f at _ _. sym (older-told r f at) ∙ ap (askOlder f at 0) e ∙ older-told q f at,
+  λ alike. sym (r .written) ∙ ap writeOlder (same-order (r .original) (q .original) alike) ∙ q .written,
+)
 
-    to : v ≡ w → Same
-    to e f at _ _ = sym (older-told r f at) ∙ ap (askOlder f at 0) e ∙ older-told q f at
-
-    alike : Same → (k j : ℕ) → thenSome (lookup k (inOrder (r .original))) (lookup j) ≡ thenSome (lookup k (inOrder (q .original))) (lookup j)
-    alike h k j =
-        let told : k < limit32 → j < limit32 → thenSome (lookup k (inOrder (r .original))) (lookup j) ≡ thenSome (lookup k (inOrder (q .original))) (lookup j) = λ l m. accepted-is (sym (older-answer (r .original) (record { 0 = k }) (record { 0 = j })) ∙ h (record { 0 = k }) (record { 0 = j }) l m ∙ older-answer (q .original) (record { 0 = k }) (record { 0 = j })) in
-        asked-or-none (r .original) k j told (λ n. asked-or-none (q .original) k j told (λ m. n ∙ sym m))
-
-    from : Same → v ≡ w
-    from h = sym (r .written) ∙ ap writeOlder (groups-told (older-sorted (r .original)) (older-sorted (q .original)) (alike h)) ∙ q .written
+-- and none that answers as a rewriting's original is shorter than the rewriting, also one that has none itself
+pub older-least : {p x y : List ℕ} → Rewriting p x → Accepted (judgeOlder 0) y → AskedAlike p y → length x ≤ length y
+older-least {x = x} r b alike =
+    let same : writeOlder (inOrder b) ≡ x = ap writeOlder (sym (same-order (r .original) b alike)) ∙ r .written in
+    rw same at (order-shorter b)

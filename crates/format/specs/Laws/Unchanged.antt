@@ -6,13 +6,15 @@ use mathlib.Core.Path.{_≡_, refl, sym, ap, _∙_}
 use native.Mathlib.Omega.{arith}
 use lib.ListN.{length, length-append}
 use Rattle.format.specs.Bytes.{Bytes}
-use Rattle.format.specs.Reading.{got, Reader}
+use Rattle.format.specs.Reading.{got, Reader, accepted}
 use Rattle.format.specs.Numbers.{shortest}
 use Rattle.format.specs.Parts.{Part}
 use Rattle.format.specs.Tables.{Table, row, size, table}
-use Rattle.format.specs.Names.{Kind, Content, namesBy, payload}
-use Rattle.format.specs.Canonical.{writePart, writeRows, writeTable, unlessEmpty, keepRows, trim, writeContent, writeSubsections, rewriteNames, rewriteMetadata}
+use Rattle.format.specs.Names.{Kind, Content, namesBy, payload, judgeNames}
+use Rattle.format.specs.Metadata.{metadata, judgeMetadata}
+use Rattle.format.specs.Canonical.{writePart, writeRows, writeTable, unlessEmpty, keepRows, trim, writeContent, writeSubsections, rewriteNames, canonicalNames, rewriteMetadata, canonicalOf}
 use Rattle.format.specs.Laws.Options.{some-is, inThen, byOption}
+use Rattle.format.specs.Laws.Outcomes.{inTurn, ended, judged, mapped}
 use Rattle.format.specs.Laws.Numbers.{shortest-mono, shortest-positive}
 use Rattle.format.specs.Laws.Tight.{tight-whole}
 use Rattle.format.specs.Laws.Codecs.{Codec, Sorted, end, next, table-codec, writePart-mono}
@@ -88,6 +90,10 @@ module _ (kindOf : ℕ → Kind) where
       let stays = subsections-unchanged (r .sorted) (omega (arith, long, short, r .shorter)) in
       ap writeSubsections stays ∙ tight-whole rest (r .tight) (r .shorter) h (omega (arith, long, short, r .shorter))
 
+  pub names-unchanged : (p x : List ℕ) → Bytes p → canonicalNames kindOf p ≡ accepted x → length x ≡ length p → x ≡ p
+  unfolding canonicalNames judgeNames
+  names-unchanged p x h c long = mapped rewriteNames (judgeNames kindOf 0 p) c λ t e is. judged (payload kindOf 0 p) e λ o rest r. sym is ∙ payload-tight 0 p h r (ap length is ∙ long)
+
 -- Code metadata, over any item
 module _ {item : Reader Part} {Fine : List ℕ → Type 0} (codec : Codec item (λ p. p .bytes) writePart Fine) where
   pub functions-tight : (o : ℕ) (bs : List ℕ) {t : Table (Table Part)} {o′ : ℕ} {rest : List ℕ} → Bytes bs → table (table item) o bs ≡ got t o′ rest → length (rewriteMetadata t) ≡ length bs → rewriteMetadata t ≡ bs
@@ -97,3 +103,11 @@ module _ {item : Reader Part} {Fine : List ℕ → Type 0} (codec : Codec item (
       let short = groups-shorter (writeTable writePart) (r .fine .sorted) in
       let stays = groups-unchanged (writeTable writePart) (r .fine .sorted) (omega (arith, long, short, r .shorter)) in
       ap (writeTable (writeTable writePart)) stays ∙ tight-whole rest (r .tight) (r .shorter) h (omega (arith, long, short, r .shorter))
+
+  pub items-unchanged : (p x : List ℕ) → Bytes p → canonicalOf item p ≡ accepted x → length x ≡ length p → x ≡ p
+  unfolding canonicalOf judgeMetadata metadata
+  items-unchanged p x h c long =
+      mapped rewriteMetadata (judgeMetadata item 0 p) c λ t e is. judged (metadata item 0 p) e λ o rest r.
+      inTurn (table (table item) 0 p) _ r λ u o₁ r₁ e₁ e₂. ended u o₁ r₁ e₂ λ _ same.
+      let written : rewriteMetadata u ≡ x = ap rewriteMetadata same ∙ is in
+      sym written ∙ functions-tight 0 p h e₁ (ap length written ∙ long)

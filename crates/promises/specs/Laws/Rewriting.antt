@@ -8,19 +8,21 @@ use native.Mathlib.Omega.{arith}
 use lib.ListN.{length, take}
 use Rattle.format.specs.Bytes.{Bytes}
 use Rattle.format.specs.Canonical.{rewriteNames, canonicalNames, rewriteMetadata, canonicalOf, canonicalMetadata, canonicalHints}
-use Rattle.format.specs.Theorems.{VeryBytes, Rewritten, Rewrites, ItemQuestion, itemTold, OlderInRange, olderTold, questions-answered, any-metadata-answered, older-rewritten}
+use Rattle.format.specs.Theorems.{VeryBytes, Rewritten, Rewrites, ItemQuestion, ItemInRange, itemTold, hintTold, OlderInRange, olderTold, questions-answered, any-metadata-answered, edition-rewritten, any-metadata-rewritten, hints-rewritten, older-rewritten}
 use Rattle.format.specs.Laws.CanonicalOlder.{rewriting}
 use Rattle.format.specs.Laws.Options.{not-some, some-is}
 use Rattle.format.specs.Laws.Outcomes.{accepted-is, mapped}
-use Rattle.format.specs.Metadata.{anyItem, hintItem, judgeMetadata, itemAt, askMetadata}
-use Rattle.format.specs.Names.{Kind, judgeNames}
-use Rattle.format.specs.Older.{judgeOlder, canonicalOlder}
+use Rattle.format.specs.Metadata.{anyItem, hintItem, judgeMetadata, itemAt, askMetadata, askHint}
+use Rattle.format.specs.Names.{Kind, kindIn, judgeNames}
+use Rattle.format.specs.Older.{judgeOlder, askOlder, canonicalOlder}
 use Rattle.format.specs.Parts.{Part}
-use Rattle.format.specs.Questions.{idOf, queryOf, answer, asked, askAt, ask, asPlace, asTold}
+use Rattle.format.specs.Questions.{AllowedBy, idOf, queryOf, answer, asked, askAt, ask, asPlace, asTold}
+use Rattle.format.specs.declared.Edition.{Edition}
 use Rattle.format.specs.declared.Question.{Question}
 use Rattle.format.specs.Reading.{Reader, Judged, accepted, refused, mapJudged, Accepted}
 use Rattle.format.specs.declared.Hint.{Hint}
 use Rattle.wakemiono.specs.Boundary.{wmFound, wmRefused, wmPlace, wmHint, WmWrites}
+use Rattle.wakemiono.specs.Calls.{wm-metadata, wm-hint, wm-old-hint}
 use Rattle.wakemiono.specs.declared.WmAnswer.{WmAnswer}
 use Rattle.promises.specs.Answers.{saysHint, hint-said}
 use Rattle.promises.specs.Demands.{SameAnswer}
@@ -43,7 +45,7 @@ pub places-same : {A : Type 0} {x y : List ℕ} {a b : WmAnswer} (f : A → Opti
 places-same {x = x} {y = y} f j k {v} {w} is is′ very very′ e e′ =
     rw (e, e′, is, is′) (parts-same x y (f v) (f w) (λ p h. very p (ap (mapJudged f) is ∙ ap accepted h)) (λ p h. very′ p (ap (mapJudged f) is′ ∙ ap accepted h)))
 
-pub hints-same : {a b : WmAnswer} (j k : Judged (Option Hint)) → a ≡ wmHint j → b ≡ wmHint k → (a ≡ b) ↔ (j ≡ k)
+hints-same : {a b : WmAnswer} (j k : Judged (Option Hint)) → a ≡ wmHint j → b ≡ wmHint k → (a ≡ b) ↔ (j ≡ k)
 hints-same j k e e′ = (λ same. sym (hint-said j) ∙ ap saysHint (sym e ∙ same ∙ e′) ∙ hint-said k, λ same. e ∙ ap (λ j. wmHint j) same ∙ sym e′)
 
 -- What is known of a rewriting, wherever a payload has one
@@ -68,10 +70,22 @@ older-written = record {
   rewritten = λ p c. older-rewritten .rewritten p c;
 }
 
-module _ {A Q R : Type 0} {judgement : List ℕ → Judged A} {rewriting : List ℕ → Judged (List ℕ)} {told : Q → List ℕ → R} {Allows : Q → Type 0} (rewrites : WhereWritten judgement rewriting told Allows)
-    (asking : Q → List ℕ → WmAnswer → Type 0) (met : (q : Q) (x : List ℕ) → (a : WmAnswer) × asking q x a)
-    (Same : (x y : List ℕ) (a b : WmAnswer) → Type 0)
-    (compared : (q : Q) (x y : List ℕ) (a b : WmAnswer) → Accepted judgement x → Accepted judgement y → asking q x a → asking q y b → Same x y a b ↔ (told q x ≡ told q y)) where
+-- What is known of the calls that ask: each answers, and of two accepted payloads the answers are the same exactly where what is told is
+pub record Asked {A Q R : Type 0} (judgement : List ℕ → Judged A) (told : Q → List ℕ → R) (asking : Q → List ℕ → WmAnswer → Type 0) (Same : (x y : List ℕ) (a b : WmAnswer) → Type 0) : Type 0 where
+  pub met : (q : Q) (x : List ℕ) → (a : WmAnswer) × asking q x a
+  pub compared : (q : Q) (x y : List ℕ) (a b : WmAnswer) → Accepted judgement x → Accepted judgement y → asking q x a → asking q y b → Same x y a b ↔ (told q x ≡ told q y)
+
+-- every allowed question gets the same answer from both
+abbrev pub Alike : {Q : Type 0} (asking : Q → List ℕ → WmAnswer → Type 0) (Allows : Q → Type 0) (Same : (x y : List ℕ) (a b : WmAnswer) → Type 0) (x y : List ℕ) → Type 0
+Alike {Q} asking Allows Same x y = (q : Q) → Allows q → (c d : WmAnswer) → asking q x c → asking q y d → Same x y c d
+
+pub alike-exactly : {A Q R : Type 0} {judgement : List ℕ → Judged A} {told : Q → List ℕ → R} {Allows : Q → Type 0} {asking : Q → List ℕ → WmAnswer → Type 0} {Same : (x y : List ℕ) (a b : WmAnswer) → Type 0} → Asked judgement told asking Same → {x y : List ℕ} → Accepted judgement x → Accepted judgement y → ((q : Q) → Allows q → told q x ≡ told q y) ↔ Alike asking Allows Same x y
+alike-exactly asked {x} {y} ax ay = (
+  λ same q allowed c d e e′. asked .compared q x y c d ax ay e e′ .1 (same q allowed),
+  λ same q allowed. let (c, e) = asked .met q x in let (d, e′) = asked .met q y in asked .compared q x y c d ax ay e e′ .0 (same q allowed c d e e′),
+)
+
+module _ {A Q R : Type 0} {judgement : List ℕ → Judged A} {rewriting : List ℕ → Judged (List ℕ)} {told : Q → List ℕ → R} {Allows : Q → Type 0} (rewrites : WhereWritten judgement rewriting told Allows) {asking : Q → List ℕ → WmAnswer → Type 0} {Same : (x y : List ℕ) (a b : WmAnswer) → Type 0} (asked : Asked judgement told asking Same) where
   was-accepted : (p : List ℕ) {old new : List ℕ} {a : WmAnswer} → Wrote (rewriting p) old new a → Accepted judgement p
   was-accepted p w = rewrites .first-judged p (w .wants)
 
@@ -79,16 +93,11 @@ module _ {A Q R : Type 0} {judgement : List ℕ → Judged A} {rewriting : List 
   equally-written v w = (λ e. sym (wrote-first v) ∙ e ∙ wrote-first w, λ e. wrote-first v ∙ e ∙ sym (wrote-first w))
 
   pub rewritten-same : (x y old new old′ new′ : List ℕ) (a b : WmAnswer) → Bytes x → Bytes y → WmWrites (rewriting x) old new a → WmWrites (rewriting y) old′ new′ b → a .kind ≡ 1 → b .kind ≡ 1
-      → (take (a .length) new ≡ take (b .length) new′) ↔ ((q : Q) → Allows q → (c d : WmAnswer) → asking q x c → asking q y d → Same x y c d)
+      → (take (a .length) new ≡ take (b .length) new′) ↔ Alike asking Allows Same x y
   rewritten-same x y old new old′ new′ a b bx by v w k l =
       let v = wrote (rewriting x) v k in
       let w = wrote (rewriting y) w l in
-      let ax = was-accepted x v in
-      let ay = was-accepted y w in
-      Iff·trans (equally-written v w) (Iff·trans (rewrites .same-exactly x y bx by (v .wants) (w .wants)) (
-        λ same q allowed c d e e′. compared q x y c d ax ay e e′ .1 (same q allowed),
-        λ same q allowed. let (c, e) = met q x in let (d, e′) = met q y in compared q x y c d ax ay e e′ .0 (same q allowed c d e e′),
-      ))
+      Iff·trans (equally-written v w) (Iff·trans (rewrites .same-exactly x y bx by (v .wants) (w .wants)) (alike-exactly asked (was-accepted x v) (was-accepted y w)))
 
   module _ (p old new : List ℕ) (a : WmAnswer) (writes : WmWrites (rewriting p) old new a) (k : a .kind ≡ 1) where
     rewriting-wrote : Wrote (rewriting p) old new a
@@ -104,7 +113,7 @@ module _ {A Q R : Type 0} {judgement : List ℕ → Judged A} {rewriting : List 
     rewritten-alike q c d e e′ =
         let w = rewriting-wrote in
         let alike : told q (take (a .length) new) ≡ told q p = rw (wrote-first w) (rewrites .rewritten p (w .wants) .answers-alike q) in
-        compared q p (take (a .length) new) c d (was-accepted p w) again-accepted e e′ .1 (sym alike)
+        asked .compared q p (take (a .length) new) c d (was-accepted p w) again-accepted e e′ .1 (sym alike)
 
     pub rewritten-shorter : a .length ≤ length p
     rewritten-shorter = let w = rewriting-wrote in rw (wrote-long w) (rewrites .rewritten p (w .wants) .never-longer)
@@ -162,10 +171,33 @@ pub older-refuse : (p : List ℕ) (n at : ℕ) → judgeOlder 0 p ≡ refused n 
 unfolding canonicalOlder
 older-refuse p n at e = rw e
 
-pub names-compared : (kindOf : ℕ → Kind) (q : Question) (x y : List ℕ) (a b : WmAnswer) → Accepted (judgeNames kindOf 0) x → Accepted (judgeNames kindOf 0) y → a ≡ wmPlace (asPlace (ask kindOf q x)) → b ≡ wmPlace (asPlace (ask kindOf q y)) → SameAnswer x y a b ↔ (asTold (ask kindOf q x) ≡ asTold (ask kindOf q y))
+names-compared : (kindOf : ℕ → Kind) (q : Question) (x y : List ℕ) (a b : WmAnswer) → Accepted (judgeNames kindOf 0) x → Accepted (judgeNames kindOf 0) y → a ≡ wmPlace (asPlace (ask kindOf q x)) → b ≡ wmPlace (asPlace (ask kindOf q y)) → SameAnswer x y a b ↔ (asTold (ask kindOf q x) ≡ asTold (ask kindOf q y))
 unfolding ask askAt asked
 names-compared kindOf q x y a b ax ay e e′ = places-same (answer (idOf q) (queryOf q)) (judgeNames kindOf 0 x) (judgeNames kindOf 0 y) (ax .judged) (ay .judged) (λ p h. questions-answered kindOf .very-bytes q x h) (λ p h. questions-answered kindOf .very-bytes q y h) e e′
 
-pub metadata-compared : (q : ItemQuestion) (x y : List ℕ) (a b : WmAnswer) → Accepted (judgeMetadata anyItem 0) x → Accepted (judgeMetadata anyItem 0) y → a ≡ wmPlace (asPlace (askMetadata anyItem (q .0) (q .1) 0 x)) → b ≡ wmPlace (asPlace (askMetadata anyItem (q .0) (q .1) 0 y)) → SameAnswer x y a b ↔ (itemTold anyItem q x ≡ itemTold anyItem q y)
+metadata-compared : (q : ItemQuestion) (x y : List ℕ) (a b : WmAnswer) → Accepted (judgeMetadata anyItem 0) x → Accepted (judgeMetadata anyItem 0) y → a ≡ wmPlace (asPlace (askMetadata anyItem (q .0) (q .1) 0 x)) → b ≡ wmPlace (asPlace (askMetadata anyItem (q .0) (q .1) 0 y)) → SameAnswer x y a b ↔ (itemTold anyItem q x ≡ itemTold anyItem q y)
 unfolding askMetadata
 metadata-compared q x y a b ax ay e e′ = places-same (itemAt (q .0) (q .1)) (judgeMetadata anyItem 0 x) (judgeMetadata anyItem 0 y) (ax .judged) (ay .judged) (λ p h. any-metadata-answered .very-bytes q x h) (λ p h. any-metadata-answered .very-bytes q y h) e e′
+
+-- The calls of each kind
+pub names-asked : (kindOf : ℕ → Kind) → Asked (judgeNames kindOf 0) (λ q p. asTold (ask kindOf q p)) (λ q p a. a ≡ wmPlace (asPlace (ask kindOf q p))) SameAnswer
+names-asked kindOf = record { met = λ q x. (_, refl); compared = names-compared kindOf }
+
+pub metadata-asked : Asked (judgeMetadata anyItem 0) (itemTold anyItem) (λ q. wm-metadata (q .0 .0) (q .1 .0)) SameAnswer
+metadata-asked = record { met = λ q x. (_, refl); compared = metadata-compared }
+
+pub hints-asked : Asked (judgeMetadata hintItem 0) hintTold (λ q. wm-hint (q .0 .0) (q .1 .0)) (λ _ _ a b. a ≡ b)
+hints-asked = record { met = λ q x. (_, refl); compared = λ q x y a b _ _. hints-same (askHint (q .0) (q .1) 0 x) (askHint (q .0) (q .1) 0 y) }
+
+pub older-asked : Asked (judgeOlder 0) olderTold (λ q. wm-old-hint (q .0 .0) (q .1 .0)) (λ _ _ a b. a ≡ b)
+older-asked = record { met = λ q x. (_, refl); compared = λ q x y a b _ _. hints-same (askOlder (q .0) (q .1) 0 x) (askOlder (q .0) (q .1) 0 y) }
+
+-- and where each kind is written
+pub names-written : (edition : Edition) → WhereWritten (judgeNames (kindIn edition) 0) (canonicalNames (kindIn edition)) (λ q p. asTold (ask (kindIn edition) q p)) (AllowedBy (kindIn edition))
+names-written edition = always-written (edition-rewritten edition) (names-first-judged (kindIn edition))
+
+pub metadata-written : WhereWritten (judgeMetadata anyItem 0) canonicalMetadata (itemTold anyItem) ItemInRange
+metadata-written = always-written any-metadata-rewritten metadata-first-judged
+
+pub hints-written : WhereWritten (judgeMetadata hintItem 0) canonicalHints hintTold ItemInRange
+hints-written = always-written hints-rewritten hints-first-judged
