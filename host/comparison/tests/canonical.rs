@@ -2,8 +2,8 @@
 
 use comparison::held::{Held, FIRST, WIDER};
 use comparison::library::{
-    hints_canonical, metadata_canonical, names_canonical, old_hints_canonical, wide_names_canonical,
-    Told,
+    hints_canonical, metadata_canonical, names_canonical, old_hints_canonical,
+    wide_names_canonical, Told,
 };
 use comparison::made;
 use comparison::random::{seed, Random};
@@ -57,10 +57,7 @@ fn compare<Of: Held>(
 }
 
 /// Whatever else says the same is longer than the canonical payload, and comes to it.
-fn others_are_longer<Of: Held>(
-    make: fn(&mut Random) -> Of,
-    rewrite: fn(&[u8], &mut [u8]) -> Told,
-) {
+fn others_are_longer<Of: Held>(make: fn(&mut Random) -> Of, rewrite: fn(&[u8], &mut [u8]) -> Told) {
     let mut others = 0;
     for held in held(make) {
         let [canonical, padded, with_empty] = payloads(&[held]);

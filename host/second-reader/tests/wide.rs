@@ -121,7 +121,7 @@ fn a_module_without_the_section_gets_none() {
 #[test]
 fn through_a_module_the_walk_comes_first() {
     let bad_names = custom_section(b"name", b"\x07\x01\xFF");
-    let names_alone = module(&[bad_names.clone()]);
+    let names_alone = module(std::slice::from_ref(&bad_names));
     assert_eq!(wide_global_name_in(&names_alone, 0), refused(2, 15 + 2));
     assert_eq!(wide_kept_in(&names_alone, 7), refused(2, 15 + 2));
     assert_eq!(kept_in(&names_alone, 7), found(15 + 2, 1));
