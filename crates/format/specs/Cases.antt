@@ -22,9 +22,10 @@ use Rattle.format.specs.Older.{times, vector, zeroByte, olderKind, older
 use Rattle.format.specs.Telling.{asFew, isItsRewriting, namesAreCanonical, itemsAreCanonical}
 use Rattle.format.specs.Outputs.{fitting, writeAnswer, outputAfter}
 use Rattle.format.specs.Lists.{sum, listed, unsortedAt, badTextAt, subsection, functionNames}
+use Rattle.format.specs.Why.{named, noSubsection, noGroup, noEntry, whyFrom, whyIn, whyFunction, whyLocal}
 use Rattle.format.specs.Through.{through, askThrough, metadataSection, itemOf, askMetadataThrough, askHintThrough}
 use Rattle.format.specs.Listing.{digits, decimal, piece, line, sectionLines, payloadLine, printed, greatestInput, listing}
-use Rattle.format.specs.Examples.{digit, hex, Result, isAccepted, value, isNone, isLikely, isUnlikely, found, bytes, refusal, ofOutcome, of, place, likelihood, numberIs, namesAre, answerIs, canonicalIs, hintIs, function, localIn, P, Example, _gives_, computed, stated}
+use Rattle.format.specs.Examples.{digit, hex, Result, isAccepted, value, isNone, isLikely, isUnlikely, found, bytes, because, refusal, ofOutcome, of, place, likelihood, numberIs, namesAre, answerIs, canonicalIs, hintIs, function, localIn, P, Example, _gives_, computed, stated}
 
 nameIs : String → Result
 nameIs s = ofOutcome (λ p _. place (some p)) (name 0 (hex s))
@@ -467,6 +468,83 @@ older =
 pub older-hold : map computed older ≡ map stated older
 unfolding older computed stated olderAre olderIs olderCanonicalIs hex digit of likelihood number groups shortest fewest size writeTable writeRows times vector zeroByte olderKind olderHint olderEntry judgeOlder firstAt firstIn askOlder putFirst amend withHints sortedFrom writeOlderHints writeOlder notTooLong canonicalOlder
 older-hold = refl
+
+-- K7: why a function or a local has no name, or where its name stands
+whyFunctionIs : ℕ → String → Result
+whyFunctionIs k s = of because (whyFunction (record { 0 = k }) (hex s))
+
+whyLocalIs : (function local : ℕ) → String → Result
+whyLocalIs k j s = of because (whyLocal (record { 0 = k }) (record { 0 = j }) (hex s))
+
+-- functions 0 and 4,294,967,295
+farApart : String
+farApart = "01 0B 02 00 01 61 FF FF FF FF 0F 01 62"
+
+-- functions 1 and 3, the one with locals 0 and 1, the other with locals 2 and 5
+twoGroups : String
+twoGroups = "02 11 02 01 02 00 01 61 01 01 62 03 02 02 01 63 05 01 64"
+
+pub reasons : List Example
+reasons =
+    -- no subsection 1: no subsection at all, a later one, one that is kept
+    whyFunctionIs 0 "" gives because noSubsection ∷
+    whyFunctionIs 0 "02 01 00" gives because noSubsection ∷
+    whyFunctionIs 7 "07 01 FF" gives because noSubsection ∷
+    -- an empty map is a map, and has no neighbours
+    whyFunctionIs 0 "01 01 00" gives because (noEntry none none) ∷
+    -- one entry: below it, above it, itself; an entry with an empty name is one
+    whyFunctionIs 4 "01 04 01 05 01 61" gives because (noEntry none (some 5)) ∷
+    whyFunctionIs 6 "01 04 01 05 01 61" gives because (noEntry (some 5) none) ∷
+    whyFunctionIs 5 "01 04 01 05 01 61" gives because (named 1 0) ∷
+    whyFunctionIs 5 "01 03 01 05 00" gives because (named 1 0) ∷
+    -- the least and the greatest index, and all between them
+    whyFunctionIs 0 farApart gives because (named 1 0) ∷
+    whyFunctionIs 1 farApart gives because (noEntry (some 0) (some 4_294_967_295)) ∷
+    whyFunctionIs 4_294_967_294 farApart gives because (noEntry (some 0) (some 4_294_967_295)) ∷
+    whyFunctionIs 4_294_967_295 farApart gives because (named 1 1) ∷
+    -- the last of three, and the nearest of three
+    whyFunctionIs 7 "01 0A 03 01 01 61 02 01 62 07 01 63" gives because (named 1 2) ∷
+    whyFunctionIs 3 "01 0A 03 01 01 61 02 01 62 07 01 63" gives because (noEntry (some 2) (some 7)) ∷
+    whyFunctionIs 9 "01 0A 03 01 01 61 02 01 62 07 01 63" gives because (noEntry (some 7) none) ∷
+    -- a padded index is that index
+    whyFunctionIs 5 "01 05 01 85 00 01 61" gives because (named 1 0) ∷
+    whyFunctionIs 4 "01 05 01 85 00 01 61" gives because (noEntry none (some 5)) ∷
+    -- the questions of E5, between other subsections
+    whyFunctionIs 1 P gives because (noEntry (some 0) (some 3)) ∷
+    whyFunctionIs 3 P gives because (named 1 1) ∷
+    -- a refused payload gives no reason, also where the fault is behind the map
+    whyFunctionIs 0 "01 00" gives refusal 2 2 ∷
+    whyFunctionIs 5 "01 04 01 05 01 61 01 00" gives refusal 9 6 ∷
+    -- no subsection 2: the map of functions does not count
+    whyLocalIs 0 0 "" gives because noSubsection ∷
+    whyLocalIs 5 0 "01 04 01 05 01 61" gives because noSubsection ∷
+    -- no group at all, and none for that function: before, between and behind others
+    whyLocalIs 0 0 "02 01 00" gives because noGroup ∷
+    whyLocalIs 0 0 twoGroups gives because noGroup ∷
+    whyLocalIs 2 0 twoGroups gives because noGroup ∷
+    whyLocalIs 4 0 twoGroups gives because noGroup ∷
+    -- a group without entries is a group
+    whyLocalIs 3 0 "02 03 01 03 00" gives because (noEntry none none) ∷
+    whyLocalIs 2 0 "02 03 01 03 00" gives because noGroup ∷
+    -- a position counts in its own group
+    whyLocalIs 1 1 twoGroups gives because (named 2 1) ∷
+    whyLocalIs 3 2 twoGroups gives because (named 2 0) ∷
+    whyLocalIs 3 5 twoGroups gives because (named 2 1) ∷
+    -- and neighbours are of that group
+    whyLocalIs 1 2 twoGroups gives because (noEntry (some 1) none) ∷
+    whyLocalIs 3 1 twoGroups gives because (noEntry none (some 2)) ∷
+    whyLocalIs 3 3 twoGroups gives because (noEntry (some 2) (some 5)) ∷
+    -- the questions of E6
+    whyLocalIs 3 0 P gives because (named 2 0) ∷
+    whyLocalIs 0 0 P gives because noGroup ∷
+    -- refused behind the group: in the next group, and in the next subsection
+    whyLocalIs 3 0 "02 08 02 03 01 00 01 78 03 00" gives refusal 11 8 ∷
+    whyLocalIs 3 0 "02 06 01 03 01 00 01 78 01 00" gives refusal 9 8 ∷
+    []
+
+pub reasons-hold : map computed reasons ≡ map stated reasons
+unfolding reasons computed stated whyFunctionIs whyLocalIs farApart twoGroups P hex digit of number groups utf8 characters character sized name remaining lookup rows table known knownKind contents subsections payload judgeNames whyFrom whyIn whyFunction whyLocal
+reasons-hold = refl
 
 -- The listing
 pub listings : List Example

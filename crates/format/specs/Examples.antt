@@ -19,6 +19,7 @@ use Rattle.format.specs.declared.Question.{Question}
 use Rattle.format.specs.declared.Question.the-variants.{ModuleName, FunctionName, LocalName, KeptContents}
 use Rattle.format.specs.Metadata.{hintOf, hintItem, metadata, judgeMetadata, itemAt, askMetadata, hintIn, askHint}
 use Rattle.format.specs.Canonical.{writePart, writeRows, writeTable, unlessEmpty, keepRows, bare, writeContent, writeSubsections, rewriteNames, canonicalNames}
+use Rattle.format.specs.Why.{Why}
 use Rattle.format.specs.declared.Hint.{Hint}
 use Rattle.format.specs.declared.Hint.the-variants.{Unlikely, Likely}
 
@@ -38,6 +39,7 @@ pub data Result : Type 0 where
   isAccepted isNone isLikely isUnlikely : Result
   found : ℕ → ℕ → Result
   bytes : List ℕ → Result
+  because : Why → Result
   refusal : ℕ → ℕ → Result
 
 unfoldable pub ofOutcome : {A : Type 0} → (A → ℕ → Result) → Outcome A → Result

@@ -32,6 +32,7 @@ pub mod Hints
 pub mod Places
 pub mod Found
 pub mod Holding
+pub mod Why
 pub mod Lists
 pub mod Editions
 pub mod Questions

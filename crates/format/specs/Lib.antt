@@ -11,6 +11,7 @@ pub mod Walk
 pub mod Names
 pub mod Questions
 pub mod Holding
+pub mod Why
 pub mod Metadata
 pub mod Through
 pub mod Canonical

@@ -13,14 +13,15 @@ use Rattle.format.specs.Bytes.{Bytes, ascii, same}
 use Rattle.format.specs.Reading.{got, Reader, Judged, accepted, refused, mapJudged, Accepted}
 use Rattle.format.specs.Numbers.{number, shortest, limit32}
 use Rattle.format.specs.Parts.{Part}
-use Rattle.format.specs.Tables.{mapTable}
-use Rattle.format.specs.Names.{Kind, nameMap, kindIn, judgeNames}
+use Rattle.format.specs.Tables.{Table, mapTable}
+use Rattle.format.specs.Names.{Kind, nameMap, knownKind, kindIn, Content, judgeNames}
 use Rattle.format.specs.declared.Edition.{Edition}
 use Rattle.format.specs.Questions.{answer, Allowed, asked, idOf, queryOf, AllowedBy, askAt, ask, asTold}
 use Rattle.format.specs.declared.Question.{Question}
-use Rattle.format.specs.declared.Question.the-variants.{FunctionName}
+use Rattle.format.specs.declared.Question.the-variants.{FunctionName, LocalName}
 use Rattle.format.specs.declared.Query.{Query}
 use Rattle.format.specs.Holding.{HasWithin, Holds, Lists, Covers}
+use Rattle.format.specs.Why.{Why, named, TrueOfFunction, TrueOfLocal, whyFunction, whyLocal}
 use Rattle.format.specs.Walk.{preamble, Section, walk, nameSection, branchHint, hintSection, customPayload}
 use Rattle.format.specs.Metadata.{dataOf, anyItem, hintItem, judgeMetadata, itemAt, askMetadata, hintIn, askHint}
 use Rattle.format.specs.Through.{through, askThrough, metadataSection, itemOf, askMetadataThrough, askHintThrough}
@@ -35,6 +36,7 @@ use Rattle.format.specs.Laws.Walk.{walk-covers}
 use Rattle.format.specs.Laws.Places.{PartIn, Located, any-located, hint-located, lies-there, lies-inside, lies-all}
 use Rattle.format.specs.Laws.Found.{name-lies, item-lies, name-lies-through, item-lies-through, through-map}
 use Rattle.format.specs.Laws.Holding.{none-exactly, within-exactly, answer-exactly}
+use Rattle.format.specs.Laws.Why.{function-exactly, local-exactly, function-told, local-told, function-named, local-named, function-refused, local-refused}
 use Rattle.format.specs.Laws.Answers.{told-none}
 use Rattle.format.specs.Laws.Questions.{AllPosed, all-posed, posed-told}
 use Rattle.format.specs.Laws.CanonicalNames.{told-is, canonical-is, canonical-accepted, canonical-stays, rewriting-canonical, rewriting-told, rewriting-shorter, same-answers, same-rewriting}
@@ -45,6 +47,7 @@ use Rattle.format.specs.Laws.CanonicalOlder.{inOrder, order-shorter, old
 use Rattle.format.specs.Laws.UnchangedOlder.{older-rises}
 use Rattle.format.specs.Laws.Lists.{written, listed-told, other-told, lists-stay}
 use Rattle.format.specs.declared.FunctionIndex.{FunctionIndex}
+use Rattle.format.specs.declared.LocalIndex.{LocalIndex}
 use Rattle.format.specs.declared.CodeOffset.{CodeOffset}
 use Rattle.format.specs.declared.InstructionOffset.{InstructionOffset}
 use Rattle.format.specs.declared.Hint.{Hint}
@@ -106,6 +109,17 @@ pub record AnswersHints : Type 0 where
   pub found : {p : List ℕ} (a : Accepted (judgeMetadata hintItem 0) p) (f : FunctionIndex) (at : CodeOffset) (h : Hint) → (askHint f at 0 p ≡ accepted (some h)) ↔ HasWithin (f .0) (at .0) (dataOf h) (bareItems (a .value))
   pub none-found : {p : List ℕ} (a : Accepted (judgeMetadata hintItem 0) p) (f : FunctionIndex) (at : CodeOffset) → (askHint f at 0 p ≡ accepted none) ↔ ((x : List ℕ) → HasWithin (f .0) (at .0) x (bareItems (a .value)) → ⊥)
   pub refuses : (f : FunctionIndex) (at : CodeOffset) (p : List ℕ) (n o : ℕ) → (askHint f at 0 p ≡ refused n o) ↔ (judgeMetadata hintItem 0 p ≡ refused n o)
+
+-- K7. "For an accepted payload and a function or local question answered none, a tool names one reason: no such subsection; a subsection without a group for that function; or a map without that index, with the nearest mapped index below and above, if any. For a name found it gives the subsection and the entry's position in its map, from 0. Exactly one reason is true of each such question, and it is the one given." What is true of an accepted payload is said without any search (specs/Why.antt).
+module _ {Q : Type 0} (id : ℕ) (question : Q → Question) (why : Q → List ℕ → Judged Why) (True : Q → Table (Content (List ℕ)) → Why → Type 0) where
+  pub record AnswersWhy : Type 0 where
+    -- something is given, and exactly that is true
+    pub gives : {p : List ℕ} → Accepted (judgeNames knownKind 0) p → (q : Q) → (w : Why) × (why q p ≡ accepted w)
+    pub true-exactly : {p : List ℕ} (a : Accepted (judgeNames knownKind 0) p) (q : Q) (w : Why) → (why q p ≡ accepted w) ↔ True q (mapTable bare (a .value)) w
+    -- it is a place exactly where the lookup finds a name
+    pub named-exactly : {p : List ℕ} → Accepted (judgeNames knownKind 0) p → (q : Q) → ((n : ℕ) × (why q p ≡ accepted (named id n))) ↔ ((x : Part) × (ask knownKind (question q) p ≡ accepted (some x)))
+    -- a refusal is the judgement's, whatever was asked
+    pub refuses : (q : Q) (p : List ℕ) (n at : ℕ) → (why q p ≡ refused n at) ↔ (judgeNames knownKind 0 p ≡ refused n at)
 
 -- Demand 2 through a module. "Asked through an accepted module without the section, each gets none." "A payload asked through its module is judged after the walk and counts from the module's start."
 module _ {Q : Type 0} (section : Q → List ℕ) (question : Q → ℕ → List ℕ → Judged (Option Part)) (answer : Q → List ℕ → Judged (Option Part)) where
@@ -205,6 +219,23 @@ edition-rewritten edition = questions-rewritten (kindIn edition) (all-posed edit
 
 pub edition-shortest : (edition : Edition) → OthersLonger (judgeNames (kindIn edition) 0) (canonicalNames (kindIn edition)) (λ q p. asTold (ask (kindIn edition) q p)) (AllowedBy (kindIn edition))
 edition-shortest edition = others-longer (edition-rewritten edition) (names-unchanged (kindIn edition))
+
+-- Why there is no name, or where it stands; what is asked is a function, or a function and a local
+pub functions-why : AnswersWhy 1 FunctionName whyFunction (λ f. TrueOfFunction (f .0))
+functions-why = record {
+  gives = λ a f. (_, function-told a f _ .1 (function-exactly a (f .0) .1 refl));
+  true-exactly = λ a f w. function-told a f w;
+  named-exactly = λ a f. function-named a f;
+  refuses = λ f p n at. function-refused p f;
+}
+
+pub locals-why : AnswersWhy {Q = FunctionIndex × LocalIndex} 2 (λ q. LocalName (q .0) (q .1)) (λ q. whyLocal (q .0) (q .1)) (λ q. TrueOfLocal (q .0 .0) (q .1 .0))
+locals-why = record {
+  gives = λ a q. (_, local-told a (q .0) (q .1) _ .1 (local-exactly a (q .0 .0) (q .1 .0) .1 refl));
+  true-exactly = λ a q w. local-told a (q .0) (q .1) w;
+  named-exactly = λ a q. local-named a (q .0) (q .1);
+  refuses = λ q p n at. local-refused p (q .0) (q .1);
+}
 
 -- Code metadata, over any item; what is asked is a function and an offset
 abbrev pub ItemQuestion : Type 0

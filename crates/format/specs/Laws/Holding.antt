@@ -22,7 +22,7 @@ use Rattle.format.specs.Laws.Names.{NameFine, ContentFine, namesFine, na
 use Rattle.format.specs.Laws.CanonicalNames.{AcceptedNames, held, read-whole}
 
 module _ {A : Type 0} where
-  has-least : {P : ℕ → A → Type 0} {k least : ℕ} {v : A} {t : Table A} → Sorted P least t → Has k v t → least ≤ k
+  pub has-least : {P : ℕ → A → Type 0} {k least : ℕ} {v : A} {t : Table A} → Sorted P least t → Has k v t → least ≤ k
   has-least (next l p s) first = l
   has-least (next l p s) (later h) = let further = has-least s h in omega arith
 
@@ -70,10 +70,10 @@ module _ {t : Table (Content (List ℕ))} where
   held-in id (NameWithin k j) (namesBy m) h e = inThen (lookup k m) _ e λ u e₁ e₂. theInner h (record { group = u; outer = lookup-has k m e₁; inner = lookup-has j u e₂ })
   held-in id (NameWithin k j) (whole y) h e = absurd (not-some e)
 
-names-sorted : {k : Kind} {m : Table (List ℕ)} → ContentFine k (names m) → TableFine NameFine m
+pub names-sorted : {k : Kind} {m : Table (List ℕ)} → ContentFine k (names m) → TableFine NameFine m
 names-sorted (namesFine h) = h
 
-groups-sorted : {k : Kind} {m : Table (Table (List ℕ))} → ContentFine k (namesBy m) → TableFine (TableFine NameFine) m
+pub groups-sorted : {k : Kind} {m : Table (Table (List ℕ))} → ContentFine k (namesBy m) → TableFine (TableFine NameFine) m
 groups-sorted (namesByFine h) = h
 
 module _ (kindOf : ℕ → Kind) where
