@@ -49,7 +49,7 @@ use Rattle.names.proofs.PlaceLaws.{not-kept, unless-known}
 use Rattle.names.proofs.Verdicts.{refused-so}
 
 -- The contents at a place
-as-absent : (x : Held) → tagOf held-type.the-type x ≡ 0 → x ≡ Absent
+pub as-absent : (x : Held) → tagOf held-type.the-type x ≡ 0 → x ≡ Absent
 as-absent Absent h = refl
 as-absent (At d) h = absurd (omega arith)
 

@@ -239,11 +239,11 @@ rules-kept e = record { says = rw e }
 pub ruleset content-steps = (rules-one, rules-map, rules-indirect, rules-kept, needs)
 
 -- What was accepted stands there for a reader without the checks that it passed
-record Lax {A : Type 0} (lax : Reader A) (wrap : A → Content Part) (s : List ℕ) (part : Cursor) (held : Content Part) : Type 0 where
-  value : A
-  next : Cursor
-  stands : Stands lax s part value next
-  is : wrap value ≡ held
+pub record Lax {A : Type 0} (lax : Reader A) (wrap : A → Content Part) (s : List ℕ) (part : Cursor) (held : Content Part) : Type 0 where
+  pub value : A
+  pub next : Cursor
+  pub stands : Stands lax s part value next
+  pub is : wrap value ≡ held
 
 lax-stands : {A : Type 0} {strict lax : Reader A} → Laxer strict lax → Passable lax → (wrap : A → Content Part) {s : List ℕ} {part : Cursor} {held : Content Part} → Inside s part → judge (andThen (filling strict (part .at) (left s part)) (λ x. return (wrap x))) ≡ accepted held → Lax lax wrap s part held
 lax-stands {strict = strict} l passes wrap {s} {part} i e =
@@ -253,14 +253,22 @@ lax-stands {strict = strict} l passes wrap {s} {part} i e =
     record { value = v; next = _; stands = stand passes i reads; is = accepted-is (rw r at e) })
     (λ n at r. absurd (not-accepted (rw r at e)))
 
+module _ {s : List ℕ} {part : Cursor} {held : Content Part} (i : Inside s part) where
+  pub map-stands : judge (contents nameMap (part .at) (left s part)) ≡ accepted held → Lax (table sized) names s part held
+  unfolding contents
+  map-stands e = lax-stands (table-laxer name-laxer) (table-passable sized-passes) names i e
+
+  pub indirect-stands : judge (contents indirectMap (part .at) (left s part)) ≡ accepted held → Lax (table (table sized)) namesBy s part held
+  unfolding contents
+  indirect-stands e = lax-stands (table-laxer (table-laxer name-laxer)) (table-passable (table-passable sized-passes)) namesBy i e
+
 module _ {s : List ℕ} {place : Held} {part : Cursor} (at-part : place ≡ At part) where
   known-inside : {kind : AnyKind} → KnownAt kind s place → Inside s part
   known-inside h = rw at-part at (h .inside)
 
   module _ (h : KnownAt nameMap s place) where
     map-lax : Lax (table sized) names s part ((rw at-part at (h .known)) .value)
-    unfolding contents
-    map-lax = lax-stands (table-laxer name-laxer) (table-passable sized-passes) names (known-inside h) ((rw at-part at (h .known)) .judged)
+    map-lax = map-stands (known-inside h) ((rw at-part at (h .known)) .judged)
 
     pub map-known : Known (table sized) s part
     map-known = let l = map-lax in record { value = l .value; next = l .next; stands = l .stands }
@@ -273,8 +281,7 @@ module _ {s : List ℕ} {place : Held} {part : Cursor} (at-part : place ≡ At p
 
   module _ (h : KnownAt indirectMap s place) where
     indirect-lax : Lax (table (table sized)) namesBy s part ((rw at-part at (h .known)) .value)
-    unfolding contents
-    indirect-lax = lax-stands (table-laxer (table-laxer name-laxer)) (table-passable (table-passable sized-passes)) namesBy (known-inside h) ((rw at-part at (h .known)) .judged)
+    indirect-lax = indirect-stands (known-inside h) ((rw at-part at (h .known)) .judged)
 
     pub indirect-known : Known (table (table sized)) s part
     indirect-known = let l = indirect-lax in record { value = l .value; next = l .next; stands = l .stands }

@@ -75,14 +75,14 @@ module _ {A : Type 0} (read : Reader A) {s : List ℕ} {c : Cursor} {begun : Row
   seeking-begins key w = record { along = setting-out (table-rows read count (w .stands)); same = refl }
 
   -- all the rows are the table
-  whole-table : {left : Rows} (a : Along read s begun left) → Stands (table read) s c (a .all) (a .last)
+  pub whole-table : {left : Rows} (a : Along read s begun left) → Stands (table read) s c (a .all) (a .last)
   whole-table a = rows-table read count (a .whole)
 
 module _ {A : Type 0} (read : Reader A) {key : ℕ} {s : List ℕ} {begun left : Rows} (t : Seeking read key s begun left) where
   pub rows-known : Known (rows read (left .more) 0) s (left .next)
   rows-known = still-known (t .along)
 
-  none-left : left .more ≡ 0 → lookup key (t .along .all) ≡ none
+  pub none-left : left .more ≡ 0 → lookup key (t .along .all) ≡ none
   unfolding lookup
   none-left h = t .same ∙ rw (ended (t .along) h .nothing)
 
@@ -92,11 +92,11 @@ module _ {A : Type 0} (read : Reader A) {key : ℕ} {s : List ℕ} {begun left :
   missed {k} split n = t .same ∙ rw (split, ne-eqb key k n)
 
   module _ {k : ℕ} {place : Cursor} {v : A} {next : Cursor} (p : Splits read s left k place v next) where
-    hit : key ≡ k → lookup key (t .along .all) ≡ some v
+    pub hit : key ≡ k → lookup key (t .along .all) ≡ some v
     unfolding lookup
     hit e = t .same ∙ rw (one-value (t .along .rest) (p .to-come), eq-eqb key k e)
 
-    past : key ≤ k → (key ≡ k → ⊥) → lookup key (t .along .all) ≡ none
+    pub past : key ≤ k → (key ≡ k → ⊥) → lookup key (t .along .all) ≡ none
     past h n = missed (one-value (t .along .rest) (p .to-come)) n ∙ rows-above read (left .more - 1) (suc k) (next .at) (leftOf s next) key (p .others-come .reads) (omega arith)
 
     seeks-on : k < key → Seeking read key s begun (behindAt left next)
