@@ -14,10 +14,13 @@ use Rattle.format.specs.declared.Question.{Question}
 use Rattle.format.specs.Reading.{mapJudged, verdict}
 use Rattle.format.specs.Telling.{namesAreCanonical, itemsAreCanonical, olderIsCanonical}
 use Rattle.format.specs.Through.{askThrough, askMetadataThrough, askHintThrough, askOlderThrough}
+use Rattle.format.specs.Why.{whyFunction, whyLocal}
 use Rattle.format.specs.Walk.{sectionCount, sectionAt, customPayload}
 use Rattle.walk.specs.Surveys.{sectionPlace}
 use Rattle.wakemiono.specs.Boundary.{wmCount, wmSection, wmPlace, wmJudged, wmHint, wmYes, WmWrites}
+use Rattle.wakemiono.specs.Why.{wmWhy}
 use Rattle.wakemiono.specs.declared.WmAnswer.{WmAnswer}
+use Rattle.wakemiono.specs.declared.why.WmWhy.{WmWhy}
 
 abbrev pub wm-walk : List ℕ → WmAnswer → Type 0
 wm-walk bytes a = a ≡ wmCount (sectionCount bytes)
@@ -111,3 +114,10 @@ wm-old-hints-is-canonical payload a = a ≡ wmYes (olderIsCanonical payload)
 
 abbrev pub wm-function-names-write : (indices lengths text old new : List ℕ) → WmAnswer → Type 0
 wm-function-names-write indices lengths text old new a = WmWrites (functionNames indices lengths text) old new a
+
+-- K7: why a function or a local has no name
+abbrev pub wm-why-function : (function : ℕ) → List ℕ → WmWhy → Type 0
+wm-why-function function payload a = a ≡ wmWhy (whyFunction (record { 0 = function }) payload)
+
+abbrev pub wm-why-local : (function local : ℕ) → List ℕ → WmWhy → Type 0
+wm-why-local function local payload a = a ≡ wmWhy (whyLocal (record { 0 = function }) (record { 0 = local }) payload)

@@ -29,6 +29,7 @@ use walk::Counted;
 use walk::survey::SectionAnswer;
 
 pub mod old_hints;
+pub mod why;
 pub mod wide;
 
 // One answer for all calls, by value.
