@@ -5,12 +5,15 @@ use mathlib.Core.Option.{Option, none, some}
 use mathlib.Core.Path.{_≡_, refl}
 use lib.Dec.{eqb}
 use Rattle.format.specs.Reading.{Judged, accepted, refused}
+use Rattle.format.specs.Why.{Why, named, noSubsection, noGroup, noEntry}
 use Rattle.format.specs.declared.Hint.{Hint}
 use Rattle.format.specs.declared.Hint.the-variants.{Unlikely, Likely}
 use Rattle.format.specs.declared.Place.{Place}
 use Rattle.walk.specs.declared.survey.SectionPlace.{SectionPlace}
 use Rattle.wakemiono.specs.Boundary.{wmPlace, wmSection, wmCount, wmJudged, wmHint}
+use Rattle.wakemiono.specs.Why.{wmWhy}
 use Rattle.wakemiono.specs.declared.WmAnswer.{WmAnswer}
+use Rattle.wakemiono.specs.declared.why.WmWhy.{WmWhy}
 
 -- kind 2 is a refusal; kind 0 is none
 abbrev pub unlessRefused : {A : Type 0} → (WmAnswer → A) → WmAnswer → Judged A
@@ -58,3 +61,23 @@ count-said (refused n at) = refl
 pub verdict-said : (length : ℕ) (j : Judged (Unit {0})) → saysVerdict (wmJudged length j) ≡ j
 verdict-said length (accepted v) = refl
 verdict-said length (refused n at) = refl
+
+-- K7: kind 1 is a place, 5 and 6 are reasons alone, and what is left is no entry; a side is there where its first number is 1
+abbrev saysSide : (has index : ℕ) → Option ℕ
+saysSide has index = cond (eqb has 0) none (some index)
+
+abbrev saysNeighbours : WmWhy → Why
+saysNeighbours a = noEntry (saysSide (a .«has_below») (a .below)) (saysSide (a .«has_above») (a .above))
+
+abbrev pub saysWhy : WmWhy → Judged Why
+saysWhy a = cond (eqb (a .kind) 2) (refused (a .code) (a .offset)) (accepted (cond (eqb (a .kind) 1) (named (a .code) (a .position)) (cond (eqb (a .kind) 5) noSubsection (cond (eqb (a .kind) 6) noGroup (saysNeighbours a)))))
+
+pub why-said : (j : Judged Why) → saysWhy (wmWhy j) ≡ j
+why-said (accepted (named id n)) = refl
+why-said (accepted noSubsection) = refl
+why-said (accepted noGroup) = refl
+why-said (accepted (noEntry none none)) = refl
+why-said (accepted (noEntry none (some a))) = refl
+why-said (accepted (noEntry (some b) none)) = refl
+why-said (accepted (noEntry (some b) (some a))) = refl
+why-said (refused n at) = refl

@@ -6,7 +6,7 @@ use mathlib.Core.Bool.{Bool, true, false, cond, _||_}
 use lib.Dec.{ltb, eqb}
 -- `A ↔ B`: each follows from the other; `x ≢ y`: they are not equal; `A × B`: both, and `(x : A) × B`: some x with B; `⊥`: never
 use mathlib.Core.Logic.{_↔_, _≢_}
-use mathlib.Core.Option.{none, some}
+use mathlib.Core.Option.{Option, none, some}
 use mathlib.Core.Path.{_≡_}
 -- the length of a list, its first n elements, the list without them, and the element at a position, counted from 0 (`some`, or `none` past the last)
 use lib.ListN.{length, take, drop, getElem?}
@@ -42,6 +42,10 @@ use Rattle.grammar.specs.Modules.{Section, Among, Called}
 use Rattle.format.specs.Older.{OlderHint, OlderEntry}
 use Rattle.format.specs.declared.Hint.{Hint}
 use Rattle.format.specs.declared.Hint.the-variants.{Unlikely, Likely}
+-- WHY A NAME IS MISSING: `Why` is `named id position`, `noSubsection`, `noGroup` or `noEntry below above`, each side `some` index or `none`. `TrueOfFunction k m w` and `TrueOfLocal k j m w` say, without any search, that w is true of the function k, and of its local j, in a meaning m: no subsection has that id, no row that number; below is the greatest number below that has a row, and above the least above; a row stands at a position, from 0. Two calls answer with a record of eight numbers: `wmNamed id position` has kind 1 and these as its code and position, `wmAlone 5` and `wmAlone 6` have kind 5 and 6 and nothing else, `wmNoEntry below above` kind 7 and, for each side that there is, 1 and its index, `wmWhyRefused number offset` kind 2 and these. `wmWhy (accepted w)` is the one for w.
+use Rattle.format.specs.Why.{Why, TrueOfFunction, TrueOfLocal}
+use Rattle.wakemiono.specs.Why.{wmAlone, wmNamed, wmNoEntry, wmWhyRefused, wmWhy}
+use Rattle.wakemiono.specs.declared.why.WmWhy.{WmWhy}
 -- EXAMPLES are written as their bytes: `hex "07 01 00"`.
 use Rattle.format.specs.Examples.{hex}
 -- LISTS. `Indices is`: each number in the list is below 4,294,967,296. `sum ns`: the numbers added up. `Text x characters`: the bytes x are the UTF-8 encoding of the characters. `Lists k x indices lengths text`: k is listed, and x is its own stretch of the text. `Lists k x (k ∷ is) (n ∷ ns) text` from `take n text ≡ x`, and `Lists k x (i ∷ is) (n ∷ ns) text` from `Lists k x is ns (drop n text)`.
@@ -60,7 +64,7 @@ use Rattle.format.specs.declared.Question.the-variants.{ModuleName, FunctionNam
 -- Of metadata and hints: `ItemQuestion` is a function and an offset, each a record of one number; `ItemInRange q` says that both are below 4,294,967,296. `OlderInRange q` says it of a question for a hint of the older edition.
 use Rattle.format.specs.Theorems.{ItemQuestion, ItemInRange, OlderInRange}
 -- THE CALLS, each by its promise: `wm-walk bytes a` says that the answer a is one that the promise of wm_walk allows for these bytes. It is the promise itself, the one name that stands in the `ensures` of the call in crates/wakemiono/src/lib.rt. What the promises come to is said below, so that nothing has to be known of how they are put. `wm-name q` is the promise of the call that asks q: wm_module_name asks `ModuleName`, wm_function_name `FunctionName` of its function, wm_type_name `TypeName` of its index, wm_tag_name `TagName` of its tag, wm_local_name `LocalName` of its function and its local, wm_field_name `FieldName` of its index and its field, wm_kept `KeptContents` of its id; `wm-name-in q` is that of the same call with `_in`, which is lent a module. `wm-wide-name q` and `wm-wide-name-in q` are those of the wider edition, wm_wide_module_name and so on, which has six more: wm_wide_label_name asks `LabelName` of its function and its label, wm_wide_table_name `TableName`, wm_wide_memory_name `MemoryName`, wm_wide_global_name `GlobalName`, wm_wide_element_name `ElementName` and wm_wide_data_name `DataName`. The calls that write are promised of the output before and after, too: `old` and `new`.
-use Rattle.wakemiono.specs.Calls.{wm-walk, wm-section, wm-custom, wm-names-judge, wm-name, wm-metadata-judge, wm-metadata, wm-hints-judge, wm-hint, wm-name-in, wm-metadata-in, wm-hint-in, wm-names-canonical, wm-metadata-canonical, wm-hints-canonical, wm-function-names-write, wm-names-is-canonical, wm-metadata-is-canonical, wm-hints-is-canonical, wm-wide-names-judge, wm-wide-name, wm-wide-name-in, wm-wide-names-canonical, wm-wide-names-is-canonical, wm-old-hints-judge, wm-old-hint, wm-old-hint-in, wm-old-hints-canonical, wm-old-hints-is-canonical}
+use Rattle.wakemiono.specs.Calls.{wm-walk, wm-section, wm-custom, wm-names-judge, wm-name, wm-metadata-judge, wm-metadata, wm-hints-judge, wm-hint, wm-name-in, wm-metadata-in, wm-hint-in, wm-names-canonical, wm-metadata-canonical, wm-hints-canonical, wm-function-names-write, wm-names-is-canonical, wm-metadata-is-canonical, wm-hints-is-canonical, wm-wide-names-judge, wm-wide-name, wm-wide-name-in, wm-wide-names-canonical, wm-wide-names-is-canonical, wm-old-hints-judge, wm-old-hint, wm-old-hint-in, wm-old-hints-canonical, wm-old-hints-is-canonical, wm-why-function, wm-why-local}
 -- THE NUMBER READER of the library, by its promise: from the cursor c over the bytes s it reads the number v, says `told`, and stands at `next`; `left s c` are the bytes from c to the end of the innermost part, and `shortest v` is the shortest form of v. `Inside s c`: the cursor lies in what was lent.
 use Rattle.format.specs.Numbers.{shortest}
 use Rattle.reading.specs.Cursors.{Inside, left}
@@ -563,3 +567,29 @@ pub record K11 : Type 0 where
   pub other-hints : Another wm-hints-judge (λ q. wm-hint (q .0 .0) (q .1 .0)) ItemInRange (λ _ _ a b. a ≡ b) wm-hints-canonical (hex "01 02 01 05 01 01") (hex "01 02 01 05 81 00 01") 6 7
   -- likely at offset 5 of function 0 and unlikely at offset 7 of function 3, the functions the other way round: as long, and not canonical
   pub other-old-hints : Another wm-old-hints-judge (λ q. wm-old-hint (q .0 .0) (q .1 .0)) OlderInRange (λ _ _ a b. a ≡ b) wm-old-hints-canonical (hex "02 00 00 01 01 05 03 00 01 00 07") (hex "02 03 00 01 00 07 00 00 01 01 05") 11 11
+
+-- K7. "Why has this function no name? For an accepted payload and a function or local question answered none, a tool names one reason: no such subsection; a subsection without a group for that function; or a map without that index, with the nearest mapped index below and above, if any. For a name found it gives the subsection and the entry's position in its map, from 0. Exactly one reason is true of each such question, and it is the one given." Proved as `k7` in Proved.antt.
+
+-- What is answered: the place of a name, one of the reasons, or a refusal
+pub data WhyReply : WmWhy → Type 0 where
+  aPlace : (id position : ℕ) → WhyReply (wmNamed id position)
+  noSuchSubsection : WhyReply (wmAlone 5)
+  noSuchGroup : WhyReply (wmAlone 6)
+  noSuchEntry : (below above : Option ℕ) → WhyReply (wmNoEntry below above)
+  whyRefused : (number offset : ℕ) → WhyReply (wmWhyRefused number offset)
+
+-- A call that says why, by what is true of a payload's meaning and by the call that looks the name up
+pub record SaysWhy (asking : List ℕ → WmWhy → Type 0) (True : Table (Content (List ℕ)) → Why → Type 0) (looking : List ℕ → WmAnswer → Type 0) : Type 0 where
+  pub answers : (p : List ℕ) (a : WmWhy) → asking p a → WhyReply a
+  -- "exactly one is true of each such question"
+  pub one-is-true : (p : List ℕ) (m : Table (Content (List ℕ))) → NamePayload SourceIds p m → (w : Why) × True m w × ((v : Why) → True m v → v ≡ w)
+  -- "and it is the one given"
+  pub given : (p : List ℕ) (m : Table (Content (List ℕ))) (a : WmWhy) (w : Why) → NamePayload SourceIds p m → asking p a → (a ≡ wmWhy (accepted w)) ↔ True m w
+  -- a place is given exactly where the name is found, and so a reason exactly where a payload that is accepted answers none
+  pub found-exactly : (p : List ℕ) (a : WmWhy) (b : WmAnswer) → asking p a → looking p b → (a .kind ≡ 1) ↔ (b .kind ≡ 1)
+  -- a refusal is the judging call's own
+  pub refuses : (p : List ℕ) (a : WmWhy) (j : WmAnswer) → asking p a → wm-names-judge p j → (n at : ℕ) → (a ≡ wmWhyRefused n at) ↔ (j ≡ wmRefused n at)
+
+pub record K7 : Type 0 where
+  pub functions : (function : ℕ) → SaysWhy (wm-why-function function) (TrueOfFunction function) (wm-name (FunctionName (record { 0 = function })))
+  pub locals : (function local : ℕ) → SaysWhy (wm-why-local function local) (TrueOfLocal function local) (wm-name (LocalName (record { 0 = function }) (record { 0 = local })))

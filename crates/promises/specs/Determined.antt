@@ -15,5 +15,6 @@ pub mod Out_of_order
 pub mod Reordering
 pub mod Rewrite
 pub mod Through
+pub mod Neighbours
 pub mod Wakemiono
 pub mod Saying

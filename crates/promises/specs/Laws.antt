@@ -16,3 +16,4 @@ pub mod Telling
 pub mod Editions
 pub mod Older
 pub mod Shortest
+pub mod Why

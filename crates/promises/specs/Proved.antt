@@ -12,7 +12,10 @@ use Rattle.grammar.specs.Names.{SourceIds, NamePayload}
 use Rattle.grammar.specs.Metadata.{CodeMetadata, Unknown, BranchHint}
 use Rattle.format.specs.Tables.{Table}
 use Rattle.format.specs.Names.{Content, names}
+use Rattle.format.specs.Why.{TrueOfFunction, TrueOfLocal, whyFunction, whyLocal}
 use Rattle.format.specs.declared.Edition.{Edition}
+use Rattle.format.specs.declared.FunctionIndex.{FunctionIndex}
+use Rattle.format.specs.declared.LocalIndex.{LocalIndex}
 use Rattle.format.specs.declared.Edition.the-variants.{First, Wider}
 use Rattle.format.specs.declared.Question.{Question}
 use Rattle.format.specs.declared.Question.the-variants.{ModuleName, FunctionName, LocalName, LabelName, TypeName, TableName, MemoryName, GlobalName, ElementName, DataName, FieldName, TagName, KeptContents}
@@ -30,7 +33,7 @@ use Rattle.format.specs.Through.{askThrough, askMetadataThrough, askHintThrough
 use Rattle.format.specs.Walk.{nameSection, sectionCount, sectionAt, customPayload}
 use Rattle.wakemiono.specs.Boundary.{wmCount, wmSection, wmPlace, wmJudged, wmHint, wmYes, WmWrites}
 use Rattle.walk.specs.Surveys.{sectionPlace}
-use Rattle.format.specs.Theorems.{Rewrites as AnyRewrites, questions-answered, hints-answered as all-hints-answered, any-metadata-answered, edition-rewritten, any-metadata-rewritten, hints-rewritten, older-rewritten, edition-shortest, any-metadata-shortest, hints-shortest, older-shortest}
+use Rattle.format.specs.Theorems.{Rewrites as AnyRewrites, questions-answered, hints-answered as all-hints-answered, any-metadata-answered, edition-rewritten, any-metadata-rewritten, hints-rewritten, older-rewritten, edition-shortest, any-metadata-shortest, hints-shortest, older-shortest, functions-why, locals-why}
 use Rattle.format.specs.Canonical.{bare, bareItems}
 use Rattle.format.specs.Holding.{HasWithin, Holds}
 use Rattle.format.specs.Laws.Outcomes.{not-accepted, refused-exactly}
@@ -61,9 +64,10 @@ use Rattle.promises.specs.Laws.Saying.{Verdict as Says, judged-said, jud
 use Rattle.promises.specs.Laws.Shortest.{longer, least, other-names, other-wide-names, other-metadata, other-hints, other-old-hints}
 use Rattle.promises.specs.Laws.Telling.{number-told, else-zero, yes-told}
 use Rattle.promises.specs.Laws.Through.{name-through, hint-through, older-through, metadata-through, hint-data-through}
+use Rattle.promises.specs.Laws.Why.{function-in-1, local-in-2, says-why}
 use Rattle.promises.specs.Laws.Walking.{walked, walk-counts, section-found, section-first, section-none, section-refused, custom-tells, custom-refused}
 use Rattle.wakemiono.specs.Calls.{wm-walk, wm-names-judge, wm-name, wm-metadata-judge, wm-metadata, wm-hints-judge, wm-hint, wm-names-canonical, wm-metadata-canonical, wm-hints-canonical, wm-function-names-write, wm-old-hints-judge, wm-old-hint, wm-old-hints-canonical}
-use Rattle.promises.specs.Demands.{Verdict, Reply, SectionReply, HintReply, Answers, RefusedBy, RefusedThrough, RefusedOrShort, ListsRefused, Leaves, NeedsRoom, Writing, Demand1, HoldsName, HoldsData, JudgesExactly, AnswersNames, AnswersMetadata, AnswersHints, Walks, Demand2, SameAnswer, Rewritten, Rewrites, Demand3, yes, no, replyNone, replyFound, replyRefused, sectionNone, sectionFound, sectionRefused, hintNone, hintUnlikely, hintLikely, hintRefused, byTheWalk, byItsPayload, asJudged, tooShort, listsDisagree, notAbove, notText, subsectionTooLarge, outputTooShort, TellsCanonical, K10, K9, OlderRefused, AnswersOlder, K2, olderJudged, olderTooLong, olderTooShort, K11}
+use Rattle.promises.specs.Demands.{Verdict, Reply, SectionReply, HintReply, Answers, RefusedBy, RefusedThrough, RefusedOrShort, ListsRefused, Leaves, NeedsRoom, Writing, Demand1, HoldsName, HoldsData, JudgesExactly, AnswersNames, AnswersMetadata, AnswersHints, Walks, Demand2, SameAnswer, Rewritten, Rewrites, Demand3, yes, no, replyNone, replyFound, replyRefused, sectionNone, sectionFound, sectionRefused, hintNone, hintUnlikely, hintLikely, hintRefused, byTheWalk, byItsPayload, asJudged, tooShort, listsDisagree, notAbove, notText, subsectionTooLarge, outputTooShort, TellsCanonical, K10, K9, OlderRefused, AnswersOlder, K2, olderJudged, olderTooLong, olderTooShort, K11, K7}
 
 -- Demand 1
 judged-verdict : (n : ℕ) (j : Judged (Unit {0})) → Verdict (wmJudged n j)
@@ -420,4 +424,10 @@ k11 = record {
   other-metadata = other-metadata;
   other-hints = other-hints;
   other-old-hints = other-old-hints;
+}
+
+pub k7 : K7
+k7 = record {
+  functions = λ f. says-why 1 FunctionName whyFunction (λ k. TrueOfFunction (k .0)) functions-why (λ _ _ _ _. function-in-1) (record { 0 = f });
+  locals = λ f j. says-why {Q = FunctionIndex × LocalIndex} 2 (λ q. LocalName (q .0) (q .1)) (λ q. whyLocal (q .0) (q .1)) (λ q. TrueOfLocal (q .0 .0) (q .1 .0)) locals-why (λ _ _ _ _. local-in-2) (record { 0 = f }, record { 0 = j });
 }

@@ -5,7 +5,7 @@ use Rattle.format.specs.Determined.{Determines, Determines1, Determines2, Deter
 use Rattle.format.specs.Reading.{Judged}
 use Rattle.wakemiono.proofs.Same.{wm-writes-same}
 use Rattle.wakemiono.specs.Boundary.{WmWrites}
-use Rattle.wakemiono.specs.Calls.{wm-walk, wm-section, wm-custom, wm-names-judge, wm-name, wm-metadata-judge, wm-metadata, wm-hints-judge, wm-hint, wm-name-in, wm-metadata-in, wm-hint-in, wm-names-canonical, wm-metadata-canonical, wm-hints-canonical, wm-names-is-canonical, wm-metadata-is-canonical, wm-hints-is-canonical, wm-function-names-write, wm-wide-names-judge, wm-wide-name, wm-wide-name-in, wm-wide-names-canonical, wm-wide-names-is-canonical, wm-old-hints-judge, wm-old-hint, wm-old-hint-in, wm-old-hints-canonical, wm-old-hints-is-canonical}
+use Rattle.wakemiono.specs.Calls.{wm-walk, wm-section, wm-custom, wm-names-judge, wm-name, wm-metadata-judge, wm-metadata, wm-hints-judge, wm-hint, wm-name-in, wm-metadata-in, wm-hint-in, wm-names-canonical, wm-metadata-canonical, wm-hints-canonical, wm-names-is-canonical, wm-metadata-is-canonical, wm-hints-is-canonical, wm-function-names-write, wm-wide-names-judge, wm-wide-name, wm-wide-name-in, wm-wide-names-canonical, wm-wide-names-is-canonical, wm-old-hints-judge, wm-old-hint, wm-old-hint-in, wm-old-hints-canonical, wm-old-hints-is-canonical, wm-why-function, wm-why-local}
 use Rattle.wakemiono.specs.declared.WmAnswer.{WmAnswer}
 
 -- One answer and one end state alone meet the promise of a write
@@ -42,6 +42,8 @@ pub record Wakemiono : Type 0 where
   wm-old-hint-in : Determines3 wm-old-hint-in
   wm-old-hints-canonical : DeterminesBoth2 wm-old-hints-canonical
   wm-old-hints-is-canonical : Determines1 wm-old-hints-is-canonical
+  wm-why-function : Determines2 wm-why-function
+  wm-why-local : Determines3 wm-why-local
 
 pub determined : Wakemiono
 determined =
@@ -75,4 +77,6 @@ determined =
       wm-old-hint-in = λ function offset bytes. equal-determined _;
       wm-old-hints-canonical = λ payload old. wm-writes-determined _ _;
       wm-old-hints-is-canonical = λ payload. equal-determined _;
+      wm-why-function = λ function payload. equal-determined _;
+      wm-why-local = λ function local payload. equal-determined _;
     }

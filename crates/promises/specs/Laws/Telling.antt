@@ -48,7 +48,7 @@ else-zero false e n = e
 stands-first : {wanted : Judged (List ℕ)} {bytes old new : List ℕ} {a : WmAnswer} → wanted ≡ accepted bytes → length bytes ≤ length old → WmWrites wanted old new a → take (a .length) new ≡ bytes
 stands-first {bytes = bytes} e room w = let there = wrote-there bytes room (rw e at w) in wrote-first there ∙ sym (accepted-is (there .wants))
 
-byJudged {ℓ} : {A : Type 0} {C : Type ℓ} (j : Judged A) → ((v : A) → j ≡ accepted v → C) → ((n at : ℕ) → j ≡ refused n at → C) → C
+pub byJudged {ℓ} : {A : Type 0} {C : Type ℓ} (j : Judged A) → ((v : A) → j ≡ accepted v → C) → ((n at : ℕ) → j ≡ refused n at → C) → C
 byJudged (accepted v) f g = f v refl
 byJudged (refused n at) f g = g n at refl
 
