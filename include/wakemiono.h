@@ -56,7 +56,7 @@ wm_answer wm_section(const uint8_t *module, size_t module_len, uint64_t position
 /* Where the payload lies of the first custom section of that name, compared byte by byte; NONE without one. */
 wm_answer wm_custom(const uint8_t *module, size_t module_len, const uint8_t *name, size_t name_len);
 
-/* Questions to a name payload, in the first edition of names; the wider one stands at the end. The payload is judged whole
+/* Questions to a name payload, in the first edition of names; the wider one stands further on. The payload is judged whole
  * first; FOUND gives the very bytes of the payload, NONE exactly where there is no name. An empty name is FOUND with
  * length 0. */
 
@@ -224,6 +224,35 @@ wm_answer wm_old_hint_in(const uint8_t *module, size_t module_len, uint32_t func
 wm_answer wm_old_hints_canonical(const uint8_t *payload, size_t payload_len, uint8_t *out, size_t out_len);
 /* Is a payload of the older edition canonical? 1 or 0. */
 uint32_t wm_old_hints_is_canonical(const uint8_t *payload, size_t payload_len);
+
+/* Why has this function or local no name? Asked of a name payload in the first edition, which is judged whole first.
+ * Exactly one of the reasons 5 to 7 is true of a question that gets no name, and it is the one given; for a name that is
+ * there it is said where it stands. What a kind does not name is 0.
+ *
+ *   kind                 fields
+ *   WM_FOUND          1  code = id of the subsection (1 or 2), position = the entry's position in its map, from 0
+ *   WM_REFUSED        2  code = refusal number, offset = where the fault lies
+ *   WM_NO_SUBSECTION  5  there is no subsection 1; for a local, no subsection 2
+ *   WM_NO_GROUP       6  subsection 2 has no group for the function (locals only)
+ *   WM_NO_ENTRY       7  the map has no such index; has_below = 1 and below, has_above = 1 and above: the nearest indices
+ *                        that it has; 0 and 0 where there is none
+ *
+ * A local's map is that of its function's group. Where subsection 1, or a group, is there with an empty map, it is
+ * WM_NO_ENTRY with nothing below or above; a subsection 2 without any group is WM_NO_GROUP for every function. A payload
+ * that the wider edition accepts is accepted here too, and has the same names of functions and locals: who uses the wider
+ * edition asks there first. */
+
+enum { WM_NO_SUBSECTION = 5, WM_NO_GROUP = 6, WM_NO_ENTRY = 7 };
+
+typedef struct {
+    uint32_t kind; uint32_t code; uint64_t offset; uint64_t position;
+    uint32_t has_below; uint32_t below; uint32_t has_above; uint32_t above;
+} wm_why;
+
+/* Why has a function no name, or where does it stand? */
+wm_why wm_why_function(const uint8_t *payload, size_t payload_len, uint32_t function);
+/* Why has a local in a function no name, or where does it stand? */
+wm_why wm_why_local(const uint8_t *payload, size_t payload_len, uint32_t function, uint32_t local);
 
 #ifdef __cplusplus
 }

@@ -78,6 +78,7 @@ fn names(payload: &[u8]) -> Vec<Compared> {
     let map = NameMap::of(payload, FUNCTIONS);
     let last = map.as_ref().and_then(|map| map.lists.indices.last());
     compared.extend(last.map(|&last| look_up(payload, last)));
+    compared.extend(last.map(|&last| why(payload, last)));
     compared.push(rewrite(payload));
     let alone = map.filter(|map| map.alone);
     compared.extend(alone.map(|map| write_from_lists(&map.lists, payload.len())));
@@ -94,6 +95,10 @@ fn tell(payload: &[u8]) -> Compared {
 
 fn look_up(payload: &[u8], last: u32) -> Compared {
     asked!(Operation::LookUp, function_name(lent, last) where (lent, last) = (payload, last))
+}
+
+fn why(payload: &[u8], last: u32) -> Compared {
+    asked!(Operation::Why, why_function(lent, last) where (lent, last) = (payload, last))
 }
 
 fn rewrite(payload: &[u8]) -> Compared {
@@ -213,6 +218,7 @@ mod tests {
         }
         for tried in [
             Operation::Tell,
+            Operation::Why,
             Operation::WriteFromLists,
             Operation::TellHints,
             Operation::RewriteHints,

@@ -4,7 +4,7 @@
 // The crate that links the library is used for nothing else here.
 use wakemiono as _;
 
-/// The answer of every call but those to a yes or no.
+/// The answer of every call but those to a yes or no, and those that say why.
 #[derive(Clone, Copy, Debug, PartialEq, Eq)]
 #[repr(C)]
 pub struct Told {
@@ -18,6 +18,28 @@ pub struct Told {
     pub length: u64,
 }
 
+/// The answer of the calls that say why there is no name.
+#[derive(Clone, Copy, Debug, PartialEq, Eq)]
+#[repr(C)]
+pub struct ToldWhy {
+    /// Found where there is a name, else one of the three reasons or a refusal.
+    pub kind: u32,
+    /// The number of a refusal; for a name, the id of its subsection.
+    pub code: u32,
+    /// Where the fault lies in what was lent.
+    pub offset: u64,
+    /// The position of a name's entry in its map.
+    pub position: u64,
+    /// 1 if a map without the index has one below it.
+    pub has_below: u32,
+    /// The nearest of those.
+    pub below: u32,
+    /// 1 if a map without the index has one above it.
+    pub has_above: u32,
+    /// The nearest of those.
+    pub above: u32,
+}
+
 /// The kind of an answer without what was asked for.
 pub const NONE: u32 = 0;
 /// The kind of an answer with what was found, judged or written.
@@ -28,6 +50,12 @@ pub const REFUSED: u32 = 2;
 pub const UNLIKELY: u32 = 3;
 /// The kind of a hint that a branch is likely.
 pub const LIKELY: u32 = 4;
+/// The kind of a reason: there is no subsection.
+pub const NO_SUBSECTION: u32 = 5;
+/// The kind of a reason: there is no group for the function.
+pub const NO_GROUP: u32 = 6;
+/// The kind of a reason: the map does not have the index.
+pub const NO_ENTRY: u32 = 7;
 
 /// The answer to a yes or no that says yes; no is 0.
 pub const YES: u32 = 1;
@@ -43,11 +71,26 @@ impl From<second_reader::Answer> for Told {
     }
 }
 
+impl From<second_reader::Why> for ToldWhy {
+    fn from(why: second_reader::Why) -> ToldWhy {
+        ToldWhy {
+            kind: why.kind as u32,
+            code: why.code,
+            offset: why.offset,
+            position: why.position,
+            has_below: why.below.is_some().into(),
+            below: why.below.unwrap_or_default(),
+            has_above: why.above.is_some().into(),
+            above: why.above.unwrap_or_default(),
+        }
+    }
+}
+
 /// Declares calls that take one lent slice and numbers, with a safe function for each.
 macro_rules! questions {
     ($($call:ident = $symbol:ident ($($argument:ident: $of:ty),*) -> $answer:ident;)*) => {
         mod declared {
-            use super::Told;
+            use super::{Told, ToldWhy};
 
             extern "C" {
                 $(pub fn $symbol(lent: *const u8, lent_len: usize $(, $argument: $of)*) -> $answer;)*
@@ -116,6 +159,8 @@ questions! {
     old_hints_judge = wm_old_hints_judge() -> Told;
     old_hint = wm_old_hint(function: u32, offset: u32) -> Told;
     old_hint_in = wm_old_hint_in(function: u32, offset: u32) -> Told;
+    why_function = wm_why_function(function: u32) -> ToldWhy;
+    why_local = wm_why_local(function: u32, local: u32) -> ToldWhy;
     names_is_canonical = wm_names_is_canonical() -> u32;
     wide_names_is_canonical = wm_wide_names_is_canonical() -> u32;
     metadata_is_canonical = wm_metadata_is_canonical() -> u32;

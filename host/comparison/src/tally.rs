@@ -63,6 +63,10 @@ pub struct Tally {
     pub calls: u64,
     /// What they said of name payloads, by the first edition.
     pub names_said: Said,
+    /// How often it was said why there is no name, by the names of the calls and the kinds of the answers.
+    pub why_met: BTreeMap<(&'static str, u32), u64>,
+    /// How often a map without the index was met, by whether it has one below and one above.
+    pub neighbours_met: BTreeMap<(u32, u32), u64>,
     /// What they said of name payloads, by the wider edition.
     pub wide_said: Said,
     /// What the questions of the wider edition were answered, by the names of the calls.
@@ -86,6 +90,8 @@ impl Default for Tally {
         Tally {
             calls: 0,
             names_said: Said::default(),
+            why_met: BTreeMap::new(),
+            neighbours_met: BTreeMap::new(),
             wide_said: Said::default(),
             wide_met: BTreeMap::new(),
             metadata_said: Said::default(),
@@ -177,6 +183,7 @@ macro_rules! rewrite {
 
 // They stand behind the macros, which they use.
 mod older;
+mod why;
 mod wide;
 
 pub use wide::WIDE_QUESTIONS;
@@ -236,13 +243,15 @@ impl Tally {
         self.judge_names(p);
         ask!(self, p, module_name);
         for key in KEYS {
-            ask!(self, p, function_name, key);
+            let name = ask!(self, p, function_name, key);
+            self.why_function(p, key, name);
             ask!(self, p, type_name, key);
             ask!(self, p, tag_name, key);
         }
         for key in FEW_KEYS {
             for inner in FEW_KEYS {
-                ask!(self, p, local_name, key, inner);
+                let name = ask!(self, p, local_name, key, inner);
+                self.why_local(p, key, inner, name);
                 ask!(self, p, field_name, key, inner);
             }
         }

@@ -1,7 +1,9 @@
 //! Inputs that were well formed until something happened to them.
 
-use comparison::held::{Contents, Entries, Groups, Held, Names, WIDER};
-use comparison::library::{LIKELY, NONE, REFUSED, UNLIKELY};
+use comparison::held::{Contents, Entries, Groups, Held, Names, FIRST, WIDER};
+use comparison::library::{
+    FOUND, LIKELY, NONE, NO_ENTRY, NO_GROUP, NO_SUBSECTION, REFUSED, UNLIKELY,
+};
 use comparison::made;
 use comparison::random::{seed, Random};
 use comparison::spelling::{number, sized, unpadded};
@@ -11,6 +13,9 @@ use std::collections::BTreeMap;
 /// The ids of two subsections with name maps: in each edition, and in the wider one.
 const FUNCTIONS: u8 = 1;
 const GLOBALS: u8 = 7;
+
+/// The id of a subsection with an indirect map.
+const LOCALS: u8 = 2;
 
 /// The first id that no edition knows.
 const KEPT: u8 = 12;
@@ -201,6 +206,55 @@ fn each_known_id() {
     }
     println!("compared {} calls", tally.calls);
     tally.assert_wide_met(2 * WIDE_QUESTIONS, LEAST);
+}
+
+/// Names of functions, and of locals in the groups of three functions, one of which is empty.
+fn functions_and_locals() -> Names {
+    let entries = Entries::from([(1, b"a".to_vec()), (128, b"".to_vec())]);
+    let groups = [
+        (0, entries.clone()),
+        (3, Entries::new()),
+        (128, entries.clone()),
+    ];
+    let subsections = [
+        (FUNCTIONS, Contents::Map(entries)),
+        (LOCALS, Contents::Indirect(Groups::from(groups))),
+    ];
+    Names {
+        edition: &FIRST,
+        subsections: BTreeMap::from(subsections),
+    }
+}
+
+/// The same without one of its subsections.
+fn without(held: &Names, id: u8) -> Names {
+    let mut rest = held.clone();
+    rest.subsections.remove(&id);
+    rest
+}
+
+/// Functions and locals that have names and that have none: damaged at every place, padded at every place, and with an
+/// empty list at every place.
+#[test]
+fn reasons_for_no_name() {
+    const LEAST: u64 = 400;
+    let mut tally = Tally::default();
+    let all = functions_and_locals();
+    let with_empty = all.with_an_empty_list();
+    for held in [without(&all, FUNCTIONS), without(&all, LOCALS), all] {
+        for damaged in damaged(&held.spelled(&mut unpadded)) {
+            tally.first_names(&damaged);
+        }
+        for padded in held.with_one_padded() {
+            tally.first_names(&padded);
+        }
+    }
+    for held in with_empty {
+        tally.first_names(&held.spelled(&mut unpadded));
+    }
+    println!("compared {} calls", tally.calls);
+    let told = [FOUND, REFUSED, NO_SUBSECTION, NO_GROUP, NO_ENTRY];
+    tally.assert_why_met(&told, LEAST);
 }
 
 /// A name payload with one name in a map.

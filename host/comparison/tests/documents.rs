@@ -1,5 +1,6 @@
 //! The documents' own cases.
 
+use comparison::library::{FOUND, NO_ENTRY, NO_GROUP, NO_SUBSECTION, REFUSED};
 use comparison::tally::{Said, Tally};
 
 /// The payload P of the examples.
@@ -45,6 +46,38 @@ fn name_payloads() {
     assert_eq!(tally.names_said, said(4, 4));
     // The wider edition refuses the kept contents of E11.
     assert_eq!(tally.wide_said, said(3, 4));
+}
+
+/// The readings of why a function or a local has no name.
+#[test]
+fn reasons_for_no_name() {
+    let mut tally = Tally::default();
+    for payload in [
+        // no subsection of either
+        &[0x00, 0x02, 0x01, 0x6D][..],
+        // of functions: an empty map, one index, and three with the least and the greatest
+        &[0x01, 0x01, 0x00],
+        &[0x01, 0x04, 0x01, 0x03, 0x01, 0x66],
+        &[
+            0x01, 0x0F, 0x03, 0x00, 0x01, 0x61, 0x80, 0x01, 0x01, 0x62, 0xFF, 0xFF, 0xFF, 0xFF,
+            0x0F, 0x01, 0x63,
+        ],
+        // of locals: no group, an empty group, and a group behind another
+        &[0x02, 0x01, 0x00],
+        &[0x02, 0x03, 0x01, 0x03, 0x00],
+        &[
+            0x02, 0x10, 0x02, 0x00, 0x01, 0x01, 0x01, 0x61, 0x03, 0x03, 0x00, 0x00, 0x01, 0x01,
+            0x62, 0x80, 0x01, 0x00,
+        ],
+        // refused behind both
+        &[0x01, 0x01, 0x00, 0x02, 0x01, 0x00, 0x0B, 0x02, 0x00, 0x00],
+    ] {
+        tally.first_names(payload);
+    }
+    println!("compared {} calls", tally.calls);
+    let told = [FOUND, REFUSED, NO_SUBSECTION, NO_GROUP, NO_ENTRY];
+    tally.assert_why_met(&told, 1);
+    assert_eq!(tally.names_said, said(4, 3));
 }
 
 /// Payloads in which the editions differ, and their like.

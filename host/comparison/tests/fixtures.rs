@@ -3,6 +3,8 @@
 use comparison::fixtures::{files, modules};
 use comparison::library::{self, custom, section, walk, Told, FOUND, LIKELY, REFUSED, UNLIKELY};
 use comparison::tally::{Judged, Said, Tally, HINTS, NAMES, OLD_HINTS};
+use second_reader::{Kind, Why};
+use std::collections::BTreeMap;
 use std::fmt::Write;
 use std::fs;
 use std::path::{Path, PathBuf};
@@ -25,6 +27,12 @@ const ANSWERED: (usize, usize) = (38, 1_131);
 const ANSWERED_WIDELY: (usize, usize) = (26, 1_116);
 /// The same of the older edition of hints.
 const ANSWERED_OF_OLD: (usize, usize) = (4, 13);
+/// How many functions and locals are asked why they have no name: 1,040 that have one, and the two beside each.
+const ASKED_WHY: usize = 3 * 1_040;
+
+/// The ids of the subsections with the names of functions and of locals.
+const FUNCTIONS: u32 = 1;
+const LOCALS: u32 = 2;
 
 const fn said(canonical: u64, not_canonical: u64) -> Said {
     Said {
@@ -36,6 +44,12 @@ const fn said(canonical: u64, not_canonical: u64) -> Said {
 /// The module that a file of expectations is about.
 fn module_of(expectations: &Path) -> Vec<u8> {
     fs::read(expectations.with_extension("wasm")).expect("each expectation has its module")
+}
+
+/// The payload of a custom section.
+fn payload_of<'a>(module: &'a [u8], name: &[u8]) -> Option<&'a [u8]> {
+    let found = custom(module, name);
+    (found.kind == FOUND).then(|| &module[found.offset as usize..][..found.length as usize])
 }
 
 fn payload_line(label: &str, payload: Told) -> String {
@@ -132,11 +146,9 @@ fn calls() {
         let module = fs::read(path).expect("a fixture can be read");
         tally.module(&module);
         for name in [NAMES, HINTS, OLD_HINTS] {
-            let found = custom(&module, name);
-            if found.kind != FOUND {
+            let Some(payload) = payload_of(&module, name) else {
                 continue;
-            }
-            let payload = &module[found.offset as usize..][..found.length as usize];
+            };
             match name {
                 NAMES => tally.names(payload),
                 HINTS => tally.metadata(payload),
@@ -245,4 +257,76 @@ fn answers_of_the_older_edition() {
     let answers = files("old-answers");
     let questions = answers.iter().map(ask_old_hints).sum();
     assert_eq!((answers.len(), questions), ANSWERED_OF_OLD);
+}
+
+/// The indices that the third reading found in each map of functions or locals, in the order of the map. That of a
+/// function's locals is under the function.
+fn maps(answers: &str) -> BTreeMap<Option<u32>, Vec<u32>> {
+    let number = |word: &str| word.parse().expect("a number");
+    let mut maps: BTreeMap<Option<u32>, Vec<u32>> = BTreeMap::new();
+    for line in answers.lines() {
+        let words: Vec<&str> = line.split(' ').collect();
+        let (group, index) = match words[..] {
+            ["function", index, ..] => (None, number(index)),
+            ["local", function, index, ..] => (Some(number(function)), number(index)),
+            _ => continue,
+        };
+        maps.entry(group).or_default().push(index);
+    }
+    maps
+}
+
+/// What is to be said of an index, by those that its map has.
+fn why_among(subsection: u32, indices: &[u32], wanted: u32) -> Why {
+    let unused = Why {
+        kind: Kind::NoEntry,
+        code: 0,
+        offset: 0,
+        position: 0,
+        below: None,
+        above: None,
+    };
+    let all = || indices.iter().copied();
+    match all().position(|index| index == wanted) {
+        Some(position) => Why {
+            kind: Kind::Found,
+            code: subsection,
+            position: position as u64,
+            ..unused
+        },
+        None => Why {
+            below: all().filter(|index| *index < wanted).max(),
+            above: all().filter(|index| *index > wanted).min(),
+            ..unused
+        },
+    }
+}
+
+/// Asks for every index that one file lists, and for those beside it. How many questions there are.
+fn ask_why(path: &PathBuf) -> usize {
+    let answers = fs::read_to_string(path).expect("answers can be read");
+    let module = module_of(path);
+    let payload = payload_of(&module, NAMES).unwrap_or_default();
+    let mut questions = 0;
+    for (group, indices) in maps(&answers) {
+        for index in &indices {
+            for wanted in [index.wrapping_sub(1), *index, index.wrapping_add(1)] {
+                let (told, subsection) = match group {
+                    None => (library::why_function(payload, wanted), FUNCTIONS),
+                    Some(function) => (library::why_local(payload, function, wanted), LOCALS),
+                };
+                let expected = why_among(subsection, &indices, wanted);
+                let asked = format_args!("{group:?} {wanted} in {}", path.display());
+                assert_eq!(told, expected.into(), "{asked}");
+                questions += 1;
+            }
+        }
+    }
+    questions
+}
+
+#[test]
+fn reasons_for_no_name() {
+    let questions: usize = files("answers").iter().map(ask_why).sum();
+    assert_eq!(questions, ASKED_WHY);
 }

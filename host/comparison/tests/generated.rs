@@ -1,6 +1,6 @@
 //! Well-formed inputs made at random.
 
-use comparison::library::{LIKELY, NONE, UNLIKELY};
+use comparison::library::{FOUND, LIKELY, NONE, NO_ENTRY, NO_GROUP, NO_SUBSECTION, UNLIKELY};
 use comparison::made;
 use comparison::random::{seed, Random};
 use comparison::spelling::{sized, unpadded};
@@ -14,6 +14,9 @@ const LEAST_OF_EACH: u64 = 200;
 
 /// The same in the wider edition, which refuses more; and how often each of its questions is answered in each way.
 const LEAST_WIDE: u64 = 50;
+
+/// How often each reason for no name is given at least. The fewest are those for maps without any index.
+const LEAST_REASONS: u64 = 50;
 
 #[test]
 fn payloads_and_modules() {
@@ -47,6 +50,8 @@ fn payloads_and_modules() {
         assert!(said.not_canonical >= LEAST_OF_EACH, "{said:?}");
     }
     tally.assert_old_met(&[NONE, UNLIKELY, LIKELY], LEAST_OF_EACH);
+    let told = [FOUND, NO_SUBSECTION, NO_GROUP, NO_ENTRY];
+    tally.assert_why_met(&told, LEAST_REASONS);
     let said = tally.wide_said;
     let fewest = said.canonical.min(said.not_canonical);
     assert!(fewest >= LEAST_WIDE, "{said:?}");

@@ -1,13 +1,13 @@
-//! What a call answers: the one struct of the boundary, its kinds, and the numbered reasons of a
+//! What a call answers: the structs of the boundary, their kinds, and the numbered reasons of a
 //! refusal.
 
 use crate::reading::Part;
 
-/// The answer to any call. Fields that a kind does not use are 0.
+/// The answer to any call but those that say why. Fields that a kind does not use are 0.
 #[derive(Clone, Copy, Debug, PartialEq, Eq)]
 #[must_use]
 pub struct Answer {
-    /// Which of the five kinds of answer this is.
+    /// Which kind of answer this is; never one of the reasons.
     pub kind: Kind,
     /// The number of the refusal; for a section that was found, its id.
     pub code: u32,
@@ -16,6 +16,25 @@ pub struct Answer {
     pub offset: u64,
     /// The length in bytes of the thing found; for the walk, the count of sections.
     pub length: u64,
+}
+
+/// The answer to why a function or a local has no name. Fields that a kind does not use are 0, or
+/// none.
+#[derive(Clone, Copy, Debug, PartialEq, Eq)]
+#[must_use]
+pub struct Why {
+    /// Found where there is a name, else one of the three reasons or a refusal.
+    pub kind: Kind,
+    /// The number of the refusal; for a name that was found, the id of its subsection.
+    pub code: u32,
+    /// The offset that the rules give with a refusal.
+    pub offset: u64,
+    /// The position of the name's entry in its map, from 0.
+    pub position: u64,
+    /// The nearest index below that the map has.
+    pub below: Option<u32>,
+    /// The nearest index above that the map has.
+    pub above: Option<u32>,
 }
 
 /// The kinds of answer. Their numbers are fixed.
@@ -32,6 +51,12 @@ pub enum Kind {
     Unlikely = 3,
     /// A hint that the branch is likely to be taken.
     Likely = 4,
+    /// A reason for no name: there is no subsection for it.
+    NoSubsection = 5,
+    /// A reason for no name: the subsection has no group for the function.
+    NoGroup = 6,
+    /// A reason for no name: the map does not have the index.
+    NoEntry = 7,
 }
 
 /// The reasons of a refusal. Their numbers are fixed.
@@ -156,6 +181,49 @@ impl From<Refusal> for Answer {
             code: refusal.reason as u32,
             offset: refusal.offset,
             length: 0,
+        }
+    }
+}
+
+impl Why {
+    /// Where a name stands: in which subsection, and at which position of its map.
+    pub(crate) fn found(subsection: u8, position: u64) -> Why {
+        Why {
+            code: u32::from(subsection),
+            position,
+            ..Why::from(Kind::Found)
+        }
+    }
+
+    /// The map does not have the index, and these are the nearest that it has.
+    pub(crate) fn no_entry(below: Option<u32>, above: Option<u32>) -> Why {
+        Why {
+            below,
+            above,
+            ..Why::from(Kind::NoEntry)
+        }
+    }
+}
+
+impl From<Kind> for Why {
+    fn from(kind: Kind) -> Why {
+        Why {
+            kind,
+            code: 0,
+            offset: 0,
+            position: 0,
+            below: None,
+            above: None,
+        }
+    }
+}
+
+impl From<Refusal> for Why {
+    fn from(refusal: Refusal) -> Why {
+        Why {
+            code: refusal.reason as u32,
+            offset: refusal.offset,
+            ..Why::from(Kind::Refused)
         }
     }
 }

@@ -5,9 +5,9 @@
 //! the two give different answers for the same bytes, one of them misreads the rules.
 //!
 //! The functions are the calls of the C header under the same names, with slices for pointer and
-//! length. Each takes any bytes, ends in an [`Answer`] or, to a yes or no, in a `bool`, and asks for
-//! no prior check: a payload is judged whole before it is asked or rewritten, and a refusal changes
-//! no byte of an output.
+//! length. Each takes any bytes, ends in an [`Answer`], in a [`Why`] or, to a yes or no, in a `bool`,
+//! and asks for no prior check: a payload is judged whole before it is asked or rewritten, and a
+//! refusal changes no byte of an output.
 //!
 //! Names have two editions, which differ in the table of ids alone: `wide_` begins the calls of the
 //! wider one. Hints have two as well, which have no list in common: `old_` begins the calls of the
@@ -37,10 +37,11 @@ mod reading;
 mod telling;
 mod through;
 mod walk;
+mod why;
 mod wide;
 mod writing;
 
-pub use answer::{Answer, Kind, Reason};
+pub use answer::{Answer, Kind, Reason, Why};
 pub use canonical::{hints_canonical, metadata_canonical, names_canonical, wide_names_canonical};
 pub use lists::function_names_write;
 pub use metadata::{hint, hints_judge, metadata, metadata_judge};
@@ -57,6 +58,7 @@ pub use through::{
     tag_name_in, type_name_in,
 };
 pub use walk::{custom, section, walk};
+pub use why::{why_function, why_local};
 pub use wide::{
     wide_data_name, wide_data_name_in, wide_element_name, wide_element_name_in, wide_field_name,
     wide_field_name_in, wide_function_name, wide_function_name_in, wide_global_name,

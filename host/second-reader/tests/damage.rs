@@ -109,6 +109,27 @@ fn check_names(payload: &[u8]) {
         };
         check_payload(payload, calls);
     }
+    check_reasons(payload);
+}
+
+/// A reason is given exactly where the question for the name gets none.
+fn check_reasons(payload: &[u8]) {
+    for index in INDICES {
+        check_reason(function_name(payload, index), why_function(payload, index));
+        for (function, local) in [(1, index), (index, 0)] {
+            let name = local_name(payload, function, local);
+            check_reason(name, why_local(payload, function, local));
+        }
+    }
+}
+
+fn check_reason(name: Answer, why: Why) {
+    const REASONS: [Kind; 3] = [Kind::NoSubsection, Kind::NoGroup, Kind::NoEntry];
+    match name.kind {
+        Kind::Refused => assert_eq!(why, why_refused(name.code, name.offset)),
+        Kind::None => assert!(REASONS.contains(&why.kind), "{why:?}"),
+        _ => assert_eq!(why.kind, Kind::Found),
+    }
 }
 
 fn check_metadata(payload: &[u8]) {

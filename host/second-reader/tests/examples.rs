@@ -144,8 +144,11 @@ fn numbers() {
         Kind::Refused,
         Kind::Unlikely,
         Kind::Likely,
+        Kind::NoSubsection,
+        Kind::NoGroup,
+        Kind::NoEntry,
     ];
-    assert_eq!(kinds.map(|kind| kind as u32), [0, 1, 2, 3, 4]);
+    assert_eq!(kinds.map(|kind| kind as u32), [0, 1, 2, 3, 4, 5, 6, 7]);
     assert_eq!(Reason::Preamble as u32, 1);
     assert_eq!(Reason::InputTooLarge as u32, 16);
 }

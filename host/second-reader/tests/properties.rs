@@ -120,6 +120,62 @@ fn rewritten_names_answer_alike() {
     });
 }
 
+/// What is to be said of an index in a map, by the plain list.
+fn why_in(subsection: u32, list: &Flat, wanted: u32) -> Why {
+    let indices: Vec<u32> = list.iter().map(|(index, _)| *index).collect();
+    let below = indices.iter().copied().filter(|index| *index < wanted);
+    let above = indices.iter().copied().filter(|index| *index > wanted);
+    match indices.iter().position(|index| *index == wanted) {
+        Some(position) => named(subsection, position as u64),
+        None => between(below.max(), above.min()),
+    }
+}
+
+/// The contents that were put in under an id.
+fn put_in(names: &Names, wanted: u8) -> Option<&Contents> {
+    let found = names.iter().find(|(id, _)| *id == wanted);
+    found.map(|(_, contents)| contents)
+}
+
+fn why_of_function(names: &Names, function: u32) -> Why {
+    match put_in(names, 1) {
+        Some(Contents::Map(list)) => why_in(1, list, function),
+        _ => NO_SUBSECTION,
+    }
+}
+
+fn why_of_local(names: &Names, function: u32, local: u32) -> Why {
+    let Some(Contents::Indirect(groups)) = put_in(names, 2) else {
+        return NO_SUBSECTION;
+    };
+    let group = groups.iter().find(|(primary, _)| *primary == function);
+    group.map_or(NO_GROUP, |(_, list)| why_in(2, list, local))
+}
+
+/// Asked at every index that was put in, whatever has it there, and beside it.
+#[test]
+fn reasons_are_those_of_what_was_put_in() {
+    let beside = |index: u32| [index.wrapping_sub(1), index, index.wrapping_add(1)];
+    for_names(SEEDS, |_, names, payload, _| {
+        let mut asked = vec![(0, 0)];
+        for (question, _) in present(names) {
+            match question {
+                Question::Flat(_, index) => asked.push((index, 0)),
+                Question::Nested(_, primary, index) => asked.push((primary, index)),
+                Question::Module | Question::Kept(_) => {}
+            }
+        }
+        for (one, two) in asked {
+            for one in beside(one) {
+                assert_eq!(why_function(payload, one), why_of_function(names, one));
+                for two in beside(two) {
+                    assert_eq!(why_local(payload, one, two), why_of_local(names, one, two));
+                }
+            }
+        }
+    });
+}
+
 /// A custom section with any size of contents, its numbers padded at random.
 fn padded_section(name: &[u8], payload: &[u8], random: &mut Random) -> Vec<u8> {
     let mut padding = random;

@@ -4,7 +4,7 @@ mod asked;
 
 use std::ffi::{OsStr, OsString};
 
-use wakemiono::{First, Wider};
+use wakemiono::{First, FunctionIndex, LocalIndex, Wider};
 
 use crate::edition::Edition;
 use crate::escape;
@@ -42,6 +42,8 @@ pub enum Command {
     Names(OsString, Option<Kind>),
     /// One name.
     Name(OsString, Question),
+    /// Why a function, or a local in it, has no name.
+    Why(OsString, FunctionIndex, Option<LocalIndex>),
     /// All branch hints of a module.
     Hints(OsString),
     /// The canonical name payload, written to a file where one is given.
@@ -63,6 +65,8 @@ pub enum Topic {
     Names,
     /// `name`
     Name,
+    /// `why`
+    Why,
     /// `hints`
     Hints,
     /// `canon`
@@ -75,10 +79,11 @@ pub enum Topic {
 
 impl Topic {
     /// Every command, in the order in which they are explained.
-    pub const ALL: [Topic; 7] = [
+    pub const ALL: [Topic; 8] = [
         Topic::List,
         Topic::Names,
         Topic::Name,
+        Topic::Why,
         Topic::Hints,
         Topic::Canon,
         Topic::Same,
@@ -91,6 +96,7 @@ impl Topic {
             Topic::List => "list",
             Topic::Names => "names",
             Topic::Name => "name",
+            Topic::Why => "why",
             Topic::Hints => "hints",
             Topic::Canon => "canon",
             Topic::Same => "same",
@@ -102,6 +108,7 @@ impl Topic {
         let (flags, valued): (&[_], &[_]) = match self {
             Topic::Names => (&["--json", "--wide"], &["--kind"]),
             Topic::Name => (&["--json", "--wide", "--module"], asked::OPTIONS),
+            Topic::Why => (&["--json", "--wide"], &["--function", "--local"]),
             Topic::Canon => (&["--json", "--wide", OLD_HINTS], &["-o"]),
             Topic::Same | Topic::Judge => (&["--json", "--wide"], &[]),
             Topic::List | Topic::Hints => (&["--json"], &[]),
@@ -163,6 +170,7 @@ fn run(topic: Topic, words: &[OsString]) -> Result<Invocation, String> {
         Topic::List => Command::List(one_file(&given)?),
         Topic::Names => Command::Names(one_file(&given)?, kind(&given, wide)?),
         Topic::Name => Command::Name(one_file(&given)?, asked::question(&given, wide)?),
+        Topic::Why => why(&given)?,
         Topic::Hints => Command::Hints(one_file(&given)?),
         Topic::Canon => canon(&given)?,
         Topic::Same => two_files(&given)?,
@@ -173,6 +181,12 @@ fn run(topic: Topic, words: &[OsString]) -> Result<Invocation, String> {
         wide,
         json,
     })
+}
+
+fn why(given: &Given) -> Result<Command, String> {
+    let file = one_file(given)?;
+    let (function, local) = asked::function_or_local(given)?;
+    Ok(Command::Why(file, function, local))
 }
 
 fn canon(given: &Given) -> Result<Command, String> {

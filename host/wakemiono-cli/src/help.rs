@@ -10,6 +10,7 @@ Usage: wakemiono COMMAND FILE [OPTIONS]
   list FILE     the sections, and where names and branch hints lie
   names FILE    all names
   name FILE     one name
+  why FILE      why a function or a local has no name
   hints FILE    all branch hints, of both editions
   canon FILE    the canonical form of the name payload, or of hints of the older edition
   same A B      whether two modules have the same names
@@ -18,9 +19,9 @@ Usage: wakemiono COMMAND FILE [OPTIONS]
 FILE may be - for standard input. `wakemiono COMMAND --help` says more of one command; --version
 says the version.
 
-Names are asked in their first edition. With --wide the commands names, name, canon, same and judge
-ask the wider one, which also has the names of labels, tables, memories, globals, element segments
-and data segments.
+Names are asked in their first edition. With --wide the commands names, name, why, canon, same and
+judge ask the wider one, which also has the names of labels, tables, memories, globals, element
+segments and data segments.
 
 The exit status is 0 where there is an answer, even none; 1 for a refusal, or where two modules
 are not the same; 2 where the program cannot do what it is asked, and says why on standard error.
@@ -106,6 +107,33 @@ Example: wakemiono name app.wasm --function 3 --local 0
 
 Example: wakemiono name app.wasm --global 3 --wide
   g
+";
+
+const WHY: &str = "\
+Says why a function or a local has no name, or where the name stands that it has.
+
+Usage: wakemiono why FILE --function N [--local M] [--wide] [--json]
+
+  --function N              why function N has no name
+  --function N --local M    why local M in function N has no name
+  --wide                    refuse what the wider edition of names refuses; what it accepts has the
+                            same names of functions and locals in both editions
+
+Exactly one of these reasons is true, and it is the one that is said:
+
+  the module has no name section
+  the name section has no subsection for such names, which is 1 for functions and 2 for locals
+  the subsection of local names has no group for the function
+  the map has no entry for it; the nearest indices below and above that have one are said too
+
+Of a name that is there it says the position of its entry in the map, counted from 0, and the id of
+the subsection; `wakemiono name` prints the name. Numbers are decimal, or hexadecimal behind 0x.
+
+Example: wakemiono why app.wasm --function 3
+  function 3 has a name: it is entry 1, counted from 0, in the map of function names (subsection 1)
+
+Example: wakemiono why app.wasm --function 0 --local 7
+  local 7 of function 0 has no name: its function's map of local names is empty
 ";
 
 const HINTS: &str = "\
@@ -197,6 +225,7 @@ pub const fn text(topic: Option<Topic>) -> &'static str {
         Some(Topic::List) => LIST,
         Some(Topic::Names) => NAMES,
         Some(Topic::Name) => NAME,
+        Some(Topic::Why) => WHY,
         Some(Topic::Hints) => HINTS,
         Some(Topic::Canon) => CANON,
         Some(Topic::Same) => SAME,

@@ -1,10 +1,10 @@
 //! `wakemiono`: asks the metadata of WebAssembly modules from the command line.
 //!
-//! Every name, hint, judgement, refusal and rewriting that is printed comes from the proved library
-//! behind the crate `wakemiono`, and so do the places of the payloads in `list`. The sections that
-//! it lists come from `wakemiono::Sections`: plain Rust, which steps over a module that the library
-//! has accepted and is held to the library's `wm_section` by tests. This program only reads and
-//! writes files, finds out what there is to ask, and sets the answers in lines or JSON.
+//! Every name, reason for none, hint, judgement, refusal and rewriting that is printed comes from the
+//! proved library behind the crate `wakemiono`, and so do the places of the payloads in `list`. The
+//! sections that it lists come from `wakemiono::Sections`: plain Rust, which steps over a module that
+//! the library has accepted and is held to the library's `wm_section` by tests. This program only
+//! reads and writes files, finds out what there is to ask, and sets the answers in lines or JSON.
 
 #![forbid(unsafe_code)]
 #![deny(missing_docs)]

@@ -16,6 +16,7 @@ fn in_words_with_the_bytes_around_the_fault() {
     for arguments in [
         &["names", "-"][..],
         &["name", "-", "--module"],
+        &["why", "-", "--function", "0"],
         &["hints", "-"],
         &["canon", "-"],
     ] {
@@ -45,6 +46,7 @@ fn in_json() {
         &["list", "-", "--json"][..],
         &["names", "-", "--json"],
         &["name", "-", "--module", "--json"],
+        &["why", "-", "--function", "0", "--json"],
         &["hints", "-", "--json"],
         &["canon", "-", "--json"],
     ] {
@@ -67,6 +69,9 @@ fn with_offsets_from_the_start_of_the_module() {
          \x20 what to do: a map is not sorted or names an index twice; from lists, sort them and \
          name each index once\n"
     );
+    let why = fed(&["why", "-", "--function", "3"], &damaged);
+    why.ends(1, "");
+    assert_eq!(why.said, refused.said);
     let refused = fed(&["hints", "-"], &hinted(b"\x01\x02\x01\x05\x01\x02"));
     refused.ends(1, "");
     assert!(refused.said.contains("refused, number 12: "));

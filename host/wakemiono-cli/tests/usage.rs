@@ -43,7 +43,7 @@ fn version() {
 }
 
 const LIST_OF_COMMANDS: &str =
-    "give one of list, names, name, hints, canon, same, judge; see `wakemiono --help`.";
+    "give one of list, names, name, why, hints, canon, same, judge; see `wakemiono --help`.";
 
 #[test]
 fn no_such_command() {
@@ -131,6 +131,38 @@ fn questions_that_are_none() {
 }
 
 #[test]
+fn nothing_that_could_have_no_name() {
+    let asked = |options: &[&str], sentence: &str| {
+        let sentence = format!("{sentence}; see `wakemiono why --help`.");
+        run(&[&["why", "f"], options].concat()).is_misuse(&sentence);
+    };
+    asked(
+        &[],
+        "nothing is asked: give --function, and --local too for a local in it",
+    );
+    asked(
+        &["--local", "0"],
+        "--local needs its function: give --function too",
+    );
+    asked(
+        &["--function", "seven"],
+        "--function is given 'seven': give an index from 0 to 4294967295, in decimal or behind 0x",
+    );
+    asked(
+        &["--function", "7", "--local", "4294967296"],
+        "--local is given '4294967296': give an index from 0 to 4294967295, in decimal or behind 0x",
+    );
+    asked(
+        &["--type", "0"],
+        "there is no option '--type': give one of --json, --wide, --function, --local",
+    );
+    asked(
+        &["g", "--function", "0"],
+        "one file is asked at a time, and 'g' is a second one: leave it out",
+    );
+}
+
+#[test]
 fn no_such_kind() {
     run(&["names", "f", "--kind", "functions"]).is_misuse(
         "there is no kind 'functions': give one of module, function, type, tag, local, field, kept; \
@@ -147,6 +179,7 @@ fn files_that_cannot_be_read() {
         run(&[command, &missing]).is_misuse(&sentence);
     }
     run(&["name", &missing, "--module", "--json"]).is_misuse(&sentence);
+    run(&["why", &missing, "--function", "0"]).is_misuse(&sentence);
     run(&["list", ""])
         .is_misuse("there is no file '': check the path, or give - for standard input.");
     fed(&["same", "-", &missing], BARE).is_misuse(&sentence);

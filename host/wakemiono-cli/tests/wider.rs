@@ -78,6 +78,14 @@ fn one_name_that_is_not_there() {
 }
 
 #[test]
+fn reasons_are_the_same_in_both() {
+    for options in [&["--function", "1"][..], &["--function=3", "--local=1"]] {
+        let first = fed(&[&["why", "-"], options].concat(), WIDE);
+        fed(&[&["why", "-", "--wide"], options].concat(), WIDE).prints(first.out());
+    }
+}
+
+#[test]
 fn canon_drops_by_its_own_ids() {
     let saves_all = "before 3\nafter 0\nsaves 3 (100.0 %)\n";
     fed(&["canon", "-", "--wide"], &named(NO_GLOBALS)).prints(saves_all);
@@ -156,6 +164,7 @@ fn what_only_the_wider_edition_refuses() {
     for (command, more) in [
         ("names", &[][..]),
         ("name", &["--module"]),
+        ("why", &["--function", "0"]),
         ("canon", &[]),
         ("same", &[module.as_str()]),
     ] {
@@ -186,6 +195,7 @@ fn json_names_the_wider_edition_only() {
     for (arguments, members) in [
         (&["names", "-", "--json"][..], "\"names\":[{"),
         (&["name", "-", "--module", "--json"], "\"question\":{"),
+        (&["why", "-", "--function=1", "--json"], "\"question\":{"),
         (&["canon", "-", "--json"], "\"section\":true,"),
         (&["judge", "-", "--json"], "\"accepted\":true,"),
     ] {

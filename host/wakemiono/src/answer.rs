@@ -2,8 +2,10 @@
 
 use std::fmt;
 
-use crate::ffi::{Answer, FOUND, LIKELY, NONE, REFUSED, UNLIKELY};
-use crate::{Hint, Reason, Refusal, Section};
+use crate::ffi::{
+    Answer, WhyAnswer, FOUND, LIKELY, NONE, NO_ENTRY, NO_GROUP, NO_SUBSECTION, REFUSED, UNLIKELY,
+};
+use crate::{Hint, Reason, Refusal, Section, Why};
 
 impl Answer {
     /// The part of what was lent that was found, or none.
@@ -72,13 +74,38 @@ impl Answer {
     }
 
     fn refusal(self) -> Refusal {
-        let reason = Reason::from_number(self.code).unwrap_or_else(|| self.misfit());
-        Refusal::in_bytes(reason, self.offset)
+        refusal(self, self.code, self.offset)
     }
 
     fn misfit(self) -> ! {
         misfit(self)
     }
+}
+
+impl WhyAnswer {
+    /// Why there is no name, or where it stands.
+    pub(crate) fn why<Index: From<u32>>(self) -> Result<Why<Index>, Refusal> {
+        match self.kind {
+            FOUND => Ok(Why::Named {
+                subsection: u8::try_from(self.code).unwrap_or_else(|_| misfit(self)),
+                position: self.position,
+            }),
+            REFUSED => Err(refusal(self, self.code, self.offset)),
+            NO_SUBSECTION => Ok(Why::NoSubsection),
+            NO_GROUP => Ok(Why::NoGroup),
+            NO_ENTRY => Ok(Why::NoEntry {
+                below: is_yes(self.has_below).then(|| self.below.into()),
+                above: is_yes(self.has_above).then(|| self.above.into()),
+            }),
+            _ => misfit(self),
+        }
+    }
+}
+
+/// The refusal of an answer that is one, by its number and its offset.
+fn refusal(answer: impl fmt::Debug, number: u32, offset: u64) -> Refusal {
+    let reason = Reason::from_number(number).unwrap_or_else(|| misfit(answer));
+    Refusal::in_bytes(reason, offset)
 }
 
 const NO: u32 = 0;
@@ -101,6 +128,7 @@ fn misfit(answer: impl fmt::Debug) -> ! {
 #[cfg(test)]
 mod tests {
     use super::*;
+    use crate::FunctionIndex;
 
     fn answer(kind: u32, code: u32, offset: u64, length: u64) -> Answer {
         Answer {
@@ -177,6 +205,81 @@ mod tests {
     #[should_panic(expected = "is it of another version?")]
     fn no_call_refuses_with_the_number_16() {
         let _ = answer(REFUSED, 16, 0, 0).length();
+    }
+
+    /// A why of a kind with a code, in which nothing else is said.
+    fn why(kind: u32, code: u32) -> WhyAnswer {
+        WhyAnswer {
+            kind,
+            code,
+            offset: 0,
+            position: 0,
+            has_below: 0,
+            below: 0,
+            has_above: 0,
+            above: 0,
+        }
+    }
+
+    fn of_function(answer: WhyAnswer) -> Result<Why<FunctionIndex>, Refusal> {
+        answer.why()
+    }
+
+    #[test]
+    fn each_why_is_what_the_header_says() {
+        let third = WhyAnswer {
+            position: 2,
+            ..why(FOUND, 1)
+        };
+        let named = Why::Named {
+            subsection: 1,
+            position: 2,
+        };
+        assert_eq!(of_function(third), Ok(named));
+        assert_eq!(of_function(why(NO_SUBSECTION, 0)), Ok(Why::NoSubsection));
+        assert_eq!(of_function(why(NO_GROUP, 0)), Ok(Why::NoGroup));
+        let at_5 = WhyAnswer {
+            offset: 5,
+            ..why(REFUSED, 11)
+        };
+        let refusal = of_function(at_5).unwrap_err();
+        assert_eq!((refusal.number(), refusal.offset()), (11, 5));
+    }
+
+    #[test]
+    fn an_index_is_near_only_where_it_is_said_to_be() {
+        let behind_0 = WhyAnswer {
+            has_below: 1,
+            ..why(NO_ENTRY, 0)
+        };
+        let before_9 = WhyAnswer {
+            has_above: 1,
+            above: 9,
+            ..why(NO_ENTRY, 0)
+        };
+        let nearest = |below, above| Ok(Why::NoEntry { below, above });
+        let (zero, nine) = (Some(FunctionIndex(0)), Some(FunctionIndex(9)));
+        assert_eq!(of_function(behind_0), nearest(zero, None));
+        assert_eq!(of_function(before_9), nearest(None, nine));
+        assert_eq!(of_function(why(NO_ENTRY, 0)), nearest(None, None));
+    }
+
+    #[test]
+    #[should_panic(expected = "is it of another version?")]
+    fn a_why_is_never_none() {
+        let _ = of_function(why(NONE, 0));
+    }
+
+    #[test]
+    #[should_panic(expected = "is it of another version?")]
+    fn the_id_of_a_subsection_is_a_byte() {
+        let _ = of_function(why(FOUND, 256));
+    }
+
+    #[test]
+    #[should_panic(expected = "is it of another version?")]
+    fn no_why_is_refused_with_the_number_16() {
+        let _ = of_function(why(REFUSED, 16));
     }
 
     #[test]

@@ -12,7 +12,7 @@
 
 use crate::{First, FunctionIndex, Wider};
 
-/// The answer of every call but those to a yes or no, by value: `wm_answer` of the header.
+/// The answer of most calls, by value: `wm_answer` of the header.
 ///
 /// It is `pub` for the sake of [`NameCalls`], and cannot be named outside this crate.
 #[repr(C)]
@@ -24,11 +24,28 @@ pub struct Answer {
     pub(crate) length: u64,
 }
 
+/// The answer of the calls that say why there is no name, by value: `wm_why` of the header.
+#[repr(C)]
+#[derive(Clone, Copy, Debug, PartialEq, Eq)]
+pub(crate) struct WhyAnswer {
+    pub(crate) kind: u32,
+    pub(crate) code: u32,
+    pub(crate) offset: u64,
+    pub(crate) position: u64,
+    pub(crate) has_below: u32,
+    pub(crate) below: u32,
+    pub(crate) has_above: u32,
+    pub(crate) above: u32,
+}
+
 pub(crate) const NONE: u32 = 0;
 pub(crate) const FOUND: u32 = 1;
 pub(crate) const REFUSED: u32 = 2;
 pub(crate) const UNLIKELY: u32 = 3;
 pub(crate) const LIKELY: u32 = 4;
+pub(crate) const NO_SUBSECTION: u32 = 5;
+pub(crate) const NO_GROUP: u32 = 6;
+pub(crate) const NO_ENTRY: u32 = 7;
 
 extern "C" {
     fn wm_walk(module: *const u8, module_len: usize) -> Answer;
@@ -173,6 +190,10 @@ extern "C" {
         out_len: usize,
     ) -> Answer;
     fn wm_old_hints_is_canonical(payload: *const u8, payload_len: usize) -> u32;
+
+    fn wm_why_function(payload: *const u8, payload_len: usize, function: u32) -> WhyAnswer;
+    fn wm_why_local(payload: *const u8, payload_len: usize, function: u32, local: u32)
+        -> WhyAnswer;
 }
 
 pub(crate) fn walk(module: &[u8]) -> Answer {
@@ -371,6 +392,14 @@ impl NameCalls for Wider {
     }
 }
 
+/// The calls that only the first edition has.
+impl First {
+    asking! {
+        pub(crate) fn why_function(function: u32) -> WhyAnswer = wm_why_function;
+        pub(crate) fn why_local(function: u32, local: u32) -> WhyAnswer = wm_why_local;
+    }
+}
+
 /// The calls that only the wider edition has.
 impl Wider {
     asking! {
@@ -410,4 +439,16 @@ const _: () = {
     assert!(std::mem::offset_of!(Answer, code) == 4);
     assert!(std::mem::offset_of!(Answer, offset) == 8);
     assert!(std::mem::offset_of!(Answer, length) == 16);
+};
+
+/// The same of the other: two 32-bit fields, two of 64 bits, then four of 32 bits, without gaps.
+const _: () = {
+    assert!(std::mem::size_of::<WhyAnswer>() == 40);
+    assert!(std::mem::offset_of!(WhyAnswer, code) == 4);
+    assert!(std::mem::offset_of!(WhyAnswer, offset) == 8);
+    assert!(std::mem::offset_of!(WhyAnswer, position) == 16);
+    assert!(std::mem::offset_of!(WhyAnswer, has_below) == 24);
+    assert!(std::mem::offset_of!(WhyAnswer, below) == 28);
+    assert!(std::mem::offset_of!(WhyAnswer, has_above) == 32);
+    assert!(std::mem::offset_of!(WhyAnswer, above) == 36);
 };

@@ -21,6 +21,9 @@
 //! [`First`]; [`Module::wider`] and [`NamePayload::wider`] open the [`Wider`], which also has the
 //! names of labels, tables, memories, globals, element segments and data segments.
 //!
+//! Where a function or a local has no name, [`NamePayload::why_function`] and
+//! [`NamePayload::why_local`] say [`Why`], in the first edition.
+//!
 //! Branch hints have two editions as well, which stand in sections of two names and count offsets
 //! from two places. A module may carry both: [`Module::hint`] asks the one, with a [`CodeOffset`],
 //! and [`Module::old_hint`] the older, with an [`InstructionOffset`].
@@ -50,6 +53,7 @@ mod name;
 mod name_payload;
 mod old_hints;
 mod refusal;
+mod why;
 mod wider;
 
 pub use edition::{Edition, First, Wider};
@@ -64,6 +68,7 @@ pub use name::Name;
 pub use name_payload::NamePayload;
 pub use old_hints::OldHints;
 pub use refusal::{Reason, Refusal};
+pub use why::Why;
 
 /// Where a part that was found lies in the bytes that were lent, as an offset from their start;
 /// none for bytes that do not lie there.

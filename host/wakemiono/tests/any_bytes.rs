@@ -6,8 +6,8 @@ mod common;
 
 use common::{custom, module, AllQuestions, Asked, EVERY_ID, HINTS_NAME, ONLY_WIDER, P, SMALL};
 use wakemiono::{
-    offset_in, CodeOffset, First, FunctionIndex, Hints, Metadata, Module, Name, NamePayload,
-    Refusal, Wider,
+    offset_in, CodeOffset, First, FunctionIndex, Hints, LocalIndex, Metadata, Module, Name,
+    NamePayload, Refusal, Why, Wider,
 };
 
 type Answers<'a> = Vec<Option<&'a [u8]>>;
@@ -72,10 +72,46 @@ fn editions_agree(bytes: &[u8]) {
     assert!(known_alike.all(|id| wider.kept(id) == first.kept(id)));
 }
 
+fn reasons_agree(bytes: &[u8]) {
+    let payload = NamePayload::new(bytes);
+    for (one, two) in indices() {
+        let (function, local) = (FunctionIndex(one), LocalIndex(two));
+        reason_agrees(
+            function,
+            |function| payload.function_name(function),
+            |function| payload.why_function(function),
+        );
+        reason_agrees(
+            local,
+            |local| payload.local_name(function, local),
+            |local| payload.why_local(function, local),
+        );
+    }
+}
+
+/// What is refused is refused alike; what is said to have a name has one, and nothing else; and the
+/// nearest indices lie on their sides and have names.
+fn reason_agrees<'a, Index: Copy + Ord>(
+    index: Index,
+    name: impl Fn(Index) -> Asked<'a>,
+    why: impl Fn(Index) -> Result<Why<Index>, Refusal>,
+) {
+    let why = why(index);
+    assert_eq!(why.map(drop), name(index).map(drop));
+    let is_named = |index: Index| matches!(name(index), Ok(Some(_)));
+    let said_to_be_named = matches!(why, Ok(Why::Named { .. }));
+    assert_eq!(said_to_be_named, is_named(index));
+    if let Ok(Why::NoEntry { below, above }) = why {
+        assert!(below.iter().all(|it| *it < index && is_named(*it)));
+        assert!(above.iter().all(|it| *it > index && is_named(*it)));
+    }
+}
+
 fn names_agree_in_both(bytes: &[u8]) {
     names_agree::<First>(bytes);
     names_agree::<Wider>(bytes);
     editions_agree(bytes);
+    reasons_agree(bytes);
 }
 
 fn metadata_agree(bytes: &[u8]) {

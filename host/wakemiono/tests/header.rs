@@ -41,6 +41,7 @@ fn parameter(c: &str) -> String {
 fn answer(c: &str) -> &'static str {
     match c {
         "wm_answer" => "Answer",
+        "wm_why" => "WhyAnswer",
         "uint32_t" => "u32",
         other => panic!("the header has an answer that is not known here: {other}"),
     }
@@ -79,26 +80,38 @@ fn in_crate() -> Vec<String> {
 #[test]
 fn every_call_is_declared_as_the_header_has_it() {
     assert_eq!(in_crate(), in_header());
-    assert_eq!(in_crate().len(), 65);
+    assert_eq!(in_crate().len(), 67);
+}
+
+/// The fields of a struct of the header, as Rust declares them.
+fn fields(c_struct: &str) -> Vec<String> {
+    let (before, _) = HEADER.split_once(c_struct).expect(c_struct);
+    let (_, fields) = before.rsplit_once("typedef struct {").expect("it begins");
+    let fields = fields.split(';').map(str::trim);
+    fields
+        .filter(|field| !field.is_empty())
+        .map(parameter)
+        .collect()
 }
 
 #[test]
-fn the_answer_is_declared_as_the_header_has_it() {
-    let c = between(HEADER, "typedef struct {", "} wm_answer;");
-    let fields = c
-        .split(';')
-        .map(str::trim)
-        .filter(|field| !field.is_empty());
-    let fields: Vec<String> = fields.map(parameter).collect();
-    let declared = between(DECLARED, "struct Answer {", "}").replace("pub(crate) ", "");
-    let declared: Vec<&str> = declared.split_terminator(',').map(str::trim).collect();
-    assert_eq!(declared[..fields.len()], fields);
-    assert_eq!(declared[fields.len()..].concat(), "");
+fn the_answers_are_declared_as_the_header_has_them() {
+    for (c, rust) in [
+        ("} wm_answer;", "struct Answer {"),
+        ("} wm_why;", "struct WhyAnswer {"),
+    ] {
+        let fields = fields(c);
+        let declared = between(DECLARED, rust, "}").replace("pub(crate) ", "");
+        let declared: Vec<&str> = declared.split_terminator(',').map(str::trim).collect();
+        assert_eq!(declared[..fields.len()], fields);
+        assert_eq!(declared[fields.len()..].concat(), "");
+    }
 }
 
 #[test]
 fn the_kinds_are_numbered_as_the_header_has_it() {
-    let kinds = between(HEADER, "enum {", "}").split(',');
+    let enums = HEADER.split("enum {").skip(1);
+    let kinds = enums.flat_map(|kinds| kinds.split_once('}').expect("they end").0.split(','));
     let kinds: Vec<String> = kinds
         .map(|kind| {
             let (name, number) = kind.split_once(" = ").expect("a kind has a number");

@@ -7,7 +7,7 @@ pub mod editions;
 pub mod inputs;
 pub mod random;
 
-use second_reader::{Answer, Kind};
+use second_reader::{Answer, Kind, Why};
 
 pub const PREAMBLE: &[u8] = b"\0asm\x01\0\0\0";
 
@@ -44,6 +44,47 @@ pub const fn section_found(id: u32, offset: u64, length: u64) -> Answer {
 
 pub const fn refused(code: u32, offset: u64) -> Answer {
     answer(Kind::Refused, code, offset, 0)
+}
+
+pub const NO_SUBSECTION: Why = why(Kind::NoSubsection);
+pub const NO_GROUP: Why = why(Kind::NoGroup);
+
+const fn why(kind: Kind) -> Why {
+    Why {
+        kind,
+        code: 0,
+        offset: 0,
+        position: 0,
+        below: None,
+        above: None,
+    }
+}
+
+/// A name stands in a subsection, at a position of its map.
+pub const fn named(subsection: u32, position: u64) -> Why {
+    Why {
+        code: subsection,
+        position,
+        ..why(Kind::Found)
+    }
+}
+
+/// A map does not have an index, and these are the nearest that it has.
+pub const fn between(below: Option<u32>, above: Option<u32>) -> Why {
+    Why {
+        below,
+        above,
+        ..why(Kind::NoEntry)
+    }
+}
+
+/// The same refusal, as the answer to why.
+pub const fn why_refused(code: u32, offset: u64) -> Why {
+    Why {
+        code,
+        offset,
+        ..why(Kind::Refused)
+    }
 }
 
 /// The bytes that an answer points to, or none where it is not a found one.

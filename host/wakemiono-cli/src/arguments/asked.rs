@@ -1,4 +1,6 @@
-//! The question that the options of `name` ask.
+//! The question that the options of `name` ask, and that of `why`.
+
+use wakemiono::{FunctionIndex, LocalIndex};
 
 use super::{add_wide, may_be_asked};
 use crate::escape;
@@ -60,6 +62,17 @@ pub fn question(given: &Given, wide: bool) -> Result<Question, String> {
     within(question, local, label, field)
 }
 
+/// The function, or the local in it, that `why` asks about.
+pub fn function_or_local(given: &Given) -> Result<(FunctionIndex, Option<LocalIndex>), String> {
+    let (function, local) = (index(given, "--function")?, index(given, "--local")?);
+    let function = function.ok_or_else(|| {
+        lone(given).unwrap_or_else(|| {
+            "nothing is asked: give --function, and --local too for a local in it".to_owned()
+        })
+    })?;
+    Ok((function.into(), local.map(LocalIndex::from)))
+}
+
 /// Only the wider edition is asked for what only it has.
 fn check_edition(given: &Given, wide: bool) -> Result<(), String> {
     let mut options = Kind::ALL
@@ -107,10 +120,15 @@ fn within(
     }
 }
 
-fn no_question(given: &Given, wide: bool) -> String {
+/// What is missing beside an option that says what lies within something else.
+fn lone(given: &Given) -> Option<String> {
     let lone = WITHIN.iter().find(|(inner, _)| given.has(inner));
-    match lone {
-        Some((inner, outer)) => format!("{inner} needs its {outer}: give --{outer} too"),
+    lone.map(|(inner, outer)| format!("{inner} needs its {outer}: give --{outer} too"))
+}
+
+fn no_question(given: &Given, wide: bool) -> String {
+    match lone(given) {
+        Some(sentence) => sentence,
         None if wide => "nothing is asked: give --module, --function, --type, --tag, --table, \
              --memory, --global, --element, --data or --kept"
             .to_owned(),
@@ -158,8 +176,8 @@ mod tests {
     use std::ffi::OsString;
 
     use wakemiono::{
-        DataIndex, ElementIndex, FieldIndex, FunctionIndex, GlobalIndex, LabelIndex, LocalIndex,
-        MemoryIndex, TableIndex, TagIndex, TypeIndex,
+        DataIndex, ElementIndex, FieldIndex, GlobalIndex, LabelIndex, MemoryIndex, TableIndex,
+        TagIndex, TypeIndex,
     };
 
     use super::*;
@@ -213,6 +231,27 @@ mod tests {
         wide("--global 3", Question::Global(GlobalIndex(3)));
         wide("--element 4", Question::Element(ElementIndex(4)));
         wide("--data 4294967295", Question::Data(DataIndex(u32::MAX)));
+    }
+
+    #[test]
+    fn a_function_and_a_local_can_be_asked_about() {
+        let why = |line: &str, wide, function, local: Option<u32>| {
+            let local = local.map(LocalIndex);
+            let asked = Invocation::Run {
+                command: Command::Why("f".into(), FunctionIndex(function), local),
+                wide,
+                json: false,
+            };
+            assert_eq!(parsed(line), Ok(asked));
+        };
+        why("why f --function 7", false, 7, None);
+        why("why --function=0x7 f --wide", true, 7, None);
+        why(
+            "why f --local 4294967295 --function 0",
+            false,
+            0,
+            Some(u32::MAX),
+        );
     }
 
     #[test]

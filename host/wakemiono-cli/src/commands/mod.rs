@@ -8,6 +8,7 @@ mod list;
 mod name;
 mod names;
 mod same;
+mod why;
 
 use wakemiono::{First, Wider};
 
@@ -30,6 +31,9 @@ fn run_in<E: Edition>(command: &Command, json: bool) -> Result<Report, Failure> 
         Command::List(file) => list::run(&Input::read(file)?, json),
         Command::Names(file, kind) => names::run(&Input::<E>::read(file)?, *kind, json),
         Command::Name(file, question) => name::run(&Input::<E>::read(file)?, *question, json),
+        Command::Why(file, function, local) => {
+            why::run(&Input::<E>::read(file)?, *function, *local, json)
+        }
         Command::Hints(file) => hints::run(&Input::read(file)?, json),
         Command::Canon(file, out) => canon::names::<E>(file, out.as_deref(), json),
         Command::CanonOldHints(file, out) => canon::old_hints(file, out.as_deref(), json),

@@ -25,10 +25,12 @@ pub const BARE: &[u8] = b"\0asm\x01\0\0\0";
 pub const NO_SUCH_SECTION: &[u8] = b"\0asm\x01\0\0\0\x0E\x00";
 
 /// The words of all commands.
-pub const COMMANDS: [&str; 7] = ["list", "names", "name", "hints", "canon", "same", "judge"];
+pub const COMMANDS: [&str; 8] = [
+    "list", "names", "name", "why", "hints", "canon", "same", "judge",
+];
 
 /// The words of those that ask names, and so take `--wide`.
-pub const ASK_NAMES: [&str; 5] = ["names", "name", "canon", "same", "judge"];
+pub const ASK_NAMES: [&str; 6] = ["names", "name", "why", "canon", "same", "judge"];
 
 /// A name payload with every kind of name that the first edition knows.
 pub const EVERY_KIND: &[u8] = b"\x00\x02\x01m\x01\x04\x01\x00\x01a\x02\x06\x01\x03\x01\x00\x01x\
