@@ -11,6 +11,7 @@ pub mod Walking
 pub mod Writing
 pub mod Telling
 pub mod Older
+pub mod Why
 pub mod Demands
 pub mod Laws
 pub mod Proved

@@ -13,8 +13,8 @@ use format::LocalIndex;
 use format::Refusal;
 use neighbours::Neighbour;
 use neighbours::Why;
-use neighbours::why_function;
-use neighbours::why_local;
+use neighbours::functions::why_function;
+use neighbours::locals::why_local;
 
 const NO_SUBSECTION: u32 = 5;
 

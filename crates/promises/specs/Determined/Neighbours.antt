@@ -4,8 +4,9 @@ use Rattle.neighbours.proofs.Same.{why-same}
 use Rattle.neighbours.specs.Promises.{neighbours-why-function, neighbours-why-local}
 
 pub record Neighbours : Type 0 where
-  -- neighbours
+  -- neighbours::functions
   neighbours-why-function : Determines2 neighbours-why-function
+  -- neighbours::locals
   neighbours-why-local : Determines3 neighbours-why-local
 
 pub determined : Neighbours
