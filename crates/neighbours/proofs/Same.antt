@@ -1,7 +1,6 @@
 -- What is said tells answers apart: two results that meet one promise are equal.
 use Prim.Native.Nat.{ℕ}
-use mathlib.Core.Option.{none, some}
-use mathlib.Core.Path.{_≡_, refl, sym, ap, _∙_}
+use mathlib.Core.Path.{_≡_, refl, sym, ap}
 use native.Mathlib.Omega.{arith}
 use Rattle.format.specs.Reading.{accepted}
 use Rattle.format.specs.Why.{Why as AnyWhy, named, noSubsection, noGroup, noEntry}

@@ -1,13 +1,12 @@
 -- A whole payload: judged, then asked where its subsection lies.
 use Prim.Native.Nat.{ℕ}
 use mathlib.Core.List.{List}
-use mathlib.Core.Option.{Option, none, some}
-use mathlib.Core.Path.{_≡_, refl, sym, ap, _∙_}
-use native.Mathlib.Omega.{arith}
+use mathlib.Core.Option.{none, some}
+use mathlib.Core.Path.{_≡_, sym, ap, _∙_}
 use borrow.Author.Needs.{needs}
 use denote.Enum.Declared.{tagOf}
 use lib.ListN.{length}
-use Rattle.format.specs.Names.{Content, nameMap, indirectMap, names, namesBy, known, knownKind, contents, subsections, payload, judgeNames}
+use Rattle.format.specs.Names.{Content, names, namesBy, known, knownKind, contents, subsections, payload, judgeNames}
 use Rattle.format.specs.Parts.{Part, sized}
 use Rattle.format.specs.Reading.{accepted, judge, mapJudged, verdict, Accepted as IsAccepted}
 use Rattle.format.specs.Tables.{Table, lookup, table}
@@ -27,7 +26,7 @@ use Rattle.reading.specs.declared.Cursor.{Cursor}
 use Rattle.reading.proofs.Laws.{left-all, over-inside}
 use Rattle.reading.proofs.Standing.{one-value}
 use Rattle.tables.specs.declared.Held.{Held}
-use Rattle.tables.specs.declared.Held.the-variants.{Nothing as Absent, Part as At}
+use Rattle.tables.specs.declared.Held.the-variants.{Part as At}
 use Rattle.tables.proofs.Held as held-type
 use Rattle.names.specs.Frames.{judgeFrames, readUnder}
 use Rattle.names.specs.Places.{subOf, Stands, Finds}

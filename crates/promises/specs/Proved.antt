@@ -8,7 +8,7 @@ use lib.ListN.{length, take, drop}
 use Rattle.wakemiono.specs.declared.WmAnswer.{WmAnswer}
 use Rattle.wakemiono.specs.Boundary.{wmRefused}
 use Rattle.grammar.specs.Numbers.{Grammar}
-use Rattle.grammar.specs.Names.{SourceIds, NamePayload}
+use Rattle.grammar.specs.Names.{NamePayload}
 use Rattle.grammar.specs.Metadata.{CodeMetadata, Unknown, BranchHint}
 use Rattle.format.specs.Tables.{Table}
 use Rattle.format.specs.Names.{Content, names}
@@ -66,7 +66,7 @@ use Rattle.promises.specs.Laws.Telling.{number-told, else-zero, yes-told
 use Rattle.promises.specs.Laws.Through.{name-through, hint-through, older-through, metadata-through, hint-data-through}
 use Rattle.promises.specs.Laws.Why.{function-in-1, local-in-2, says-why}
 use Rattle.promises.specs.Laws.Walking.{walked, walk-counts, section-found, section-first, section-none, section-refused, custom-tells, custom-refused}
-use Rattle.wakemiono.specs.Calls.{wm-walk, wm-names-judge, wm-name, wm-metadata-judge, wm-metadata, wm-hints-judge, wm-hint, wm-names-canonical, wm-metadata-canonical, wm-hints-canonical, wm-function-names-write, wm-old-hints-judge, wm-old-hint, wm-old-hints-canonical}
+use Rattle.wakemiono.specs.Calls.{wm-walk, wm-metadata-judge, wm-hints-judge, wm-metadata-canonical, wm-hints-canonical, wm-function-names-write, wm-old-hints-judge, wm-old-hints-canonical}
 use Rattle.promises.specs.Demands.{Verdict, Reply, SectionReply, HintReply, Answers, RefusedBy, RefusedThrough, RefusedOrShort, ListsRefused, Leaves, NeedsRoom, Writing, Demand1, HoldsName, HoldsData, JudgesExactly, AnswersNames, AnswersMetadata, AnswersHints, Walks, Demand2, SameAnswer, Rewritten, Rewrites, Demand3, yes, no, replyNone, replyFound, replyRefused, sectionNone, sectionFound, sectionRefused, hintNone, hintUnlikely, hintLikely, hintRefused, byTheWalk, byItsPayload, asJudged, tooShort, listsDisagree, notAbove, notText, subsectionTooLarge, outputTooShort, TellsCanonical, K10, K9, OlderRefused, AnswersOlder, K2, olderJudged, olderTooLong, olderTooShort, K11, K7}
 
 -- Demand 1

@@ -11,17 +11,15 @@ use Rattle.format.specs.Laws.Outcomes.{not-accepted, accepted-is}
 use Rattle.format.specs.Names.{Content, knownKind, judgeNames}
 use Rattle.format.specs.Parts.{Part}
 use Rattle.format.specs.Questions.{asPlace, ask}
-use Rattle.format.specs.Reading.{Judged, accepted, refused, Accepted, verdict}
+use Rattle.format.specs.Reading.{Judged, accepted, refused, Accepted}
 use Rattle.format.specs.Tables.{Table, mapTable}
 use Rattle.format.specs.Theorems.{AnswersWhy, questions-answered}
-use Rattle.format.specs.Why.{Why, named, noSubsection, noGroup, noEntry, TrueInMap, anEntry, TrueOfFunction, amongFunctions, TrueOfLocal, amongLocals}
+use Rattle.format.specs.Why.{Why, named, noSubsection, noGroup, noEntry, anEntry, TrueOfFunction, amongFunctions, TrueOfLocal, amongLocals}
 use Rattle.format.specs.declared.Question.{Question}
 use Rattle.grammar.specs.Laws.Names.{source-ids, names-complete}
 use Rattle.grammar.specs.Names.{SourceIds, NamePayload}
-use Rattle.wakemiono.specs.Boundary.{wmPlace, wmJudged, wmRefused}
-use Rattle.wakemiono.specs.Why.{wmWhyRefused, wmWhy}
-use Rattle.wakemiono.specs.declared.WmAnswer.{WmAnswer}
-use Rattle.wakemiono.specs.declared.why.WmWhy.{WmWhy}
+use Rattle.wakemiono.specs.Boundary.{wmPlace}
+use Rattle.wakemiono.specs.Why.{wmWhy}
 use Rattle.promises.specs.Answers.{saysWhy, why-said}
 use Rattle.promises.specs.Demands.{WhyReply, aPlace, noSuchSubsection, noSuchGroup, noSuchEntry, whyRefused, SaysWhy}
 use Rattle.promises.specs.Laws.Saying.{judged-said}
