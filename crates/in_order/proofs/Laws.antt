@@ -8,14 +8,12 @@ use native.Mathlib.Omega.{arith}
 use borrow.Author.Tests.{ne-eqb}
 use lib.Dec.{eqb, leb}
 use lib.ListN.{length, length-append}
-use Rattle.format.specs.Numbers.{number, fewest, shortest}
+use Rattle.format.specs.Numbers.{number, shortest}
 use Rattle.format.specs.Older.{OlderHint, OlderEntry, times, kindNumbered, kindNumber, olderHint, olderEntry}
 use Rattle.format.specs.OlderInOrder.{risingHints, risingEntries, hintsBytes, keptEntries, entriesBytes}
-use Rattle.format.specs.Laws.OlderEntries.{kind-numbered}
+use Rattle.format.specs.Laws.OlderEntries.{kind-numbered, kind-byte}
 use Rattle.format.specs.Laws.Numbers.{shortest-mono}
 use Rattle.format.specs.Laws.Outcomes.{byTest}
-use Rattle.format.specs.declared.Hint.{Hint}
-use Rattle.format.specs.declared.Hint.the-variants.{Unlikely, Likely}
 use Rattle.reading.specs.Standing.{Stands, Known}
 use Rattle.reading.specs.declared.Cursor.{Cursor}
 use Rattle.reading.proofs.Standing.{one-value, one-end}
@@ -48,14 +46,9 @@ pub hints-one : {k : ℕ} (offset : ℕ) (hs : List OlderHint) → k ≤ 1 → h
 unfolding hintsBytes
 hints-one {k} offset hs h = rw (kind-numbered k h)
 
-kind-length : (h : Hint) → length (shortest (kindNumber h)) ≡ 1
-unfolding shortest fewest
-kind-length Unlikely = refl
-kind-length Likely = refl
-
 pub hint-length : (h : OlderHint) (hs : List OlderHint) → length (hintsBytes (h ∷ hs)) ≡ 1 + length (shortest (h .offset)) + length (hintsBytes hs)
 unfolding hintsBytes
-hint-length h hs = simp (length-append, kind-length) (omega arith)
+hint-length h hs = simp (length-append, kind-byte) (omega arith)
 
 -- Entries, one by one
 pub rising-entry : (rising up : Bool) (least f : ℕ) (hs : List OlderHint) (es : List OlderEntry) → up ≡ risingHints 0 hs → cond (stillRising (rising && up) least f) (risingEntries (suc f) es) false ≡ cond rising (risingEntries least (record { function = f; hints = hs } ∷ es)) false
@@ -125,7 +118,7 @@ module _ {s : List ℕ} where
       let kind = hint-kind known in
       let offset = hint-offset known (kind .stands) in
       let again = hint-again known (kind .stands) (offset .stands) in
-      let at-least : 1 ≡ length (shortest (kind .value)) = sym (kind-length (kindNumbered (kind .value))) ∙ ap (λ k. length (shortest k)) (kind-numbered (kind .value) (again .known-kind)) in
+      let at-least : 1 ≡ length (shortest (kind .value)) = sym (ap length (kind-byte (kindNumbered (kind .value)))) ∙ ap (λ k. length (shortest k)) (kind-numbered (kind .value) (again .known-kind)) in
       let same = ap (λ (x : OlderHint). length (shortest (x .offset))) (one-value (again .stands) w) in
       omega (arith, at-least, number-shorter (kind .stands), number-shorter (offset .stands), same, ap place (one-end (again .stands) w))
 

@@ -7,7 +7,7 @@ use borrow.Author.Tests.{leb-true, eqb-true}
 use lib.Dec.{leb, eqb}
 use lib.ListN.{length, length-append}
 use Rattle.format.specs.Reading.{got, accepted, filling}
-use Rattle.format.specs.Numbers.{number, shortest}
+use Rattle.format.specs.Numbers.{number, fewest, shortest}
 use Rattle.format.specs.Older.{OlderHint, OlderEntry, vector, zeroByte, kindNumbered, olderKind, olderHint, olderEntry, judgeOlder, kindNumber}
 use Rattle.format.specs.Laws.Outcomes.{not-got, got-value, got-rest, byTest, inTurn, passed, judged}
 use Rattle.format.specs.Laws.Tight.{tight-byte, tight-join}
@@ -21,6 +21,12 @@ pub kind-numbered : (k : ℕ) → k ≤ 1 → kindNumber (kindNumbered k) ≡ k
 kind-numbered zero h = refl
 kind-numbered (suc zero) h = refl
 kind-numbered (suc (suc k)) h = absurd (omega arith)
+
+-- a kind is written as one byte
+pub kind-byte : (x : Hint) → shortest (kindNumber x) ≡ kindNumber x ∷ []
+unfolding shortest fewest
+kind-byte Unlikely = refl
+kind-byte Likely = refl
 
 unfoldable pub kindBytes : Hint → List ℕ
 kindBytes kind = shortest (kindNumber kind)
