@@ -6,7 +6,9 @@ use borrow.Author.Needs.{needs}
 use denote.Enum.Declared.{tagOf}
 use Rattle.format.specs.declared.Answer.{Answer}
 use Rattle.format.specs.Refusals.{numberOf}
-use Rattle.format.specs.Verdicts.{refusalIn}
+use Rattle.format.specs.Reading.{Judged, accepted, refused, verdict}
+use Rattle.format.specs.Verdicts.{verdictOf, refusalIn}
+use Rattle.format.specs.Laws.Outcomes.{mapped, refused-exactly}
 use Rattle.format.specs.declared.Answer.the-variants.{None, Found, Refused as NotAnswered}
 use Rattle.format.specs.declared.Reason.{Reason}
 use Rattle.format.specs.declared.Reason.the-variants.{NoPreamble, PastItsPart, NumberTooLarge, NotText, SectionUnknown, SectionOrder, SectionTwice, SectionTooLate, SubsectionOrder, LeftOver, NotAbove, NotHint, OutputTooShort, ListsDisagree, SubsectionTooLarge, InputTooLarge, NotZero}
@@ -24,6 +26,14 @@ as-accepted (Refused r) h = absurd (omega arith)
 pub as-refused : (v : Verdict) → tagOf verdict-type.the-type v ≡ 1 → v ≡ Refused (refusalIn v)
 as-refused Accepted h = absurd (omega arith)
 as-refused (Refused r) h = refl
+
+-- the judgement that a verdict is of: refused so, or accepted
+module _ {A : Type 0} (v : Verdict) (j : Judged A) (says : verdictOf v ≡ verdict j) where
+  pub judged-refused : tagOf verdict-type.the-type v ≡ 1 → j ≡ refused (numberOf (refusalIn v .reason)) (refusalIn v .offset .0)
+  judged-refused h = refused-exactly (λ _. tt) j .0 (sym says ∙ ap verdictOf (as-refused v h))
+
+  pub judged-accepted : tagOf verdict-type.the-type v ≡ 0 → (t : A) × (j ≡ accepted t)
+  judged-accepted h = mapped (λ _. tt) j (sym says ∙ ap verdictOf (as-accepted v h)) λ t e _. (t, e)
 
 pub refusal-is : (v : Verdict) {r : Refusal} → v ≡ Refused r → r ≡ refusalIn v
 refusal-is v e = rw e

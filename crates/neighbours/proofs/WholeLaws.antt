@@ -17,8 +17,7 @@ use Rattle.format.specs.declared.FunctionIndex.{FunctionIndex}
 use Rattle.format.specs.declared.LocalIndex.{LocalIndex}
 use Rattle.format.specs.declared.Refusal.{Refusal}
 use Rattle.format.specs.declared.Verdict.{Verdict}
-use Rattle.format.specs.declared.Verdict.the-variants.{Refused as NotAccepted}
-use Rattle.format.proofs.Tags.{as-accepted, as-refused}
+use Rattle.format.proofs.Tags.{judged-refused, judged-accepted}
 use Rattle.format.proofs.Verdict as verdict-type
 use Rattle.reading.specs.Cursors.{Inside, left, overAll}
 use Rattle.reading.specs.Standing.{Known}
@@ -40,10 +39,7 @@ use Rattle.neighbours.specs.declared.Why.the-variants.{NoSubsection, Ref
 -- A payload that is not accepted, whatever was to be said of one that is
 module _ (p : List ℕ) (v : Verdict) (says : verdictOf v ≡ verdict (judgeNames knownKind 0 p)) where
   refused-as : (f : Table (Content Part) → AnyWhy) {r : Refusal} → tagOf verdict-type.the-type v ≡ 1 → r ≡ refusalIn v → whyMeant (Refused r) ≡ mapJudged f (judgeNames knownKind 0 p)
-  refused-as f h is =
-      let told : verdict (judgeNames knownKind 0 p) ≡ verdictOf (NotAccepted (refusalIn v)) = sym says ∙ ap verdictOf (as-refused v h) in
-      let no = refused-exactly (λ _. tt) (judgeNames knownKind 0 p) .0 told in
-      rw is (sym (refused-exactly f (judgeNames knownKind 0 p) .1 no))
+  refused-as f h is = rw is (sym (refused-exactly f (judgeNames knownKind 0 p) .1 (judged-refused v (judgeNames knownKind 0 p) says h)))
 
   pub function-refused : (f : FunctionIndex) {r : Refusal} → tagOf verdict-type.the-type v ≡ 1 → r ≡ refusalIn v → whyMeant (Refused r) ≡ whyFunction f p
   unfolding whyFunction
@@ -56,7 +52,7 @@ module _ (p : List ℕ) (v : Verdict) (says : verdictOf v ≡ verdict (judgeName
   -- One that is: under an id stands what is read where it lies
   module _ (h : tagOf verdict-type.the-type v ≡ 0) where
     holds : IsAccepted (judgeNames knownKind 0) p
-    holds = mapped (λ _. tt) (judgeNames knownKind 0 p) (sym says ∙ ap verdictOf (as-accepted v h)) λ t e _. record { value = t; judged = e }
+    holds = let (t, e) = judged-accepted v (judgeNames knownKind 0 p) says h in record { value = t; judged = e }
 
     record There (id : ℕ) (place : Held) : Type 0 where
       lies : Table Part

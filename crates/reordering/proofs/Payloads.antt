@@ -23,7 +23,7 @@ use Rattle.format.specs.Verdicts.{verdictOf}
 use Rattle.format.specs.Laws.Bytes.{same-true, same-self}
 use Rattle.format.specs.Laws.OlderInOrder.{in-order-written}
 use Rattle.format.specs.Laws.UnchangedOlder.{older-rises, older-tight}
-use Rattle.format.specs.Laws.Outcomes.{false-true, byTest, ended, got-value, got-next, got-rest, inTurn, judged, mapped, refused-exactly}
+use Rattle.format.specs.Laws.Outcomes.{false-true, byTest, ended, got-value, got-next, got-rest, inTurn, judged, refused-exactly}
 use Rattle.format.specs.Laws.Outputs.{writes-refused}
 use Rattle.format.specs.Laws.Passing.{number-passes}
 use Rattle.format.specs.declared.Refusal.{Refusal}
@@ -31,7 +31,7 @@ use Rattle.format.specs.declared.Verdict.{Verdict}
 use Rattle.format.specs.declared.Verdict.the-variants.{Refused as NotAccepted}
 use Rattle.format.specs.declared.Written.{Written}
 use Rattle.format.specs.declared.Written.the-variants.{Refused}
-use Rattle.format.proofs.Tags.{as-accepted}
+use Rattle.format.proofs.Tags.{judged-accepted}
 use Rattle.format.proofs.Verdict as verdict-type
 use Rattle.in_order.specs.Standing.{Surveys}
 use Rattle.in_order.specs.declared.EntrySurvey.{EntrySurvey}
@@ -118,9 +118,7 @@ module _ (p : List ℕ) (j : Verdict) (says : verdictOf j ≡ verdict (judgeOlde
 
   module _ (h : tagOf verdict-type.the-type j ≡ 0) where
     pub was-accepted : Accepted (judgeOlder 0) p
-    was-accepted =
-        let told : verdict (judgeOlder 0 p) ≡ accepted tt = sym says ∙ ap verdictOf (as-accepted j h) in
-        mapped (λ _. tt) (judgeOlder 0 p) told λ v e _. record { value = v; judged = e }
+    was-accepted = let (v, e) = judged-accepted j (judgeOlder 0 p) says h in record { value = v; judged = e }
 
     pub older-known : {c : Cursor} → c ≡ overAll p → Known (vector olderEntry) p c
     older-known over = let (next, w) = accepted-stands was-accepted in rw over (record { value = _; next = next; stands = w })

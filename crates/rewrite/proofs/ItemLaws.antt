@@ -1,7 +1,7 @@
 -- Metadata that stands at a cursor: its count and its functions, how long they are written anew, and the two ways to end.
 use Prim.Native.Nat.{ℕ, _+_, _-_, _^_, _≤_, _<_}
 use mathlib.Core.List.{List, [], _++_}
-use mathlib.Core.Path.{_≡_, refl, sym, ap, _∙_}
+use mathlib.Core.Path.{_≡_, refl, ap, _∙_}
 use native.Mathlib.Omega.{arith}
 use borrow.Author.Needs.{needs}
 use denote.Enum.Declared.{tagOf}
@@ -16,7 +16,7 @@ use Rattle.format.specs.Canonical.{writeTable, rewriteMetadata, canonicalOf, ca
 use Rattle.format.specs.Outputs.{Writes}
 use Rattle.format.specs.Laws.Laxer.{Laxer, any-laxer, hint-laxer, table-laxer, filled-laxer}
 use Rattle.format.specs.Laws.Numbers.{shortest-mono}
-use Rattle.format.specs.Laws.Outcomes.{judged, mapped, refused-exactly}
+use Rattle.format.specs.Laws.Outcomes.{judged, refused-exactly}
 use Rattle.format.specs.Laws.Outputs.{writes-refused, writes-short}
 use Rattle.format.specs.Laws.Passing.{sized-passes}
 use Rattle.format.specs.Laws.Codecs.{sized-codec}
@@ -35,8 +35,7 @@ use Rattle.reading.proofs.Standing.{stand, one-value}
 use Rattle.copying.proofs.Laws.{part-length, number-shorter, groups-count, groups-shorter}
 use Rattle.format.specs.Verdicts.{verdictOf, refusalIn}
 use Rattle.format.specs.declared.Verdict.{Verdict}
-use Rattle.format.specs.declared.Verdict.the-variants.{Refused as NotAccepted}
-use Rattle.format.proofs.Tags.{as-accepted, as-refused}
+use Rattle.format.proofs.Tags.{judged-refused, judged-accepted}
 use Rattle.format.proofs.Verdict as verdict-type
 use Rattle.reading.specs.Cursors.{overAll, left}
 use Rattle.reading.specs.declared.Cursor.{Cursor}
@@ -107,18 +106,14 @@ pub ruleset item-steps = (items-count, items-ordered, items-groups, items-fit, i
 module _ (item : Reader Part) (p : List ℕ) (j : Verdict) (says : verdictOf j ≡ verdict (judgeMetadata item 0 p)) where
   payload-refused : {old : List ℕ} {r : Refusal} → tagOf verdict-type.the-type j ≡ 1 → r ≡ refusalIn j → Writes (canonicalOf item p) old old (Refused r)
   unfolding canonicalOf
-  payload-refused h is =
-      let told : verdict (judgeMetadata item 0 p) ≡ verdictOf (NotAccepted (refusalIn j)) = sym says ∙ ap verdictOf (as-refused j h) in
-      let no = refused-exactly (λ _. tt) (judgeMetadata item 0 p) .0 told in
-      rw is (writes-refused (refused-exactly rewriteMetadata (judgeMetadata item 0 p) .1 no))
+  payload-refused h is = rw is (writes-refused (refused-exactly rewriteMetadata (judgeMetadata item 0 p) .1 (judged-refused j (judgeMetadata item 0 p) says h)))
 
   module _ (lax : Laxer item sized) (h : tagOf verdict-type.the-type j ≡ 0) where
     -- read without the item's checks, what was accepted stands there
     payload-stands : (v : Table (Table Part)) × (judgeMetadata item 0 p ≡ accepted v) × (next : Cursor) × Stands (table (table sized)) p (overAll p) v next
     unfolding judgeMetadata metadata
     payload-stands =
-        let told : verdict (judgeMetadata item 0 p) ≡ accepted tt = sym says ∙ ap verdictOf (as-accepted j h) in
-        mapped (λ _. tt) (judgeMetadata item 0 p) told λ v e _.
+        let (v, e) = judged-accepted j (judgeMetadata item 0 p) says h in
         judged (filling (table (table item)) 0 p) e λ o rest e₁.
         let (o₁, e₂) = filled-laxer (table-laxer (table-laxer lax)) 0 p e₁ in
         let here : table (table sized) 0 (slice 0 (length p) p) ≡ got v o₁ [] = rw (left-all p) e₂ in

@@ -1,14 +1,14 @@
 -- The name payload: judged whole, then rewritten.
 use Prim.Native.Nat.{ℕ}
 use mathlib.Core.List.{List}
-use mathlib.Core.Path.{_≡_, refl, sym, ap, _∙_}
+use mathlib.Core.Path.{_≡_, refl}
 use borrow.Author.Needs.{needs}
 use denote.Enum.Declared.{tagOf}
 use Rattle.format.specs.Reading.{accepted, verdict, Accepted as IsAccepted}
 use Rattle.format.specs.Names.{Kind as AnyKind, payload, judgeNames}
 use Rattle.format.specs.Canonical.{rewriteNames, canonicalNames}
 use Rattle.format.specs.Outputs.{Writes}
-use Rattle.format.specs.Laws.Outcomes.{judged, mapped, refused-exactly}
+use Rattle.format.specs.Laws.Outcomes.{judged, refused-exactly}
 use Rattle.format.specs.Laws.Outputs.{writes-refused}
 use Rattle.format.specs.Laws.CanonicalNames.{rewriting-shorter}
 use Rattle.format.specs.declared.Refusal.{Refusal}
@@ -19,22 +19,18 @@ use Rattle.reading.proofs.Laws.{left-all, over-inside}
 use Rattle.reading.specs.Cursors.{overAll}
 use Rattle.format.specs.Verdicts.{verdictOf, refusalIn}
 use Rattle.format.specs.declared.Verdict.{Verdict}
-use Rattle.format.specs.declared.Verdict.the-variants.{Refused as NotAccepted}
-use Rattle.format.proofs.Tags.{as-accepted, as-refused}
+use Rattle.format.proofs.Tags.{judged-refused, judged-accepted}
 use Rattle.format.proofs.Verdict as verdict-type
 use Rattle.rewrite.specs.Subsections.{PayloadStands, KnownPayload, RewritesNames}
 
 module _ (kindOf : ℕ → AnyKind) (p : List ℕ) (v : Verdict) (says : verdictOf v ≡ verdict (judgeNames kindOf 0 p)) where
   pub names-refused : {old : List ℕ} {r : Refusal} → tagOf verdict-type.the-type v ≡ 1 → r ≡ refusalIn v → Writes (canonicalNames kindOf p) old old (NotWritten r)
   unfolding canonicalNames
-  names-refused h is =
-      let told : verdict (judgeNames kindOf 0 p) ≡ verdictOf (NotAccepted (refusalIn v)) = sym says ∙ ap verdictOf (as-refused v h) in
-      let no = refused-exactly (λ _. tt) (judgeNames kindOf 0 p) .0 told in
-      rw is (writes-refused (refused-exactly rewriteNames (judgeNames kindOf 0 p) .1 no))
+  names-refused h is = rw is (writes-refused (refused-exactly rewriteNames (judgeNames kindOf 0 p) .1 (judged-refused v (judgeNames kindOf 0 p) says h)))
 
   module _ (h : tagOf verdict-type.the-type v ≡ 0) where
     accepts : IsAccepted (judgeNames kindOf 0) p
-    accepts = mapped (λ _. tt) (judgeNames kindOf 0 p) (sym says ∙ ap verdictOf (as-accepted v h)) λ t e _. record { value = t; judged = e }
+    accepts = let (t, e) = judged-accepted v (judgeNames kindOf 0 p) says h in record { value = t; judged = e }
 
     stands-whole : PayloadStands kindOf p (overAll p) (accepts .value)
     unfolding judgeNames
