@@ -1,9 +1,11 @@
 -- An arm of a match that binds nothing gives the tag alone: which case it is.
-use Prim.Native.Nat.{ℕ, suc}
+use Prim.Native.Nat.{ℕ}
+use mathlib.Core.List.{List, [], _∷_}
 use mathlib.Core.Path.{_≡_, refl, sym, ap, _∙_}
 use native.Mathlib.Omega.{arith}
 use borrow.Author.Needs.{needs}
 use denote.Enum.Declared.{tagOf}
+use lib.ListN.{getD}
 use Rattle.format.specs.declared.Answer.{Answer}
 use Rattle.format.specs.Refusals.{numberOf}
 use Rattle.format.specs.Reading.{Judged, accepted, refused, verdict}
@@ -11,7 +13,7 @@ use Rattle.format.specs.Verdicts.{verdictOf, refusalIn}
 use Rattle.format.specs.Laws.Outcomes.{mapped, refused-exactly}
 use Rattle.format.specs.declared.Answer.the-variants.{None, Found, Refused as NotAnswered}
 use Rattle.format.specs.declared.Reason.{Reason}
-use Rattle.format.specs.declared.Reason.the-variants.{NoPreamble, PastItsPart, NumberTooLarge, NotText, SectionUnknown, SectionOrder, SectionTwice, SectionTooLate, SubsectionOrder, LeftOver, NotAbove, NotHint, OutputTooShort, ListsDisagree, SubsectionTooLarge, InputTooLarge, NotZero}
+use Rattle.format.specs.declared.Reason.the-variants.{NoPreamble, PastItsPart, NumberTooLarge, NotText, SectionUnknown, SectionOrder, SectionTwice, SectionTooLate, SubsectionOrder, LeftOver, NotAbove, NotHint, OutputTooShort, ListsDisagree, SubsectionTooLarge, InputTooLarge, NotZero, NotMarkers}
 use Rattle.format.specs.declared.Refusal.{Refusal}
 use Rattle.format.specs.declared.Verdict.{Verdict}
 use Rattle.format.specs.declared.Verdict.the-variants.{Accepted, Refused}
@@ -48,8 +50,11 @@ no-answer None h = refl
 no-answer (Found p) h = absurd (omega arith)
 no-answer (NotAnswered r) h = absurd (omega arith)
 
--- reasons are declared in the order of their numbers
-by-tag : (r : Reason) → numberOf r ≡ suc (tagOf reason-type.the-type r)
+-- the numbers that are given, in the order in which the reasons are declared
+abbrev pub given : List ℕ
+given = 1 ∷ 2 ∷ 3 ∷ 4 ∷ 5 ∷ 6 ∷ 7 ∷ 8 ∷ 9 ∷ 10 ∷ 11 ∷ 12 ∷ 13 ∷ 14 ∷ 15 ∷ 16 ∷ 17 ∷ 22 ∷ []
+
+by-tag : (r : Reason) → numberOf r ≡ getD given (tagOf reason-type.the-type r) 0
 by-tag NoPreamble = refl
 by-tag PastItsPart = refl
 by-tag NumberTooLarge = refl
@@ -67,8 +72,9 @@ by-tag ListsDisagree = refl
 by-tag SubsectionTooLarge = refl
 by-tag InputTooLarge = refl
 by-tag NotZero = refl
+by-tag NotMarkers = refl
 
-pub number-told : (r : Reason) (tag : ℕ) → tagOf reason-type.the-type r ≡ tag → suc tag ≡ numberOf r
-number-told r tag e = sym (by-tag r ∙ ap suc e)
+pub number-told : (r : Reason) (tag n : ℕ) → tagOf reason-type.the-type r ≡ tag → n ≡ getD given tag 0 → n ≡ numberOf r
+number-told r tag n e is = is ∙ sym (by-tag r ∙ ap (λ t. getD given t 0) e)
 
 pub ruleset numbers-told = (number-told, needs)

@@ -1,4 +1,4 @@
--- A promise determines what comes back: two results that meet it are equal. What comes back of a call with an output is its answer and the output's bytes after it; of a call that hands back a part of what was lent, the part's bytes and where in memory they begin.
+-- A promise determines what comes back: two results that meet it are equal. What comes back of a call with an output is its answer and the output's bytes after it, and of one with two lists both of them; of a call that hands back a part of what was lent, the part's bytes and where in memory they begin.
 use Prim.Native.Nat.{ℕ}
 use mathlib.Core.List.{List}
 use mathlib.Core.Option.{Option}
@@ -7,8 +7,10 @@ use Rattle.format.specs.Reading.{Judged}
 use Rattle.format.specs.Questions.{answered}
 use Rattle.format.specs.Metadata.{hintAnswered}
 use Rattle.format.specs.Outputs.{Writes}
+use Rattle.format.specs.Markers.{Markers, Makes}
 use Rattle.format.specs.Laws.Answers.{same-answer, same-hint-answer}
 use Rattle.format.specs.Laws.Outputs.{writes-same}
+use Rattle.format.specs.declared.Answer.{Answer}
 use Rattle.format.specs.declared.Hint.{Hint}
 use Rattle.format.specs.declared.Place.{Place}
 use Rattle.format.specs.declared.Written.{Written}
@@ -51,6 +53,19 @@ DeterminesBoth4 {A} promise = (a : A) → DeterminesBoth3 (promise a)
 abbrev pub DeterminesBoth5 : {A B C D E Other Result : Type 0} → (A → B → C → D → E → Other → Result → Type 0) → Type 0
 DeterminesBoth5 {A} promise = (a : A) → DeterminesBoth4 (promise a)
 
+-- And where three things come back: two lists after the call, and the answer last
+abbrev pub DeterminesThree : {Other Another Result : Type 0} → (Other → Another → Result → Type 0) → Type 0
+DeterminesThree {Other} {Another} {Result} promise = Determines (λ (back : Result × Other × Another). promise (back .1) (back .2) (back .0))
+
+abbrev pub DeterminesThree1 : {A Other Another Result : Type 0} → (A → Other → Another → Result → Type 0) → Type 0
+DeterminesThree1 {A} promise = (a : A) → DeterminesThree (promise a)
+
+abbrev pub DeterminesThree2 : {A B Other Another Result : Type 0} → (A → B → Other → Another → Result → Type 0) → Type 0
+DeterminesThree2 {A} promise = (a : A) → DeterminesThree1 (promise a)
+
+abbrev pub DeterminesThree3 : {A B C Other Another Result : Type 0} → (A → B → C → Other → Another → Result → Type 0) → Type 0
+DeterminesThree3 {A} promise = (a : A) → DeterminesThree2 (promise a)
+
 -- bytes, and where in memory they begin
 abbrev pub Handed : Type 0
 Handed = List ℕ × (ℕ × ℕ)
@@ -81,3 +96,10 @@ part-determined bytes begins a b p q = let one = p .0 ∙ sym (q .0) in let othe
 
 pub writes-determined : (wanted : Judged (List ℕ)) (old : List ℕ) → Determines (λ (r : Written × List ℕ). Writes wanted old (r .1) (r .0))
 writes-determined wanted old a b p q = let one = writes-same p q in λ i. (one .0 i, one .1 i)
+
+pub makes-determined : (wanted : Judged Markers) (is os : List ℕ) → Determines (λ (r : Answer × List ℕ × List ℕ). Makes wanted is os (r .1) (r .2) (r .0))
+makes-determined wanted is os a b p q =
+    let one = same-answer (a .0) (b .0) (p .says ∙ sym (q .says)) in
+    let two = p .indices ∙ sym (q .indices) in
+    let three = p .offsets ∙ sym (q .offsets) in
+    λ i. (one i, two i, three i)

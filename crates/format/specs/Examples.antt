@@ -40,6 +40,7 @@ pub data Result : Type 0 where
   found : ℕ → ℕ → Result
   bytes : List ℕ → Result
   because : Why → Result
+  marks : (indices offsets : List ℕ) (end : ℕ) → Result
   refusal : ℕ → ℕ → Result
 
 unfoldable pub ofOutcome : {A : Type 0} → (A → ℕ → Result) → Outcome A → Result

@@ -41,3 +41,10 @@ pub mod Listing
 pub mod Calls
 pub mod Outputs
 pub mod Laxer
+pub mod MarkerEntries
+pub mod MarkerParts
+pub mod MarkerFaults
+pub mod MarkerRule
+pub mod Markers
+pub mod MarkersMade
+pub mod MarkerPositions

@@ -21,9 +21,12 @@ pub mod Telling
 pub mod Forms
 pub mod Outputs
 pub mod Lists
+pub mod Markers
+pub mod MarkerRule
 pub mod Listing
 pub mod Examples
 pub mod Cases
+pub mod MarkerCases
 pub mod Laws
 pub mod Theorems
 pub mod Results

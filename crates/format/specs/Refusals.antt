@@ -1,7 +1,7 @@
 -- Refusal numbers: what each is given for. Where its offset points is said where it is given. Assumes nothing.
 use Prim.Native.Nat.{ℕ}
 use Rattle.format.specs.declared.Reason.{Reason}
-use Rattle.format.specs.declared.Reason.the-variants.{NoPreamble, PastItsPart, NumberTooLarge, NotText, SectionUnknown, SectionOrder, SectionTwice, SectionTooLate, SubsectionOrder, LeftOver, NotAbove, NotHint, OutputTooShort, ListsDisagree, SubsectionTooLarge, InputTooLarge, NotZero}
+use Rattle.format.specs.declared.Reason.the-variants.{NoPreamble, PastItsPart, NumberTooLarge, NotText, SectionUnknown, SectionOrder, SectionTwice, SectionTooLate, SubsectionOrder, LeftOver, NotAbove, NotHint, OutputTooShort, ListsDisagree, SubsectionTooLarge, InputTooLarge, NotZero, NotMarkers}
 
 abbrev pub numberOf : Reason → ℕ
 -- preamble missing or different
@@ -38,3 +38,5 @@ numberOf SubsectionTooLarge = 15
 numberOf InputTooLarge = 16
 -- the byte behind a function index of the older hints not zero
 numberOf NotZero = 17
+-- markers of unequal counts, with an end outside the payload, not rising, or not below the end
+numberOf NotMarkers = 22

@@ -91,7 +91,7 @@ pub const FIELD_NAMES: u8 = 10;
 
 pub const TAG_NAMES: u8 = 11;
 
-// Why an input is refused, in the order of the numbers 1 to 17.
+// Why an input is refused, in the order of the numbers: 1 to 17, and 22 (K8).
 pub enum Reason {
     NoPreamble,
     PastItsPart,
@@ -110,6 +110,7 @@ pub enum Reason {
     SubsectionTooLarge,
     InputTooLarge,
     NotZero,
+    NotMarkers,
 }
 
 pub struct Refusal {
@@ -196,6 +197,7 @@ impl Reason {
             Reason::SubsectionTooLarge => 15,
             Reason::InputTooLarge => 16,
             Reason::NotZero => 17,
+            Reason::NotMarkers => 22,
         }
     }
 }

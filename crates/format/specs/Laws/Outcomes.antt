@@ -95,12 +95,17 @@ pub accepted-exactly : {A : Type 0} {j : Judged A} {v w : A} → j ≡ accepted 
 accepted-exactly h = (λ e. accepted-is (sym h ∙ e), λ e. h ∙ ap accepted e)
 
 -- what follows from a judgement is refused exactly as the judgement is
+refused-again : {A B : Type 0} {n m at at′ : ℕ} → _≡_ {A = Judged A} (refused n at) (refused m at′) → _≡_ {A = Judged B} (refused n at) (refused m at′)
+refused-again e = cc
+
 pub refused-exactly : {A B : Type 0} (f : A → B) (j : Judged A) {n at : ℕ} → (mapJudged f j ≡ refused n at) ↔ (j ≡ refused n at)
 refused-exactly f (accepted v) = (λ e. absurd (not-accepted (sym e)), λ e. absurd (not-accepted (sym e)))
-refused-exactly f (refused n at) = (again, again)
-  where
-    again : {A B : Type 0} {n m at at′ : ℕ} → _≡_ {A = Judged A} (refused n at) (refused m at′) → _≡_ {A = Judged B} (refused n at) (refused m at′)
-    again e = cc
+refused-exactly f (refused n at) = (refused-again, refused-again)
+
+-- and so is what always goes on from it
+pub then-refused : {A B : Type 0} (f : A → Judged B) (j : Judged A) {n at : ℕ} → ((v : A) → j ≡ accepted v → (w : B) × (f v ≡ accepted w)) → (judgedThen j f ≡ refused n at) ↔ (j ≡ refused n at)
+then-refused f (accepted v) h = (λ e. absurd (not-accepted (sym e ∙ h v refl .1)), λ e. absurd (not-accepted (sym e)))
+then-refused f (refused n at) h = (refused-again, refused-again)
 
 -- a refusal is the same of whatever was read
 pub stop-refused : {A B : Type 0} {n n′ at at′ : ℕ} → _≡_ {A = Outcome A} (stop n at) (stop n′ at′) → _≡_ {A = Judged B} (refused n at) (refused n′ at′)

@@ -7,7 +7,7 @@ use mathlib.Core.Path.{_≡_, refl, sym}
 use native.Mathlib.Omega.{arith}
 use lib.Dec.{eqb}
 use lib.ListN.{length, take, drop, length-append, take-append-drop}
-use lib.Seq.{take-at, drop-at}
+use lib.Seq.{slice, take-at, drop-at, take-append-add, drop-append-seam}
 use Rattle.format.specs.Reading.{got, Reader, filling}
 use Rattle.format.specs.Text.{utf8}
 use Rattle.format.specs.Options.{isSome}
@@ -31,6 +31,9 @@ pub record Lies (all : List ℕ) (o : ℕ) (bs : List ℕ) : Type 0 where
 -- so they are the whole's bytes from there on
 pub lies-there : {all : List ℕ} {o : ℕ} {bs : List ℕ} → Lies all o bs → take (length bs) (drop o all) ≡ bs
 lies-there {bs = bs} l = rw (l .joined, drop-at (l .before) (bs ++ l .after) _ (l .far), take-at bs (l .after) _ refl)
+
+pub lies-slice : {all : List ℕ} {o : ℕ} {bs : List ℕ} → Lies all o bs → slice o (o + length bs) all ≡ bs
+lies-slice {o = o} {bs = bs} l = rw (l .joined, ← l .far, take-append-add (l .before) (bs ++ l .after) (length bs), take-at bs (l .after) _ refl, drop-append-seam (l .before) bs)
 
 pub lies-inside : {all : List ℕ} {o : ℕ} {bs : List ℕ} → Lies all o bs → o + length bs ≤ length all
 lies-inside l = rw (l .joined) (simp length-append (omega (arith, l .far)))

@@ -11,14 +11,18 @@ use Rattle.format.specs.declared.Refusal.{Refusal}
 use Rattle.format.specs.declared.Verdict.{Verdict}
 use Rattle.format.specs.declared.Verdict.the-variants.{Accepted, Refused}
 use Rattle.format.specs.declared.Reason.{Reason}
-use Rattle.format.specs.declared.Reason.the-variants.{NoPreamble, PastItsPart, NumberTooLarge, NotText, SectionUnknown, SectionOrder, SectionTwice, SectionTooLate, SubsectionOrder, LeftOver, NotAbove, NotHint, OutputTooShort, ListsDisagree, SubsectionTooLarge, InputTooLarge, NotZero}
+use Rattle.format.specs.declared.Reason.the-variants.{NoPreamble, PastItsPart, NumberTooLarge, NotText, SectionUnknown, SectionOrder, SectionTwice, SectionTooLate, SubsectionOrder, LeftOver, NotAbove, NotHint, OutputTooShort, ListsDisagree, SubsectionTooLarge, InputTooLarge, NotZero, NotMarkers}
+
+-- for numbers that are not given
+notGiven : Reason
+notGiven = NoPreamble
 
 reasons : List Reason
-reasons = NoPreamble ∷ PastItsPart ∷ NumberTooLarge ∷ NotText ∷ SectionUnknown ∷ SectionOrder ∷ SectionTwice ∷ SectionTooLate ∷ SubsectionOrder ∷ LeftOver ∷ NotAbove ∷ NotHint ∷ OutputTooShort ∷ ListsDisagree ∷ SubsectionTooLarge ∷ InputTooLarge ∷ NotZero ∷ []
+reasons = NoPreamble ∷ PastItsPart ∷ NumberTooLarge ∷ NotText ∷ SectionUnknown ∷ SectionOrder ∷ SectionTwice ∷ SectionTooLate ∷ SubsectionOrder ∷ LeftOver ∷ NotAbove ∷ NotHint ∷ OutputTooShort ∷ ListsDisagree ∷ SubsectionTooLarge ∷ InputTooLarge ∷ NotZero ∷ notGiven ∷ notGiven ∷ notGiven ∷ notGiven ∷ NotMarkers ∷ []
 
 -- the reason with a number, counted from 1
 numbered : ℕ → Reason
-numbered n = getD reasons (pred n) NoPreamble
+numbered n = getD reasons (pred n) notGiven
 
 numbered-is : (r : Reason) → numbered (numberOf r) ≡ r
 unfolding numbered reasons
@@ -39,6 +43,7 @@ numbered-is ListsDisagree = refl
 numbered-is SubsectionTooLarge = refl
 numbered-is InputTooLarge = refl
 numbered-is NotZero = refl
+numbered-is NotMarkers = refl
 
 pub told-apart : (r s : Reason) → numberOf r ≡ numberOf s → r ≡ s
 told-apart r s e = sym (numbered-is r) ∙ ap numbered e ∙ numbered-is s

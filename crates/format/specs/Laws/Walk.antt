@@ -43,10 +43,10 @@ sized-ends : (o : ℕ) (bs : List ℕ) {p : Part} {o′ : ℕ} {rest : List ℕ}
 sized-ends o bs e = inSized o bs e λ n o₁ r₁ e₁ fit part next left. rw (← part) (omega (arith, length-take-le n r₁ fit, next))
 
 -- the bytes left are the module's from the offset on
-abbrev Onward : List ℕ → ℕ → List ℕ → Type 0
+abbrev pub Onward : List ℕ → ℕ → List ℕ → Type 0
 Onward m o bs = bs ≡ drop o m
 
-onward-step : (m : List ℕ) (o b : ℕ) (bs : List ℕ) → Onward m o (b ∷ bs) → Onward m (suc o) bs
+pub onward-step : (m : List ℕ) (o b : ℕ) (bs : List ℕ) → Onward m o (b ∷ bs) → Onward m (suc o) bs
 onward-step m o b bs h = ap (drop 1) h ∙ drop-drop 1 o m ∙ ap (λ n. drop n m) (add-one o)
 
 onward-far : (m : List ℕ) (o b : ℕ) (bs : List ℕ) → Onward m o (b ∷ bs) → o + suc (length bs) ≡ length m
