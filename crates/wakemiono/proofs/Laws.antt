@@ -10,6 +10,7 @@ use denote.Enum.Declared.{tagOf}
 use Rattle.format.specs.Refusals.{numberOf}
 use Rattle.format.specs.Reading.{Judged as Judgement}
 use Rattle.format.specs.Names.{Kind}
+use Rattle.format.specs.Markers.{Markers, Makes}
 use Rattle.format.specs.Metadata.{hintAnswered}
 use Rattle.format.specs.Outputs.{writtenAs, Writes}
 use Rattle.format.specs.Questions.{answered, ask, asPlace}
@@ -41,7 +42,7 @@ use Rattle.walk.specs.declared.survey.SectionAnswer.the-variants.{Found as ASec
 use Rattle.walk.specs.declared.survey.SectionPlace.{SectionPlace}
 use Rattle.walk.proofs.survey.SectionAnswer as section-type
 use Rattle.walk.proofs.Tags.{no-section}
-use Rattle.wakemiono.specs.Boundary.{wmNone, wmFound, wmRefused, wmPlace, wmSection, wmCount, wmJudged, wmHinted, wmHint, WmWrites, wmYes}
+use Rattle.wakemiono.specs.Boundary.{wmNone, wmFound, wmRefused, wmPlace, wmSection, wmCount, wmJudged, wmHinted, wmHint, WmWrites, WmMakes, wmYes}
 use Rattle.wakemiono.specs.declared.WmAnswer.{WmAnswer}
 
 pub refusal-is : (r : Refusal) (n : ℕ) → n ≡ numberOf (r .reason) → record { kind = 2; code = n; offset = r .offset .0; length = 0 } ≡ wmRefused (numberOf (r .reason)) (r .offset .0)
@@ -142,6 +143,9 @@ says-hint a x y e q = e ∙ ap wmHint q
 pub says-written : {wanted : Judgement (List ℕ)} {old new : List ℕ} {a : WmAnswer} (w : Written) → a ≡ wmCount (writtenAs w) → Writes wanted old new w → WmWrites wanted old new a
 says-written w e h = record { says = e ∙ ap wmCount (h .says); leaves = h .leaves }
 
+pub says-made : {wanted : Judgement Markers} {is os is′ os′ : List ℕ} {a : WmAnswer} (r : Answer) → a ≡ wmPlace (answered r) → Makes wanted is os is′ os′ r → WmMakes wanted is os is′ os′ a
+says-made r e h = record { says = e ∙ ap wmPlace (h .says); indices = h .indices; offsets = h .offsets }
+
 -- one question under two names
 module _ (kindOf : ℕ → Kind) (bytes : List ℕ) (a : WmAnswer) {q r : Question} (e : q ≡ r) where
   pub asked-so : a ≡ wmPlace (asPlace (ask kindOf q bytes)) → a ≡ wmPlace (asPlace (ask kindOf r bytes))
@@ -150,4 +154,4 @@ module _ (kindOf : ℕ → Kind) (bytes : List ℕ) (a : WmAnswer) {q r : Questi
   pub asked-so-through : a ≡ wmPlace (asPlace (askThrough kindOf q bytes)) → a ≡ wmPlace (asPlace (askThrough kindOf r bytes))
   asked-so-through h = rw e at h
 
-pub ruleset calls = (asked-so, asked-so-through, says-count, says-section, says-place, says-judged, says-hint, says-written, needs)
+pub ruleset calls = (asked-so, asked-so-through, says-count, says-section, says-place, says-judged, says-hint, says-written, says-made, needs)

@@ -5,8 +5,9 @@ use mathlib.Core.List.{List}
 use mathlib.Core.Option.{Option, none, some}
 use mathlib.Core.Path.{_≡_}
 use lib.ListN.{length}
-use Rattle.format.specs.Outputs.{writeAnswer, outputAfter}
-use Rattle.format.specs.Reading.{Judged, accepted, refused}
+use Rattle.format.specs.Markers.{Markers, madeAs, indicesOf, offsetsOf}
+use Rattle.format.specs.Outputs.{writeAnswer, over, outputAfter}
+use Rattle.format.specs.Reading.{Judged, accepted, refused, mapJudged}
 use Rattle.format.specs.declared.Hint.{Hint}
 use Rattle.format.specs.declared.Hint.the-variants.{Unlikely, Likely}
 use Rattle.format.specs.declared.Place.{Place}
@@ -62,3 +63,9 @@ wmYes false = 0
 pub record WmWrites (wanted : Judged (List ℕ)) (old new : List ℕ) (a : WmAnswer) : Type 0 where
   pub says : a ≡ wmCount (writeAnswer (length old) wanted)
   pub leaves : new ≡ outputAfter wanted old
+
+-- K8: the answer to making markers, and the whole end state of both lists
+pub record WmMakes (wanted : Judged Markers) (is os is′ os′ : List ℕ) (a : WmAnswer) : Type 0 where
+  pub says : a ≡ wmPlace (mapJudged madeAs wanted)
+  pub indices : is′ ≡ over (mapJudged indicesOf wanted) is
+  pub offsets : os′ ≡ over (mapJudged offsetsOf wanted) os

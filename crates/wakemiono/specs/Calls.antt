@@ -5,6 +5,7 @@ use mathlib.Core.Path.{_≡_}
 use lib.ListN.{length}
 use Rattle.format.specs.Canonical.{canonicalNames, canonicalMetadata, canonicalHints}
 use Rattle.format.specs.Lists.{functionNames}
+use Rattle.format.specs.Markers.{made, quick}
 use Rattle.format.specs.Metadata.{anyItem, hintItem, judgeMetadata, askMetadata, askHint}
 use Rattle.format.specs.Names.{knownKind, widerKind, judgeNames}
 use Rattle.format.specs.Older.{judgeOlder, askOlder, canonicalOlder}
@@ -17,7 +18,7 @@ use Rattle.format.specs.Through.{askThrough, askMetadataThrough, askHintThrough
 use Rattle.format.specs.Why.{whyFunction, whyLocal}
 use Rattle.format.specs.Walk.{sectionCount, sectionAt, customPayload}
 use Rattle.walk.specs.Surveys.{sectionPlace}
-use Rattle.wakemiono.specs.Boundary.{wmCount, wmSection, wmPlace, wmJudged, wmHint, wmYes, WmWrites}
+use Rattle.wakemiono.specs.Boundary.{wmCount, wmSection, wmPlace, wmJudged, wmHint, wmYes, WmWrites, WmMakes}
 use Rattle.wakemiono.specs.Why.{wmWhy}
 use Rattle.wakemiono.specs.declared.WmAnswer.{WmAnswer}
 use Rattle.wakemiono.specs.declared.why.WmWhy.{WmWhy}
@@ -121,3 +122,10 @@ wm-why-function function payload a = a ≡ wmWhy (whyFunction (record { 0 = func
 
 abbrev pub wm-why-local : (function local : ℕ) → List ℕ → WmWhy → Type 0
 wm-why-local function local payload a = a ≡ wmWhy (whyLocal (record { 0 = function }) (record { 0 = local }) payload)
+
+-- K8: markers, and the quick question
+abbrev pub wm-markers : (payload indices offsets indices′ offsets′ : List ℕ) → WmAnswer → Type 0
+wm-markers payload indices offsets indices′ offsets′ a = WmMakes (made payload indices offsets) indices offsets indices′ offsets′ a
+
+abbrev pub wm-quick-function-name : (payload indices offsets : List ℕ) (end function : ℕ) → WmAnswer → Type 0
+wm-quick-function-name payload indices offsets end function a = a ≡ wmPlace (asPlace (quick payload indices offsets end (record { 0 = function })))

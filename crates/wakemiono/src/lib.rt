@@ -29,6 +29,7 @@ use walk::Counted;
 use walk::survey::SectionAnswer;
 
 pub mod old_hints;
+pub mod quick;
 pub mod why;
 pub mod wide;
 
