@@ -1,5 +1,5 @@
 -- THE FRONT DOOR. What users of the library demand, as types about its C calls, each under the sentence that it comes from, with the name of its proof in Proved.antt. A call is known by its promise alone: what is said here is said of every answer that meets the promise; that the call's own answer meets it is proved of its code.
-use Prim.Native.Nat.{ℕ, suc, _+_, _≤_, _<_}
+use Prim.Native.Nat.{ℕ, suc, _+_, _*_, _/_, _≤_, _<_}
 use mathlib.Core.List.{List, [], _∷_, _++_}
 -- `cond t x y` is x where the test t holds, and y where it does not; `ltb m n` tests m < n, `eqb m n` tests m ≡ n, and `s || t` is either test
 use mathlib.Core.Bool.{Bool, true, false, cond, _||_}
@@ -17,7 +17,7 @@ use Rattle.format.specs.Walk.{nameSection, branchHint, hintSection, olderHintSe
 use Rattle.format.specs.Through.{metadataSection}
 -- WHAT COMES BACK. Each call answers with a record of four numbers: `kind` (0 none, 1 found, 2 refused, 3 unlikely, 4 likely), `code`, `offset` and `length`. `wmNone` is four times 0; `wmFound code offset length` is the answer of kind 1 with these; `wmRefused n at` is the answer of kind 2 with the refusal's number n as its code, its offset `at` and the length 0.
 use Rattle.wakemiono.specs.declared.WmAnswer.{WmAnswer}
-use Rattle.wakemiono.specs.Boundary.{wmNone, wmFound, wmRefused}
+use Rattle.wakemiono.specs.Boundary.{wmNone, wmFound, wmRefused, wmPlace}
 -- WHAT THE RULES REFUSE, each with its number and its offset, as the rules are written down in `crates/format/specs`, one file a topic: `Judged A` is `accepted v`, with what was read, or `refused number offset`. `judgeModule m` judges a module, `judgeNames knownKind at p` a name payload that begins at an offset of what was lent, `judgeNames widerKind at p` one by the wider edition, `judgeMetadata anyItem at p` metadata of any format, and `judgeMetadata hintItem at p` branch hints; `itemOf format` is `hintItem` for the format branch_hint and else `anyItem`; `judgeOlder at p` judges hints of the older edition. Of what was read, `rewriteNames` and `rewriteMetadata` are the bytes of the canonical rewriting, and of older hints `writeOlder (sortedFrom nil es)`.
 use Rattle.format.specs.Reading.{Judged, accepted, refused}
 use Rattle.format.specs.Walk.{walk as judgeModule}
@@ -26,9 +26,10 @@ use Rattle.format.specs.Metadata.{anyItem, hintItem, judgeMetadata}
 use Rattle.format.specs.Through.{itemOf}
 use Rattle.format.specs.Canonical.{rewriteNames, rewriteMetadata}
 use Rattle.format.specs.Older.{judgeOlder, sortedFrom, writeOlder}
--- WHAT THE RULES ACCEPT. The sources' grammar, written down in the crate `grammar` line by line, apart from the library's readers: `NamePayload SourceIds p m`, in the wider edition `NamePayload WiderIds p m`, `CodeMetadata Unknown p m`, `CodeMetadata BranchHint p m`, `OlderHints p m` and `Module p m` say that the bytes p are a name payload, code metadata, branch hints, hints of the older edition or a module, and mean m. `U32 bs n`: the bytes bs are the number n in LEB128. `Grammar A` are the grammars with meanings in A.
+-- WHAT THE RULES ACCEPT. The sources' grammar, written down in the crate `grammar` line by line, apart from the library's readers: `NamePayload SourceIds p m`, in the wider edition `NamePayload WiderIds p m`, `CodeMetadata Unknown p m`, `CodeMetadata BranchHint p m`, `OlderHints p m` and `Module p m` say that the bytes p are a name payload, code metadata, branch hints, hints of the older edition or a module, and mean m. `U32 bs n`: the bytes bs are the number n in LEB128. `Subsections SourceIds bs m`: the bytes bs are subsections of a name payload, one after another; `Entries Name n bs t`: they are n entries of a name map, each an index and a name. `Grammar A` are the grammars with meanings in A.
 use Rattle.grammar.specs.Numbers.{Grammar, U32}
-use Rattle.grammar.specs.Names.{SourceIds, WiderIds, NamePayload}
+use Rattle.grammar.specs.Names.{Name, SourceIds, WiderIds, Subsections, NamePayload}
+use Rattle.grammar.specs.Lists.{Entries}
 use Rattle.grammar.specs.Metadata.{CodeMetadata, Unknown, BranchHint}
 use Rattle.grammar.specs.Older.{OlderHints}
 use Rattle.grammar.specs.Modules.{Module}
@@ -46,6 +47,9 @@ use Rattle.format.specs.declared.Hint.the-variants.{Unlikely, Likely}
 use Rattle.format.specs.Why.{Why, TrueOfFunction, TrueOfLocal}
 use Rattle.wakemiono.specs.Why.{wmAlone, wmNamed, wmNoEntry, wmWhyRefused, wmWhy}
 use Rattle.wakemiono.specs.declared.why.WmWhy.{WmWhy}
+-- THE RULE OF THE QUICK QUESTION, said without any search, in crates/format/specs/MarkerRule.antt: `Follows p is os end k j` says that it makes j of the bytes p, the list of indices is and of offsets os, the end, and the index k that is asked. j is a refusal, `accepted none`, or `accepted (some x)`, where x is the text of an entry: where it lies in p, `x .at`, and its `x .bytes`. `wmPlace (asPlace j)` is the answer with that: `wmRefused` with its number and offset, `wmNone`, or `wmFound 0 (x .at) (length (x .bytes))`.
+use Rattle.format.specs.MarkerRule.{Follows}
+use Rattle.format.specs.Parts.{Part}
 -- EXAMPLES are written as their bytes: `hex "07 01 00"`.
 use Rattle.format.specs.Examples.{hex}
 -- LISTS. `Indices is`: each number in the list is below 4,294,967,296. `sum ns`: the numbers added up. `Text x characters`: the bytes x are the UTF-8 encoding of the characters. `Lists k x indices lengths text`: k is listed, and x is its own stretch of the text. `Lists k x (k ∷ is) (n ∷ ns) text` from `take n text ≡ x`, and `Lists k x (i ∷ is) (n ∷ ns) text` from `Lists k x is ns (drop n text)`.
@@ -53,7 +57,7 @@ use Rattle.format.specs.Lists.{Indices, sum}
 use Rattle.grammar.specs.Texts.{Text}
 use Rattle.format.specs.Holding.{Lists}
 -- WHAT CAN BE ASKED of a name payload: one question for each call. An index is a record of one number, `k .0`. `AllowedBy knownKind q`: the first edition asks q, each index in q is below 4,294,967,296, and an id below 256; `AllowedBy widerKind q`: the wider edition does.
-use Rattle.format.specs.Questions.{AllowedBy}
+use Rattle.format.specs.Questions.{AllowedBy, asPlace}
 use Rattle.format.specs.declared.FunctionIndex.{FunctionIndex}
 use Rattle.format.specs.declared.LocalIndex.{LocalIndex}
 use Rattle.format.specs.declared.TypeIndex.{TypeIndex}
@@ -63,8 +67,8 @@ use Rattle.format.specs.declared.Question.{Question}
 use Rattle.format.specs.declared.Question.the-variants.{ModuleName, FunctionName, LocalName, LabelName, TypeName, TableName, MemoryName, GlobalName, ElementName, DataName, FieldName, TagName, KeptContents}
 -- Of metadata and hints: `ItemQuestion` is a function and an offset, each a record of one number; `ItemInRange q` says that both are below 4,294,967,296. `OlderInRange q` says it of a question for a hint of the older edition.
 use Rattle.format.specs.Theorems.{ItemQuestion, ItemInRange, OlderInRange}
--- THE CALLS, each by its promise: `wm-walk bytes a` says that the answer a is one that the promise of wm_walk allows for these bytes. It is the promise itself, the one name that stands in the `ensures` of the call in crates/wakemiono/src/lib.rt. What the promises come to is said below, so that nothing has to be known of how they are put. `wm-name q` is the promise of the call that asks q: wm_module_name asks `ModuleName`, wm_function_name `FunctionName` of its function, wm_type_name `TypeName` of its index, wm_tag_name `TagName` of its tag, wm_local_name `LocalName` of its function and its local, wm_field_name `FieldName` of its index and its field, wm_kept `KeptContents` of its id; `wm-name-in q` is that of the same call with `_in`, which is lent a module. `wm-wide-name q` and `wm-wide-name-in q` are those of the wider edition, wm_wide_module_name and so on, which has six more: wm_wide_label_name asks `LabelName` of its function and its label, wm_wide_table_name `TableName`, wm_wide_memory_name `MemoryName`, wm_wide_global_name `GlobalName`, wm_wide_element_name `ElementName` and wm_wide_data_name `DataName`. The calls that write are promised of the output before and after, too: `old` and `new`.
-use Rattle.wakemiono.specs.Calls.{wm-walk, wm-section, wm-custom, wm-names-judge, wm-name, wm-metadata-judge, wm-metadata, wm-hints-judge, wm-hint, wm-name-in, wm-metadata-in, wm-hint-in, wm-names-canonical, wm-metadata-canonical, wm-hints-canonical, wm-function-names-write, wm-names-is-canonical, wm-metadata-is-canonical, wm-hints-is-canonical, wm-wide-names-judge, wm-wide-name, wm-wide-name-in, wm-wide-names-canonical, wm-wide-names-is-canonical, wm-old-hints-judge, wm-old-hint, wm-old-hint-in, wm-old-hints-canonical, wm-old-hints-is-canonical, wm-why-function, wm-why-local}
+-- THE CALLS, each by its promise: `wm-walk bytes a` says that the answer a is one that the promise of wm_walk allows for these bytes. It is the promise itself, the one name that stands in the `ensures` of the call in crates/wakemiono/src. What the promises come to is said below, so that nothing has to be known of how they are put. `wm-name q` is the promise of the call that asks q: wm_module_name asks `ModuleName`, wm_function_name `FunctionName` of its function, wm_type_name `TypeName` of its index, wm_tag_name `TagName` of its tag, wm_local_name `LocalName` of its function and its local, wm_field_name `FieldName` of its index and its field, wm_kept `KeptContents` of its id; `wm-name-in q` is that of the same call with `_in`, which is lent a module. `wm-wide-name q` and `wm-wide-name-in q` are those of the wider edition, wm_wide_module_name and so on, which has six more: wm_wide_label_name asks `LabelName` of its function and its label, wm_wide_table_name `TableName`, wm_wide_memory_name `MemoryName`, wm_wide_global_name `GlobalName`, wm_wide_element_name `ElementName` and wm_wide_data_name `DataName`. The calls that write are promised of the output before and after, too: `old` and `new`. `wm-markers p is os is′ os′ a` is promised of both lists before the call, `is` and `os`, and after it; `wm-quick-function-name p is os end function a` of a payload, two lists, an end and the function asked.
+use Rattle.wakemiono.specs.Calls.{wm-walk, wm-section, wm-custom, wm-names-judge, wm-name, wm-metadata-judge, wm-metadata, wm-hints-judge, wm-hint, wm-name-in, wm-metadata-in, wm-hint-in, wm-names-canonical, wm-metadata-canonical, wm-hints-canonical, wm-function-names-write, wm-names-is-canonical, wm-metadata-is-canonical, wm-hints-is-canonical, wm-wide-names-judge, wm-wide-name, wm-wide-name-in, wm-wide-names-canonical, wm-wide-names-is-canonical, wm-old-hints-judge, wm-old-hint, wm-old-hint-in, wm-old-hints-canonical, wm-old-hints-is-canonical, wm-why-function, wm-why-local, wm-markers, wm-quick-function-name}
 -- THE NUMBER READER of the library, by its promise: from the cursor c over the bytes s it reads the number v, says `told`, and stands at `next`; `left s c` are the bytes from c to the end of the innermost part, and `shortest v` is the shortest form of v. `Inside s c`: the cursor lies in what was lent.
 use Rattle.format.specs.Numbers.{shortest}
 use Rattle.reading.specs.Cursors.{Inside, left}
@@ -102,7 +106,7 @@ pub data HintReply : WmAnswer → Type 0 where
 
 -- The numbers that the calls refuse with. 16 is the listing program's alone
 abbrev pub numbers : List ℕ
-numbers = 1 ∷ 2 ∷ 3 ∷ 4 ∷ 5 ∷ 6 ∷ 7 ∷ 8 ∷ 9 ∷ 10 ∷ 11 ∷ 12 ∷ 13 ∷ 14 ∷ 15 ∷ 17 ∷ []
+numbers = 1 ∷ 2 ∷ 3 ∷ 4 ∷ 5 ∷ 6 ∷ 7 ∷ 8 ∷ 9 ∷ 10 ∷ 11 ∷ 12 ∷ 13 ∷ 14 ∷ 15 ∷ 17 ∷ 22 ∷ []
 
 -- whether a number is one of a list
 abbrev pub isAmong : List ℕ → ℕ → Bool
@@ -593,3 +597,64 @@ pub record SaysWhy (asking : List ℕ → WmWhy → Type 0) (True : Table (Conte
 pub record K7 : Type 0 where
   pub functions : (function : ℕ) → SaysWhy (wm-why-function function) (TrueOfFunction function) (wm-name (FunctionName (record { 0 = function })))
   pub locals : (function local : ℕ) → SaysWhy (wm-why-local function local) (TrueOfLocal function local) (wm-name (LocalName (record { 0 = function }) (record { 0 = local })))
+
+-- K8. "A marker list beside large maps. Charts ask for thousands of names a minute. From an accepted payload we want two lists of numbers, the function index and the offset of every sixteenth function entry, the first included, with the offset where their subsection ends (0 if there is no such subsection). A quick question is given these and doesn't judge the payload. It starts at the last marker not above the index asked (no such marker: none), reads at most sixteen entries, none past the end, and the first with that index answers. A number of refusal 3, or an entry that doesn't fit before the end, met first, is answered none; text isn't checked. With the markers made from this payload the answer equals the full one; with others it still follows this rule. Refusals: 15 for a payload above 4,294,967,295 bytes (first in the quick question); 13 for short lists; 22, lists of unequal length (at the shorter's length), then an end outside the payload (at the list's length), then either list not strictly rising or an offset not below the end (at the first such position)." Proved as `k8` in Proved.antt.
+
+-- The map of function names in a payload, by the grammar: behind other subsections stand the id 1, the size of its contents, the count of its entries, and the entries. `first` is the offset of the first entry, and `end` is where they end
+abbrev pub FunctionMap : (p entries : List ℕ) (n first end : ℕ) → Type 0
+FunctionMap p entries n first end = (front size count rest : List ℕ) × (others : Table (Content (List ℕ))) × (t : Table (List ℕ))
+    × (p ≡ front ++ (1 ∷ (size ++ (count ++ (entries ++ rest)))))
+    × Subsections SourceIds front others
+    × U32 size (length count + length entries)
+    × U32 count n
+    × Entries Name n entries t
+    × (length front + 1 + length size + length count ≡ first)
+    × (first + length entries ≡ end)
+
+-- What an accepted payload has to be marked: that map; or nothing, with the end 0, if there is no such subsection
+pub data FunctionNames (p : List ℕ) : (entries : List ℕ) (n first end : ℕ) → Type 0 where
+  aMap : {m : Table (Content (List ℕ))} {entries : List ℕ} {n first end : ℕ} → NamePayload SourceIds p m → FunctionMap p entries n first end → FunctionNames p entries n first end
+  noMap : {m : Table (Content (List ℕ))} → NamePayload SourceIds p m → ((c : Content (List ℕ)) → Has 1 c m → ⊥) → FunctionNames p [] 0 0 0
+
+-- The entry at a position, from 0: behind so many entries stands its index, at its offset
+abbrev pub EntryAt : (entries : List ℕ) (first position index offset : ℕ) → Type 0
+EntryAt entries first position index offset = (before number behind : List ℕ) × (t : Table (List ℕ))
+    × (entries ≡ before ++ (number ++ behind))
+    × Entries Name position before t
+    × U32 number index
+    × (first + length before ≡ offset)
+
+-- "every sixteenth function entry, the first included": of n entries a sixteenth, rounded up
+abbrev pub sixteenths : ℕ → ℕ
+sixteenths n = (n + 15) / 16
+
+-- and at each position i of both lists stand the index and the offset of the entry at position 16 * i
+abbrev pub Marked : (entries : List ℕ) (n first : ℕ) (indices offsets : List ℕ) → Type 0
+Marked entries n first indices offsets = (i : ℕ) → i < sixteenths n → (index offset : ℕ) × (getElem? indices i ≡ some index) × (getElem? offsets i ≡ some offset) × EntryAt entries first (16 * i) index offset
+
+-- What making answers: with the end as its offset and the number of markers as its length, or a refusal
+pub data MarkersReply : WmAnswer → Type 0 where
+  markersMade : (end markers : ℕ) → MarkersReply (wmFound 0 end markers)
+  markersRefused : (number offset : ℕ) → MarkersReply (wmRefused number offset)
+
+-- Which payload it refuses, and how, into lists of so many numbers: as it is judged; then 15; then 13, with the number of markers, where one of the lists is shorter than that
+pub data MarkersRefused (p : List ℕ) (indices offsets : ℕ) : (number offset : ℕ) → Type 0 where
+  payloadRefused : {number offset : ℕ} → judgeNames knownKind 0 p ≡ refused number offset → MarkersRefused p indices offsets number offset
+  payloadTooLong : {entries : List ℕ} {n first end : ℕ} → FunctionNames p entries n first end → 4_294_967_295 < length p → MarkersRefused p indices offsets 15 0
+  fewIndices : {entries : List ℕ} {n first end : ℕ} → FunctionNames p entries n first end → length p ≤ 4_294_967_295 → indices < sixteenths n → MarkersRefused p indices offsets 13 (sixteenths n)
+  fewOffsets : {entries : List ℕ} {n first end : ℕ} → FunctionNames p entries n first end → length p ≤ 4_294_967_295 → offsets < sixteenths n → MarkersRefused p indices offsets 13 (sixteenths n)
+
+pub record K8 : Type 0 where
+  -- demand 1 of both calls. The rule of the quick question says which of its refusals is given, and where
+  pub markers : (p is os is′ os′ : List ℕ) (a : WmAnswer) → Bytes p → wm-markers p is os is′ os′ a → Answers MarkersReply (MarkersRefused p (length is) (length os)) a
+  pub quick : (p is os : List ℕ) (end function : ℕ) (a : WmAnswer) → wm-quick-function-name p is os end function a → Answers Reply (λ number offset. Follows p is os end function (refused number offset)) a
+  -- what each list holds after the call
+  pub indices : (p is os is′ os′ : List ℕ) (a : WmAnswer) → wm-markers p is os is′ os′ a → Leaves is is′ a
+  pub offsets : (p is os is′ os′ : List ℕ) (a : WmAnswer) → wm-markers p is os is′ os′ a → Leaves os os′ a
+  -- "the function index and the offset of every sixteenth function entry, the first included, with the offset where their subsection ends (0 if there is no such subsection)"
+  pub function-names : (p : List ℕ) (m : Table (Content (List ℕ))) → NamePayload SourceIds p m → (entries : List ℕ) × (n first end : ℕ) × FunctionNames p entries n first end
+  pub marked : (p is os is′ os′ entries : List ℕ) (n first end : ℕ) (a : WmAnswer) → FunctionNames p entries n first end → wm-markers p is os is′ os′ a → a .kind ≡ 1 → (a ≡ wmFound 0 end (sixteenths n)) × Marked entries n first is′ os′
+  -- "With the markers made from this payload the answer equals the full one"
+  pub own : (p is os is′ os′ : List ℕ) (a : WmAnswer) → wm-markers p is os is′ os′ a → a .kind ≡ 1 → (function : ℕ) (b c : WmAnswer) → wm-quick-function-name p (take (a .length) is′) (take (a .length) os′) (a .offset) function b → wm-name (FunctionName (record { 0 = function })) p c → b ≡ c
+  -- "with others it still follows this rule", and nothing else does
+  pub rule : (p is os : List ℕ) (end function : ℕ) (a : WmAnswer) → wm-quick-function-name p is os end function a → (j : Judged (Option Part)) × Follows p is os end function j × (a ≡ wmPlace (asPlace j)) × ((other : Judged (Option Part)) → Follows p is os end function other → other ≡ j)

@@ -1,4 +1,4 @@
--- Of every public function of every library: its promise, by the name that its `ensures` cites, determines what comes back, by the form in `format/specs/Determined.antt`: a record for each crate, with a field for each name. Of a function that is lent an output, the bytes in it after the call come back as well.
+-- Of every public function of every library: its promise, by the name that its `ensures` cites, determines what comes back, by the form in `format/specs/Determined.antt`: a record for each crate, with a field for each name. Of a function that is lent an output, the bytes in it after the call come back as well, and of one that is lent two lists both of these.
 pub mod Format
 pub mod Reading
 pub mod Writing
@@ -16,5 +16,6 @@ pub mod Reordering
 pub mod Rewrite
 pub mod Through
 pub mod Neighbours
+pub mod Markers
 pub mod Wakemiono
 pub mod Saying

@@ -17,3 +17,5 @@ pub mod Editions
 pub mod Older
 pub mod Shortest
 pub mod Why
+pub mod FunctionNames
+pub mod Markers

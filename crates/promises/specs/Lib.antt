@@ -12,6 +12,7 @@ pub mod Writing
 pub mod Telling
 pub mod Older
 pub mod Why
+pub mod Markers
 pub mod Demands
 pub mod Laws
 pub mod Proved

@@ -3,7 +3,7 @@ use Prim.Native.Nat.{ℕ, _≤_, _<_}
 use mathlib.Core.List.{List}
 use mathlib.Core.Logic.{_↔_, Iff·trans}
 use mathlib.Core.Option.{Option, none, some}
-use mathlib.Core.Path.{_≡_, refl, sym, _∙_}
+use mathlib.Core.Path.{_≡_, refl, sym, ap, _∙_}
 use lib.ListN.{length, take, drop}
 use Rattle.wakemiono.specs.declared.WmAnswer.{WmAnswer}
 use Rattle.wakemiono.specs.Boundary.{wmRefused}
@@ -25,6 +25,7 @@ use Rattle.format.specs.Metadata.{anyItem, hintItem, judgeMetadata, askMetadata
 use Rattle.format.specs.Names.{Kind, knownKind, widerKind, kindIn, judgeNames}
 use Rattle.format.specs.Questions.{AllowedBy, asPlace, ask}
 use Rattle.format.specs.Lists.{functionNames}
+use Rattle.format.specs.Markers.{made, quick}
 use Rattle.format.specs.Older.{firstIn, judgeOlder, askOlder, canonicalOlder}
 use Rattle.format.specs.Options.{mapSome}
 use Rattle.format.specs.Reading.{mapJudged, verdict}
@@ -65,9 +66,11 @@ use Rattle.promises.specs.Laws.Shortest.{longer, least, other-names, oth
 use Rattle.promises.specs.Laws.Telling.{number-told, else-zero, yes-told}
 use Rattle.promises.specs.Laws.Through.{name-through, hint-through, older-through, metadata-through, hint-data-through}
 use Rattle.promises.specs.Laws.Why.{function-in-1, local-in-2, says-why}
+use Rattle.promises.specs.Laws.FunctionNames.{function-names}
+use Rattle.promises.specs.Laws.Markers.{made-reply, markers-refused, markers-numbered, indices-left, offsets-left, markers-marked, own-answers, rule-followed, quick-refused, quick-numbered}
 use Rattle.promises.specs.Laws.Walking.{walked, walk-counts, section-found, section-first, section-none, section-refused, custom-tells, custom-refused}
 use Rattle.wakemiono.specs.Calls.{wm-walk, wm-metadata-judge, wm-hints-judge, wm-metadata-canonical, wm-hints-canonical, wm-function-names-write, wm-old-hints-judge, wm-old-hints-canonical}
-use Rattle.promises.specs.Demands.{Verdict, Reply, SectionReply, HintReply, Answers, RefusedBy, RefusedThrough, RefusedOrShort, ListsRefused, Leaves, NeedsRoom, Writing, Demand1, HoldsName, HoldsData, JudgesExactly, AnswersNames, AnswersMetadata, AnswersHints, Walks, Demand2, SameAnswer, Rewritten, Rewrites, Demand3, yes, no, replyNone, replyFound, replyRefused, sectionNone, sectionFound, sectionRefused, hintNone, hintUnlikely, hintLikely, hintRefused, byTheWalk, byItsPayload, asJudged, tooShort, listsDisagree, notAbove, notText, subsectionTooLarge, outputTooShort, TellsCanonical, K10, K9, OlderRefused, AnswersOlder, K2, olderJudged, olderTooLong, olderTooShort, K11, K7}
+use Rattle.promises.specs.Demands.{Verdict, Reply, SectionReply, HintReply, Answers, RefusedBy, RefusedThrough, RefusedOrShort, ListsRefused, Leaves, NeedsRoom, Writing, Demand1, HoldsName, HoldsData, JudgesExactly, AnswersNames, AnswersMetadata, AnswersHints, Walks, Demand2, SameAnswer, Rewritten, Rewrites, Demand3, yes, no, replyNone, replyFound, replyRefused, sectionNone, sectionFound, sectionRefused, hintNone, hintUnlikely, hintLikely, hintRefused, byTheWalk, byItsPayload, asJudged, tooShort, listsDisagree, notAbove, notText, subsectionTooLarge, outputTooShort, TellsCanonical, K10, K9, OlderRefused, AnswersOlder, K2, olderJudged, olderTooLong, olderTooShort, K11, K7, K8}
 
 -- Demand 1
 judged-verdict : (n : ℕ) (j : Judged (Unit {0})) → Verdict (wmJudged n j)
@@ -430,4 +433,22 @@ pub k7 : K7
 k7 = record {
   functions = λ f. says-why 1 FunctionName whyFunction (λ k. TrueOfFunction (k .0)) functions-why (λ _ _ _ _. function-in-1) (record { 0 = f });
   locals = λ f j. says-why {Q = FunctionIndex × LocalIndex} 2 (λ q. LocalName (q .0) (q .1)) (λ q. whyLocal (q .0) (q .1)) (λ q. TrueOfLocal (q .0 .0) (q .1 .0)) locals-why (λ _ _ _ _. local-in-2) (record { 0 = f }, record { 0 = j });
+}
+
+pub k8 : K8
+k8 = record {
+  markers = λ p is os is′ os′ a b w.
+      let exactly = markers-refused p is os b (w .says) in
+      record { answers = rw (w .says) (made-reply (made p is os)); refuses = exactly; numbered = λ n at e. markers-numbered (exactly n at .0 e) };
+  quick = λ p is os end f a e. rw e (record {
+    answers = place-reply (quick p is os end (record { 0 = f }));
+    refuses = quick-refused p is os end f;
+    numbered = λ n at is-refused. quick-numbered (quick-refused p is os end f n at .0 is-refused);
+  });
+  indices = indices-left;
+  offsets = offsets-left;
+  function-names = function-names;
+  marked = λ p is os is′ os′ entries n begin end a f w. markers-marked p is os is′ os′ a w entries n begin end f;
+  own = λ p is os is′ os′ a w k f b c e g. e ∙ ap (λ j. wmPlace (asPlace j)) (own-answers p is os is′ os′ a w k f) ∙ sym g;
+  rule = λ p is os end f a e. rw e (rule-followed p is os end f);
 }

@@ -1,16 +1,26 @@
 -- Each promise of the crate `wakemiono` determines what comes back.
 use Prim.Native.Nat.{ℕ}
 use mathlib.Core.List.{List}
-use Rattle.format.specs.Determined.{Determines, Determines1, Determines2, Determines3, Determines4, DeterminesBoth2, DeterminesBoth4, equal-determined}
+use mathlib.Core.Path.{sym, _∙_}
+use Rattle.format.specs.Determined.{Determines, Determines1, Determines2, Determines3, Determines4, Determines5, DeterminesBoth2, DeterminesBoth4, DeterminesThree3, equal-determined}
+use Rattle.format.specs.Markers.{Markers}
 use Rattle.format.specs.Reading.{Judged}
 use Rattle.wakemiono.proofs.Same.{wm-writes-same}
-use Rattle.wakemiono.specs.Boundary.{WmWrites}
-use Rattle.wakemiono.specs.Calls.{wm-walk, wm-section, wm-custom, wm-names-judge, wm-name, wm-metadata-judge, wm-metadata, wm-hints-judge, wm-hint, wm-name-in, wm-metadata-in, wm-hint-in, wm-names-canonical, wm-metadata-canonical, wm-hints-canonical, wm-names-is-canonical, wm-metadata-is-canonical, wm-hints-is-canonical, wm-function-names-write, wm-wide-names-judge, wm-wide-name, wm-wide-name-in, wm-wide-names-canonical, wm-wide-names-is-canonical, wm-old-hints-judge, wm-old-hint, wm-old-hint-in, wm-old-hints-canonical, wm-old-hints-is-canonical, wm-why-function, wm-why-local}
+use Rattle.wakemiono.specs.Boundary.{WmWrites, WmMakes}
+use Rattle.wakemiono.specs.Calls.{wm-walk, wm-section, wm-custom, wm-names-judge, wm-name, wm-metadata-judge, wm-metadata, wm-hints-judge, wm-hint, wm-name-in, wm-metadata-in, wm-hint-in, wm-names-canonical, wm-metadata-canonical, wm-hints-canonical, wm-names-is-canonical, wm-metadata-is-canonical, wm-hints-is-canonical, wm-function-names-write, wm-wide-names-judge, wm-wide-name, wm-wide-name-in, wm-wide-names-canonical, wm-wide-names-is-canonical, wm-old-hints-judge, wm-old-hint, wm-old-hint-in, wm-old-hints-canonical, wm-old-hints-is-canonical, wm-why-function, wm-why-local, wm-markers, wm-quick-function-name}
 use Rattle.wakemiono.specs.declared.WmAnswer.{WmAnswer}
 
 -- One answer and one end state alone meet the promise of a write
 pub wm-writes-determined : (wanted : Judged (List ℕ)) (old : List ℕ) → Determines (λ (r : WmAnswer × List ℕ). WmWrites wanted old (r .1) (r .0))
 wm-writes-determined wanted old a b p q = let one = wm-writes-same p q in λ i. (one .0 i, one .1 i)
+
+-- and of making markers, with both lists
+wm-makes-determined : (wanted : Judged Markers) (is os : List ℕ) → Determines (λ (r : WmAnswer × List ℕ × List ℕ). WmMakes wanted is os (r .1) (r .2) (r .0))
+wm-makes-determined wanted is os a b p q =
+    let one = p .says ∙ sym (q .says) in
+    let two = p .indices ∙ sym (q .indices) in
+    let three = p .offsets ∙ sym (q .offsets) in
+    λ i. (one i, two i, three i)
 
 pub record Wakemiono : Type 0 where
   wm-walk : Determines1 wm-walk
@@ -44,6 +54,8 @@ pub record Wakemiono : Type 0 where
   wm-old-hints-is-canonical : Determines1 wm-old-hints-is-canonical
   wm-why-function : Determines2 wm-why-function
   wm-why-local : Determines3 wm-why-local
+  wm-markers : DeterminesThree3 wm-markers
+  wm-quick-function-name : Determines5 wm-quick-function-name
 
 pub determined : Wakemiono
 determined =
@@ -79,4 +91,6 @@ determined =
       wm-old-hints-is-canonical = λ payload. equal-determined _;
       wm-why-function = λ function payload. equal-determined _;
       wm-why-local = λ function local payload. equal-determined _;
+      wm-markers = λ payload indices offsets. wm-makes-determined _ _ _;
+      wm-quick-function-name = λ payload indices offsets end function. equal-determined _;
     }
