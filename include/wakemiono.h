@@ -3,7 +3,7 @@
  * Every call takes any bytes, ends, and asks no prior check. A byte slice is a pointer and a length; a length of 0 may
  * come with any non-null pointer. Every answer is one struct by value, or, to a yes or no, the number 1 or 0, so that no
  * call needs a buffer for it. A call reads what is lent to it and nothing else, and stores nothing but into an output;
- * slices may not overlap an output.
+ * slices may not overlap an output, nor two outputs each other.
  *
  *   kind            code             offset                    length
  *   WM_NONE      0  0                0                         0
@@ -27,10 +27,14 @@
  *   10  bytes left over in a subsection, in metadata or in hints            first of them
  *   11  index or offset not above the one before                            that number (from lists: its position)
  *   12  hint of size other than 1, or data above 1; older: kind above 1     the size number; older: the kind
- *   13  output shorter than needed                                          the needed length
+ *   13  output shorter than needed                                          the needed length (markers: their number)
  *   14  lists disagree: unequal counts, or lengths that do not add up       0
  *   15  subsection, or older hints, would exceed 4,294,967,295 bytes        0
+ *       payload for markers, or for the quick question, exceeds them        0
  *   17  in older hints the byte behind a function is not zero               that byte
+ *   22  no markers: lists of unequal length                                 the shorter's length
+ *       else an end outside the payload                                     the length of the lists
+ *       else a list that does not rise, or an offset not below the end      the first such position in the lists, from 0
  *
  * 16 is given by no call: the program that lists has it for its own input.
  */
@@ -253,6 +257,28 @@ typedef struct {
 wm_why wm_why_function(const uint8_t *payload, size_t payload_len, uint32_t function);
 /* Why has a local in a function no name, or where does it stand? */
 wm_why wm_why_local(const uint8_t *payload, size_t payload_len, uint32_t function, uint32_t local);
+
+/* Markers beside large maps of function names, for whoever asks one payload many times. They are made once: of every
+ * sixteenth entry of the function names, the first included, the function index and the offset in the payload, at which the
+ * index number of that entry starts; and the offset at which the subsection ends. The quick question is given them and
+ * reads at most sixteen entries, where wm_function_name judges the payload and goes through all of it. With the markers
+ * that were made from the very payload, in the first edition, it answers as wm_function_name does.
+ *
+ * The quick question does not judge the payload, and takes any lists and any end; a caller may have stored them. With
+ * markers of something else, or of bytes that have changed since, its answer is still this: it starts at the last marker
+ * not above the function (NONE without one), reads entry after entry, sixteen at most and none past the end, and the first
+ * with that index answers. An entry that cannot be read whole before the end is answered NONE. Text is not checked: only
+ * with its own markers is what it finds surely UTF-8. */
+
+/* The markers of a name payload, which is judged whole first, by the first edition: FOUND with offset = where the
+ * subsection of function names ends, 0 without one, and length = how many markers there are. They stand at the front of
+ * both lists, and what is behind them is unchanged. One for each 32 bytes of the payload and one more are always enough.
+ * REFUSED changes nothing. Refusals in this order: the payload's; 15; 13, where one of the lists is shorter. */
+wm_answer wm_markers(const uint8_t *payload, size_t payload_len, uint32_t *indices, size_t indices_len,
+                     uint32_t *offsets, size_t offsets_len);
+/* A function's name by markers: the lists of wm_markers at their true length, and the end. Refusals: 15, 22. */
+wm_answer wm_quick_function_name(const uint8_t *payload, size_t payload_len, const uint32_t *indices, size_t indices_len,
+                                 const uint32_t *offsets, size_t offsets_len, uint64_t end, uint32_t function);
 
 #ifdef __cplusplus
 }

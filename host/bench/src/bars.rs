@@ -1,29 +1,70 @@
-//! How many times as much as judging a rewriting may take.
+//! What may be taken at most: so many times what judging takes, or so many instructions.
 
 use crate::operation::Operation;
 use crate::table::{library, Row};
 
-/// The most that rewriting older hints may take, by the payload: in order it is a few passes, and out of order the hints
-/// are sorted without any memory but the output.
-const MOST: [(&str, u64); 6] = [
-    ("old-hints", 4),
-    ("old-hints-shuffled", 500),
-    ("old-hints-apart-shuffled", 500),
-    ("old-hints-falling", 1_500),
-    ("old-hints-apart-falling", 1_500),
-    ("old-hints-nearly-rising", 1_500),
+/// What an operation is held to.
+#[derive(Clone, Copy)]
+enum Most {
+    /// So many times what another operation takes.
+    Times(f64, Operation),
+    Instructions(u64),
+}
+
+struct Bar {
+    payload: &'static str,
+    operation: Operation,
+    most: Most,
+}
+
+/// Rewriting older hints: in order it is a few passes, and out of order they are sorted without any memory but the output.
+/// Markers: a tenth more than judging, whatever the names are like, and a quick question among 14,000 of them.
+const BARS: [Bar; 14] = [
+    rewriting("old-hints", 4.0),
+    rewriting("old-hints-shuffled", 500.0),
+    rewriting("old-hints-apart-shuffled", 500.0),
+    rewriting("old-hints-falling", 1_500.0),
+    rewriting("old-hints-apart-falling", 1_500.0),
+    rewriting("old-hints-nearly-rising", 1_500.0),
+    marking("go"),
+    marking("one-letter"),
+    marking("c++"),
+    marking("rust-v0"),
+    marking("locals"),
+    marking("wide"),
+    marking("two-byte"),
+    Bar {
+        payload: "go",
+        operation: Operation::QuickLast,
+        most: Most::Instructions(5_000),
+    },
 ];
 
-/// A line for each payload, or a sentence on those that take more.
+const fn rewriting(payload: &'static str, times: f64) -> Bar {
+    Bar {
+        payload,
+        operation: Operation::RewriteOldHints,
+        most: Most::Times(times, Operation::JudgeOldHints),
+    }
+}
+
+const fn marking(payload: &'static str) -> Bar {
+    Bar {
+        payload,
+        operation: Operation::Markers,
+        most: Most::Times(1.1, Operation::Judge),
+    }
+}
+
+/// A line for each bar, or a sentence on those that are broken.
 pub fn lines(rows: &[Row]) -> Result<String, String> {
     let mut kept = String::new();
     let mut broken = String::new();
-    for (payload, most) in MOST {
-        let times = times(rows, payload)?;
-        let line = format!("{payload}: rewritten in {times:.1} times what judging takes");
-        match times <= most as f64 {
-            true => kept.push_str(&format!("{line}, at most {most} is the bar\n")),
-            false => broken.push_str(&format!("{line}: the bar is {most}, so speed it up.\n")),
+    for bar in BARS {
+        let (is_kept, line) = held(rows, &bar)?;
+        match is_kept {
+            true => kept.push_str(&format!("{line} is the bar\n")),
+            false => broken.push_str(&format!("{line} is the bar, so speed it up.\n")),
         }
     }
     match broken.is_empty() {
@@ -32,13 +73,28 @@ pub fn lines(rows: &[Row]) -> Result<String, String> {
     }
 }
 
-fn times(rows: &[Row], payload: &str) -> Result<f64, String> {
-    let count = |operation: Operation| {
-        let missing = || format!("{payload} has no count of '{}'.", operation.words());
-        library(rows, payload, operation).ok_or_else(missing)
-    };
-    let judging = count(Operation::JudgeOldHints)?;
-    Ok(count(Operation::RewriteOldHints)? as f64 / judging as f64)
+/// Whether a bar is kept, and a line on how near it is.
+fn held(rows: &[Row], bar: &Bar) -> Result<(bool, String), String> {
+    let taken = count(rows, bar.payload, bar.operation)?;
+    let (payload, words) = (bar.payload, bar.operation.words());
+    Ok(match bar.most {
+        Most::Instructions(most) => {
+            let line = format!("{payload}: '{words}' takes {taken} instructions, at most {most}");
+            (taken <= most, line)
+        }
+        Most::Times(most, base) => {
+            let times = taken as f64 / count(rows, payload, base)? as f64;
+            let base = base.words();
+            let line =
+                format!("{payload}: '{words}' takes {times:.3} times '{base}', at most {most}");
+            (times <= most, line)
+        }
+    })
+}
+
+fn count(rows: &[Row], payload: &str, operation: Operation) -> Result<u64, String> {
+    let missing = || format!("{payload} has no count of '{}'.", operation.words());
+    library(rows, payload, operation).ok_or_else(missing)
 }
 
 #[cfg(test)]
@@ -47,44 +103,63 @@ mod tests {
     use crate::operation::{region, Who};
     use crate::table;
 
-    /// The counts of runs in which judging takes 10 instructions, and rewriting so many times as much.
-    fn rows(times: [u64; 6]) -> Vec<Row> {
+    const JUDGED: u64 = 1_000;
+
+    /// The counts of runs that reach every bar, but for one operation, which takes so much more.
+    fn rows(payload: &str, operation: Operation, more: u64) -> Vec<Row> {
         let mut counts = String::new();
-        for ((payload, _), times) in MOST.iter().zip(times) {
-            counts.push_str(&format!("payload\t{payload}\t1\n"));
-            for (operation, sum) in [
-                (Operation::JudgeOldHints, 10),
-                (Operation::RewriteOldHints, 10 * times),
-            ] {
-                for who in Who::BOTH {
-                    let number = region(operation, who);
-                    let (words, who) = (operation.words(), who.words());
-                    counts.push_str(&format!("region\t{number}\t{words}\t{who}\n"));
-                    counts.push_str(&format!("icount region {number} hits 1 sum {sum}\n"));
+        for bar in BARS {
+            let most = match bar.most {
+                Most::Instructions(most) => most,
+                Most::Times(times, base) => {
+                    counts.push_str(&run(bar.payload, base, JUDGED));
+                    (times * JUDGED as f64) as u64
                 }
-            }
+            };
+            let is_dearer = bar.payload == payload && bar.operation == operation;
+            let taken = most + if is_dearer { more } else { 0 };
+            counts.push_str(&run(bar.payload, bar.operation, taken));
         }
         table::rows(&counts).expect("rows")
     }
 
+    /// A run that measures one operation.
+    fn run(payload: &str, operation: Operation, sum: u64) -> String {
+        let mut counts = format!("payload\t{payload}\t1\n");
+        for who in Who::BOTH {
+            let number = region(operation, who);
+            let (words, who) = (operation.words(), who.words());
+            counts.push_str(&format!("region\t{number}\t{words}\t{who}\n"));
+            counts.push_str(&format!("icount region {number} hits 1 sum {sum}\n"));
+        }
+        counts
+    }
+
     #[test]
     fn bars_that_are_kept() {
-        let said = lines(&rows([4, 500, 499, 1_500, 1, 1_500])).expect("none is broken");
-        assert_eq!(said.lines().count(), MOST.len());
-        assert!(said.starts_with("old-hints: rewritten in 4.0 times what judging takes"));
+        let said = lines(&rows("go", Operation::Markers, 0)).expect("none is broken");
+        assert_eq!(said.lines().count(), BARS.len());
+        assert!(said.starts_with("old-hints: 'rewrite old hints' takes 4.000 times 'judge old hints', at most 4 is the bar"));
     }
 
     #[test]
     fn a_bar_that_is_broken_is_named() {
-        let said = lines(&rows([4, 501, 500, 1_500, 1, 1_500])).expect_err("one is broken");
-        let line = "old-hints-shuffled: rewritten in 501.0 times what judging takes: \
-            the bar is 500, so speed it up.\n";
+        let said = lines(&rows("c++", Operation::Markers, 1)).expect_err("one is broken");
+        let line =
+            "c++: 'markers' takes 1.101 times 'judge', at most 1.1 is the bar, so speed it up.\n";
+        assert_eq!(said, line);
+    }
+
+    #[test]
+    fn so_is_one_of_instructions() {
+        let said = lines(&rows("go", Operation::QuickLast, 1)).expect_err("one is broken");
+        let line = "go: 'quick, last name' takes 5001 instructions, at most 5000 is the bar, so speed it up.\n";
         assert_eq!(said, line);
     }
 
     #[test]
     fn a_missing_count_is_said() {
         let said = lines(&[]).expect_err("no counts");
-        assert_eq!(said, "old-hints has no count of 'judge old hints'.");
+        assert_eq!(said, "old-hints has no count of 'rewrite old hints'.");
     }
 }

@@ -28,7 +28,7 @@ bench payloads        the names of the payloads, a line each
 bench run PAYLOAD     puts each operation on a payload to both readers, and prints which region counts what
 bench table COUNTS    the counts of all runs as a table
 bench lines COUNTS    the same as tab-separated lines
-bench bars COUNTS     how many times as much as judging the rewritings of older hints take; fails where a bar is broken
+bench bars COUNTS     how near rewritings of older hints, markers and quick questions are to their bars; fails where one is broken
 ";
 
 fn main() -> ExitCode {

@@ -1,6 +1,7 @@
 //! Every operation that a payload allows, put once to each reader, and the two results compared.
 
 use comparison::library;
+use comparison::markers::Markers;
 
 use crate::made::LAST_BRANCH;
 use crate::name_map::{Lists, NameMap, FUNCTIONS, GLOBALS};
@@ -11,6 +12,9 @@ use crate::region::counted;
 
 /// What an output holds before a call.
 const UNTOUCHED: u8 = 0xEE;
+
+/// The fewest bytes that a payload has for each of its markers: sixteen entries of two bytes.
+const BYTES_OF_A_MARKER: usize = 32;
 
 /// An operation, and whether the two readers agreed on it.
 type Compared = (Operation, bool);
@@ -78,6 +82,8 @@ fn names(payload: &[u8]) -> Vec<Compared> {
     let map = NameMap::of(payload, FUNCTIONS);
     let last = map.as_ref().and_then(|map| map.lists.indices.last());
     compared.extend(last.map(|&last| look_up(payload, last)));
+    compared.push(markers(payload));
+    compared.extend(last.map(|&last| quick(payload, last)).into_iter().flatten());
     compared.extend(last.map(|&last| why(payload, last)));
     compared.push(rewrite(payload));
     let alone = map.filter(|map| map.alone);
@@ -95,6 +101,62 @@ fn tell(payload: &[u8]) -> Compared {
 
 fn look_up(payload: &[u8], last: u32) -> Compared {
     asked!(Operation::LookUp, function_name(lent, last) where (lent, last) = (payload, last))
+}
+
+/// They agree if they leave both lists alike, too.
+fn markers(payload: &[u8]) -> Compared {
+    const LIBRARY: u8 = region(Operation::Markers, Who::Library);
+    const READER: u8 = region(Operation::Markers, Who::SecondReader);
+    let (mut by_library, mut by_reader) = (room_for_markers(payload), room_for_markers(payload));
+    let (indices, offsets) = &mut by_library;
+    let told = counted::<LIBRARY, _, _>(
+        (payload, &mut indices[..], &mut offsets[..]),
+        |(lent, indices, offsets)| library::markers(lent, indices, offsets),
+    );
+    let (indices, offsets) = &mut by_reader;
+    let read = counted::<READER, _, _>(
+        (payload, &mut indices[..], &mut offsets[..]),
+        |(lent, indices, offsets)| second_reader::markers(lent, indices, offsets),
+    );
+    let alike = are_alike(told, read) && by_library == by_reader;
+    (Operation::Markers, alike)
+}
+
+/// Two lists that are long enough.
+fn room_for_markers(payload: &[u8]) -> (Vec<u32>, Vec<u32>) {
+    let untouched = vec![u32::from(UNTOUCHED); payload.len() / BYTES_OF_A_MARKER + 1];
+    (untouched.clone(), untouched)
+}
+
+/// The quick question for the first name, which is little more than the check of the lists, and for the last.
+fn quick(payload: &[u8], last: u32) -> [Compared; 2] {
+    let (mut indices, mut offsets) = room_for_markers(payload);
+    let made = second_reader::markers(payload, &mut indices, &mut offsets);
+    let count = made.length as usize;
+    let markers = Markers::new(&indices[..count], &offsets[..count], made.offset);
+    let first = markers.indices[0];
+    [
+        quick_first(payload, &markers, first),
+        quick_last(payload, &markers, last),
+    ]
+}
+
+fn quick_first(payload: &[u8], markers: &Markers, first: u32) -> Compared {
+    let lists = (&markers.indices[..], &markers.offsets[..]);
+    asked!(
+        Operation::QuickFirst,
+        quick_function_name(lent, indices, offsets, end, first)
+        where (lent, (indices, offsets), end, first) = (payload, lists, markers.end, first)
+    )
+}
+
+fn quick_last(payload: &[u8], markers: &Markers, last: u32) -> Compared {
+    let lists = (&markers.indices[..], &markers.offsets[..]);
+    asked!(
+        Operation::QuickLast,
+        quick_function_name(lent, indices, offsets, end, last)
+        where (lent, (indices, offsets), end, last) = (payload, lists, markers.end, last)
+    )
 }
 
 fn why(payload: &[u8], last: u32) -> Compared {
@@ -218,6 +280,9 @@ mod tests {
         }
         for tried in [
             Operation::Tell,
+            Operation::Markers,
+            Operation::QuickFirst,
+            Operation::QuickLast,
             Operation::Why,
             Operation::WriteFromLists,
             Operation::TellHints,

@@ -1,6 +1,7 @@
 //! Memory that ends where nothing is mapped.
 
 use std::ffi::{c_int, c_void};
+use std::mem::size_of;
 use std::ptr;
 
 /// No page of a machine that runs x86-64 programs is larger.
@@ -59,6 +60,13 @@ impl Guarded {
         unsafe { std::slice::from_raw_parts_mut(self.start.add(self.room - len), len) }
     }
 
+    /// The last `len` numbers before the barred page.
+    pub fn last_numbers(&mut self, len: usize) -> &mut [u32] {
+        let place = self.last(len * size_of::<u32>());
+        // SAFETY: the room ends at a page, so this start is aligned; any bytes are numbers, and they are borrowed.
+        unsafe { std::slice::from_raw_parts_mut(place.as_mut_ptr().cast::<u32>(), len) }
+    }
+
     /// Bytes copied to the very end.
     pub fn lend(&mut self, bytes: &[u8]) -> &[u8] {
         let place = self.last(bytes.len());
@@ -68,10 +76,9 @@ impl Guarded {
 
     /// Numbers copied to the very end.
     pub fn lend_numbers(&mut self, numbers: &[u32]) -> &[u32] {
-        let bytes: Vec<u8> = numbers.iter().flat_map(|n| n.to_ne_bytes()).collect();
-        let place = self.lend(&bytes);
-        // SAFETY: the room ends at a page, so this start is aligned; any bytes are numbers, and they are borrowed.
-        unsafe { std::slice::from_raw_parts(place.as_ptr().cast::<u32>(), numbers.len()) }
+        let place = self.last_numbers(numbers.len());
+        place.copy_from_slice(numbers);
+        place
     }
 }
 

@@ -10,6 +10,7 @@ pub mod guarded;
 pub mod held;
 pub mod library;
 pub mod made;
+pub mod markers;
 pub mod random;
 pub mod spelling;
 pub mod tally;

@@ -12,9 +12,9 @@ pub struct Told {
     pub kind: u32,
     /// The number of a refusal; for a section, its id.
     pub code: u32,
-    /// Where what was found, or the fault, lies in what was lent.
+    /// Where what was found, or the fault, lies in what was lent; of markers, where their subsection ends.
     pub offset: u64,
-    /// How many bytes were found or written; for the walk, how many sections there are.
+    /// How many bytes were found or written; for the walk, how many sections, and of markers how many.
     pub length: u64,
 }
 
@@ -214,6 +214,24 @@ extern "C" {
         out: *mut u8,
         out_len: usize,
     ) -> Told;
+    fn wm_markers(
+        payload: *const u8,
+        payload_len: usize,
+        indices: *mut u32,
+        indices_len: usize,
+        offsets: *mut u32,
+        offsets_len: usize,
+    ) -> Told;
+    fn wm_quick_function_name(
+        payload: *const u8,
+        payload_len: usize,
+        indices: *const u32,
+        indices_len: usize,
+        offsets: *const u32,
+        offsets_len: usize,
+        end: u64,
+        function: u32,
+    ) -> Told;
 }
 
 /// `wm_custom` of the header, on slices.
@@ -250,6 +268,44 @@ pub fn function_names_write(indices: &[u32], lengths: &[u32], text: &[u8], out: 
             text.len(),
             out.as_mut_ptr(),
             out.len(),
+        )
+    }
+}
+
+/// `wm_markers` of the header, on slices.
+pub fn markers(payload: &[u8], indices: &mut [u32], offsets: &mut [u32]) -> Told {
+    // SAFETY: all are live slices, neither list overlaps another of them, and the call stores into the lists alone.
+    unsafe {
+        wm_markers(
+            payload.as_ptr(),
+            payload.len(),
+            indices.as_mut_ptr(),
+            indices.len(),
+            offsets.as_mut_ptr(),
+            offsets.len(),
+        )
+    }
+}
+
+/// `wm_quick_function_name` of the header, on slices.
+pub fn quick_function_name(
+    payload: &[u8],
+    indices: &[u32],
+    offsets: &[u32],
+    end: u64,
+    function: u32,
+) -> Told {
+    // SAFETY: all are live slices, which the call only reads.
+    unsafe {
+        wm_quick_function_name(
+            payload.as_ptr(),
+            payload.len(),
+            indices.as_ptr(),
+            indices.len(),
+            offsets.as_ptr(),
+            offsets.len(),
+            end,
+            function,
         )
     }
 }

@@ -1,5 +1,7 @@
 //! Payloads and modules made at random: well formed, with everything that the rules allow and few writers produce.
 
+use std::collections::BTreeMap;
+
 use crate::held::{Contents, Edition, Entries, Groups, Held, Names, OldHints, FIRST, WIDER};
 use crate::random::Random;
 use crate::spelling::{self, LONGEST_NUMBER};
@@ -10,6 +12,12 @@ const TEXTS: [&str; 7] = ["", "a", "main", "é", "漢", "🦀x", "core::fmt::wri
 
 /// The id of the subsection with the module's name.
 const MODULE_NAME: u8 = 0;
+
+/// The id of the subsection with the names of functions.
+const FUNCTIONS: u8 = 1;
+
+/// An id that no edition knows.
+const KEPT: u8 = 12;
 
 /// The subsections that are made: every id that an edition knows, and others behind them.
 const SUBSECTIONS: [u8; 15] = [0, 1, 2, 3, 4, 5, 6, 7, 8, 9, 10, 11, 12, 200, 255];
@@ -75,6 +83,27 @@ pub fn held_names(r: &mut Random, edition: &'static Edition) -> Names {
     }
 }
 
+/// What a payload holds with fewer function names than the bound, at indices of which some are left out. A module's name
+/// may stand before them, and something kept behind them.
+fn held_functions(r: &mut Random, bound: usize) -> Names {
+    let mut entries = Entries::new();
+    let mut index = r.below(3) as u32;
+    for _ in 0..r.below(bound) {
+        entries.insert(index, text(r));
+        index += 1 + r.below(3) as u32;
+    }
+    let mut subsections = BTreeMap::from([(FUNCTIONS, Contents::Map(entries))]);
+    for around in [MODULE_NAME, KEPT] {
+        if r.once_in(2) {
+            subsections.insert(around, contents(r, &FIRST, around));
+        }
+    }
+    Names {
+        edition: &FIRST,
+        subsections,
+    }
+}
+
 /// What a metadata payload holds; of branch hints, or with data of any size.
 pub fn held_metadata(r: &mut Random, hints: bool) -> Groups {
     match hints {
@@ -123,6 +152,12 @@ fn payload(r: &mut Random, held: impl Held) -> Vec<u8> {
 pub fn names(r: &mut Random) -> Vec<u8> {
     let edition = r.one_of(&[&FIRST, &WIDER]);
     let held = held_names(r, edition);
+    payload(r, held)
+}
+
+/// A name payload with fewer function names than the bound.
+pub fn functions(r: &mut Random, bound: usize) -> Vec<u8> {
+    let held = held_functions(r, bound);
     payload(r, held)
 }
 

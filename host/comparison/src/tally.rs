@@ -67,6 +67,8 @@ pub struct Tally {
     pub why_met: BTreeMap<(&'static str, u32), u64>,
     /// How often a map without the index was met, by whether it has one below and one above.
     pub neighbours_met: BTreeMap<(u32, u32), u64>,
+    /// What the quick question was answered.
+    pub quick_met: Met,
     /// What they said of name payloads, by the wider edition.
     pub wide_said: Said,
     /// What the questions of the wider edition were answered, by the names of the calls.
@@ -83,6 +85,7 @@ pub struct Tally {
     also_lent: Guarded,
     text: Guarded,
     output: Guarded,
+    also_output: Guarded,
 }
 
 impl Default for Tally {
@@ -92,6 +95,7 @@ impl Default for Tally {
             names_said: Said::default(),
             why_met: BTreeMap::new(),
             neighbours_met: BTreeMap::new(),
+            quick_met: Met::default(),
             wide_said: Said::default(),
             wide_met: BTreeMap::new(),
             metadata_said: Said::default(),
@@ -102,6 +106,7 @@ impl Default for Tally {
             also_lent: Guarded::new(ROOM),
             text: Guarded::new(ROOM),
             output: Guarded::new(ROOM),
+            also_output: Guarded::new(ROOM),
         }
     }
 }
@@ -182,6 +187,7 @@ macro_rules! rewrite {
 }
 
 // They stand behind the macros, which they use.
+mod markers;
 mod older;
 mod why;
 mod wide;
@@ -241,6 +247,7 @@ impl Tally {
     /// Every question of the first edition to a name payload.
     pub fn first_names(&mut self, p: &[u8]) {
         self.judge_names(p);
+        self.own_markers(p, &KEYS);
         ask!(self, p, module_name);
         for key in KEYS {
             let name = ask!(self, p, function_name, key);

@@ -257,6 +257,63 @@ fn reasons_for_no_name() {
     tally.assert_why_met(&told, LEAST);
 }
 
+/// So many functions, at every second index from 1 on, with names of up to two letters.
+fn functions(count: u32) -> Names {
+    let name = |n: u32| b"ab"[..n as usize % 3].to_vec();
+    let entries = Entries::from_iter((0..count).map(|n| (2 * n + 1, name(n))));
+    Names {
+        edition: &FIRST,
+        subsections: BTreeMap::from([(FUNCTIONS, Contents::Map(entries))]),
+    }
+}
+
+/// Fewer functions than one marker has, as many, one more, and several markers.
+const FUNCTION_COUNTS: [u32; 6] = [0, 1, 15, 16, 17, 40];
+
+/// Functions at both ends of what the markers of forty reach, some that have no name, and one beyond all.
+const ASKED: [u32; 9] = [0, 1, 2, 31, 32, 33, 65, 79, u32::MAX];
+
+/// A payload that is damaged once its markers were made: they are made anew, and it is asked by the old ones too.
+#[test]
+fn markers_of_damaged_payloads() {
+    const LEAST: u64 = 1_000;
+    let mut tally = Tally::default();
+    for count in FUNCTION_COUNTS {
+        let held = functions(count);
+        let payload = held.spelled(&mut unpadded);
+        let markers = tally.own_markers(&payload, &ASKED).expect("accepted");
+        let mut others = damaged(&payload);
+        others.extend(held.with_one_padded());
+        for other in others {
+            tally.own_markers(&other, &ASKED);
+            for function in ASKED {
+                tally.quick(&other, &markers, function);
+            }
+        }
+    }
+    println!("compared {} calls", tally.calls);
+    tally.assert_quick_met(LEAST);
+}
+
+/// Markers with one thing changed, of their own payload and of others.
+#[test]
+fn damaged_markers() {
+    const LEAST: u64 = 300;
+    let mut tally = Tally::default();
+    let payloads = FUNCTION_COUNTS.map(|count| functions(count).spelled(&mut unpadded));
+    for payload in &payloads {
+        let markers = tally.own_markers(payload, &ASKED).expect("accepted");
+        for other in &payloads {
+            tally.quick_by_damaged(other, &markers, &ASKED);
+        }
+        // Where the functions stand elsewhere, other bytes are read as entries.
+        let moved = [b"\x00\x02\x01m", &payload[..]].concat();
+        tally.quick_by_damaged(&moved, &markers, &ASKED);
+    }
+    println!("compared {} calls", tally.calls);
+    tally.assert_quick_met(LEAST);
+}
+
 /// A name payload with one name in a map.
 fn one_name(id: u8, text: &[u8]) -> Vec<u8> {
     let mut contents = vec![1, 0];

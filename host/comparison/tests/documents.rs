@@ -1,6 +1,7 @@
 //! The documents' own cases.
 
-use comparison::library::{FOUND, NO_ENTRY, NO_GROUP, NO_SUBSECTION, REFUSED};
+use comparison::library::{FOUND, NONE, NO_ENTRY, NO_GROUP, NO_SUBSECTION, REFUSED};
+use comparison::markers::Markers;
 use comparison::tally::{Said, Tally};
 
 /// The payload P of the examples.
@@ -78,6 +79,112 @@ fn reasons_for_no_name() {
     let told = [FOUND, REFUSED, NO_SUBSECTION, NO_GROUP, NO_ENTRY];
     tally.assert_why_met(&told, 1);
     assert_eq!(tally.names_said, said(4, 3));
+}
+
+/// So many functions, from index 0 on, with empty names.
+fn functions(count: u8) -> Vec<u8> {
+    let entries = (0..count).flat_map(|index| [index, 0]);
+    let contents = [vec![count], entries.collect()].concat();
+    [&[0x01, contents.len() as u8], &contents[..]].concat()
+}
+
+/// The readings of markers, made and asked by their own.
+#[test]
+fn markers() {
+    let mut tally = Tally::default();
+    for payload in [
+        &P[..],
+        // without any entry, and without the subsection
+        &[0x01, 0x01, 0x00],
+        &[0x00, 0x02, 0x01, 0x6D],
+        &[],
+        // padded in every number
+        &[0x01, 0x87, 0x00, 0x81, 0x00, 0x83, 0x00, 0x81, 0x00, 0x66],
+        // refused: out of order, and behind the functions
+        &FALLING,
+        &[0x01, 0x01, 0x00, 0x02, 0x01, 0x00, 0x0B, 0x02, 0x00, 0x00],
+        // by the wider edition alone
+        &[0x01, 0x04, 0x01, 0x03, 0x01, 0x66, 0x07, 0x01, 0xFF],
+    ] {
+        tally.own_markers(payload, &[0, 1, 2, 3, 4, u32::MAX]);
+    }
+    for count in [1, 15, 16, 17, 32, 33, 48] {
+        let every: Vec<u32> = (0..=50).collect();
+        let markers = tally.own_markers(&functions(count), &every);
+        let markers = markers.expect("accepted");
+        assert_eq!(markers.indices.len(), count.div_ceil(16).into());
+    }
+    println!("compared {} calls", tally.calls);
+}
+
+/// The functions 5 and 3, in that order.
+const FALLING: [u8; 9] = [0x01, 0x07, 0x02, 0x05, 0x01, 0x61, 0x03, 0x01, 0x62];
+
+/// Where the quick question for function 3 finds a name, by these lists and this end; or what else it says.
+fn quick(
+    payload: &[u8],
+    indices: &[u32],
+    offsets: &[u32],
+    end: u64,
+) -> Result<u64, (u32, u32, u64)> {
+    let markers = Markers::new(indices, offsets, end);
+    let told = Tally::default().quick(payload, &markers, 3);
+    match told.kind {
+        FOUND => Ok(told.offset),
+        other => Err((other, told.code, told.offset)),
+    }
+}
+
+/// The readings of the quick question, by lists that markers could be.
+#[test]
+fn quick_questions() {
+    let none = Err((NONE, 0, 0));
+    // an index out of order behind the marker, also beyond the next marker
+    assert_eq!(quick(&FALLING, &[3], &[3], 9), Ok(8));
+    assert_eq!(quick(&FALLING, &[3, 4], &[3, 6], 9), Ok(8));
+    // asked below the first marker, and without any
+    assert_eq!(quick(&FALLING, &[4], &[3], 9), none);
+    assert_eq!(quick(&FALLING, &[], &[], 9), none);
+    // the entry, and the one before it, run past the end
+    for end in 4..9 {
+        assert_eq!(quick(&FALLING, &[3], &[3], end), none, "end {end}");
+    }
+    // a number of refusal 3 is met first: an index, and a length
+    let too_large_index = [0xFF, 0xFF, 0xFF, 0xFF, 0x1F, 0x00, 0x03, 0x00];
+    assert_eq!(quick(&too_large_index, &[0], &[0], 8), none);
+    let too_large_length = [0x03, 0xFF, 0xFF, 0xFF, 0xFF, 0x1F, 0x03, 0x00];
+    assert_eq!(quick(&too_large_length, &[0], &[0], 8), none);
+    // text that is none
+    assert_eq!(quick(&[0x03, 0x01, 0xFF], &[0], &[0], 3), Ok(2));
+    // the sixteenth entry, and the seventeenth
+    let sixteen = [&[0; 30][..], &[0x03, 0x00]].concat();
+    assert_eq!(quick(&sixteen, &[0], &[0], 32), Ok(32));
+    let seventeen = [&[0, 0], &sixteen[..]].concat();
+    assert_eq!(quick(&seventeen, &[0], &[0], 34), none);
+}
+
+/// The readings of refusal 22.
+#[test]
+fn lists_that_are_no_markers() {
+    for (indices, offsets, end, at) in [
+        // of unequal length, whatever else
+        (&[2, 1][..], &[99][..], 99, 1),
+        (&[2, 1], &[99, 1, 1], 99, 2),
+        // an end one past the payload, whatever else
+        (&[], &[], 13, 0),
+        (&[2, 1], &[99, 1], 13, 2),
+        // offsets that stand still, indices that do, and both
+        (&[2, 1, 3], &[3, 4, 4], 12, 1),
+        (&[1, 2, 2], &[3, 3, 4], 12, 1),
+        (&[1, 2, 3], &[3, 4, 4], 12, 2),
+        (&[1, 2, 2], &[3, 4, 5], 12, 2),
+        // an offset not below the end: the first, and the last
+        (&[1, 2], &[12, 13], 12, 0),
+        (&[1, 2], &[11, 12], 12, 1),
+    ] {
+        let said = quick(&[0; 12], indices, offsets, end);
+        assert_eq!(said, Err((REFUSED, 22, at)), "{indices:?} {offsets:?}");
+    }
 }
 
 /// Payloads in which the editions differ, and their like.

@@ -2,6 +2,7 @@
 
 use comparison::fixtures::{files, modules};
 use comparison::library::{self, custom, section, walk, Told, FOUND, LIKELY, REFUSED, UNLIKELY};
+use comparison::markers::Markers;
 use comparison::tally::{Judged, Said, Tally, HINTS, NAMES, OLD_HINTS};
 use second_reader::{Kind, Why};
 use std::collections::BTreeMap;
@@ -29,6 +30,9 @@ const ANSWERED_WIDELY: (usize, usize) = (26, 1_116);
 const ANSWERED_OF_OLD: (usize, usize) = (4, 13);
 /// How many functions and locals are asked why they have no name: 1,040 that have one, and the two beside each.
 const ASKED_WHY: usize = 3 * 1_040;
+
+/// Those that name more than sixteen functions, and their markers.
+const MARKED: (usize, usize) = (2, 60);
 
 /// The ids of the subsections with the names of functions and of locals.
 const FUNCTIONS: u32 = 1;
@@ -329,4 +333,55 @@ fn ask_why(path: &PathBuf) -> usize {
 fn reasons_for_no_name() {
     let questions: usize = files("answers").iter().map(ask_why).sum();
     assert_eq!(questions, ASKED_WHY);
+}
+
+/// The markers that the third reading found: a line for each, and one for the end.
+fn read_markers(path: &Path) -> Markers {
+    let number = |word: &str| word.parse::<u32>().expect("a number");
+    let mut markers = Markers::new(&[], &[], 0);
+    let lines = fs::read_to_string(path).expect("markers can be read");
+    for line in lines.lines() {
+        let (word, offset) = line.split_once(' ').expect("two words");
+        match word {
+            "end" => markers.end = number(offset).into(),
+            index => {
+                markers.indices.push(number(index));
+                markers.offsets.push(number(offset));
+            }
+        }
+    }
+    markers
+}
+
+#[test]
+fn markers() {
+    let mut tally = Tally::default();
+    let mut count = 0;
+    let files = files("markers");
+    for path in &files {
+        let module = module_of(path);
+        let payload = payload_of(&module, NAMES).unwrap_or_default();
+        let expected = read_markers(path);
+        let made = tally.own_markers(payload, &expected.indices);
+        assert_eq!(made.as_ref(), Some(&expected), "{}", path.display());
+        count += expected.indices.len();
+    }
+    assert_eq!((files.len(), count), MARKED);
+}
+
+/// Every function that has a name, and those beside it.
+#[test]
+fn functions_by_markers() {
+    let mut tally = Tally::default();
+    for path in files("answers") {
+        let answers = fs::read_to_string(&path).expect("answers can be read");
+        let indices = maps(&answers).remove(&None).unwrap_or_default();
+        let beside = |index: u32| [index.wrapping_sub(1), index, index.wrapping_add(1)];
+        let asked: Vec<u32> = indices.into_iter().flat_map(beside).collect();
+        let module = module_of(&path);
+        let payload = payload_of(&module, NAMES).unwrap_or_default();
+        let markers = tally.own_markers(payload, &asked);
+        assert!(markers.is_some(), "{}", path.display());
+    }
+    println!("compared {} calls", tally.calls);
 }

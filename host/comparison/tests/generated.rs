@@ -2,6 +2,7 @@
 
 use comparison::library::{FOUND, LIKELY, NONE, NO_ENTRY, NO_GROUP, NO_SUBSECTION, UNLIKELY};
 use comparison::made;
+use comparison::markers::Markers;
 use comparison::random::{seed, Random};
 use comparison::spelling::{sized, unpadded};
 use comparison::tally::{Tally, WIDE_QUESTIONS};
@@ -57,6 +58,31 @@ fn payloads_and_modules() {
     assert!(fewest >= LEAST_WIDE, "{said:?}");
     // Payloads that were made for the first edition are refused by the wider one, if they keep what is no map.
     tally.assert_wide_met(2 * WIDE_QUESTIONS, LEAST_WIDE);
+}
+
+/// Many functions: every index is asked for by their own markers, and then by those of the payload before.
+#[test]
+fn markers_of_many_functions() {
+    const LEAST_QUICK: u64 = 10_000;
+    /// How many functions a payload has at most, and an index beyond all of them.
+    const FUNCTIONS: usize = 80;
+    const BEHIND_ALL: u32 = 3 * FUNCTIONS as u32 + 2;
+    let mut r = Random::new(seed());
+    let mut tally = Tally::default();
+    let every = Vec::from_iter(0..=BEHIND_ALL);
+    let mut before = Markers::new(&[], &[], 0);
+    for _ in 0..ROUNDS {
+        let payload = made::functions(&mut r, FUNCTIONS + 1);
+        let markers = tally.own_markers(&payload, &every).expect("accepted");
+        for function in (0..).take(FUNCTIONS) {
+            tally.quick(&payload, &before, function);
+        }
+        let asked = [0, 1, r.below(FUNCTIONS) as u32, u32::MAX];
+        tally.quick_by_damaged(&payload, &markers, &asked);
+        before = markers;
+    }
+    println!("compared {} calls", tally.calls);
+    tally.assert_quick_met(LEAST_QUICK);
 }
 
 #[test]

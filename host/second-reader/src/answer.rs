@@ -11,10 +11,11 @@ pub struct Answer {
     pub kind: Kind,
     /// The number of the refusal; for a section that was found, its id.
     pub code: u32,
-    /// Where the thing found lies in what was lent; for a refusal, the offset that the rules give
-    /// with it.
+    /// Where the thing found lies in what was lent, for markers where their subsection ends; for a
+    /// refusal, the offset that the rules give with it.
     pub offset: u64,
-    /// The length in bytes of the thing found; for the walk, the count of sections.
+    /// The length in bytes of the thing found; for the walk, the count of sections, and for markers
+    /// theirs.
     pub length: u64,
 }
 
@@ -91,12 +92,16 @@ pub enum Reason {
     OutputTooShort = 13,
     /// The lists disagree about their counts or the length of the text.
     ListsDisagree = 14,
-    /// The subsection, or the payload of older hints, to be written would exceed 4,294,967,295 bytes.
+    /// The subsection, or the payload of older hints, to be written would exceed 4,294,967,295 bytes;
+    /// or the payload for markers does.
     SubsectionTooLarge = 15,
     /// A program's input is above 65,536 bytes.
     InputTooLarge = 16,
     /// The byte behind the function of an entry of the older hints is not zero.
     NotZero = 17,
+    /// The lists that the quick question is given are of unequal length, have an end outside the
+    /// payload, do not rise, or do not stay below the end.
+    NotMarkers = 22,
 }
 
 impl Reason {
@@ -128,7 +133,7 @@ impl Answer {
         length: 0,
     };
 
-    fn found(offset: u64, length: u64) -> Answer {
+    pub(crate) fn found(offset: u64, length: u64) -> Answer {
         Answer {
             kind: Kind::Found,
             offset,

@@ -6,8 +6,8 @@
 //!
 //! The functions are the calls of the C header under the same names, with slices for pointer and
 //! length. Each takes any bytes, ends in an [`Answer`], in a [`Why`] or, to a yes or no, in a `bool`,
-//! and asks for no prior check: a payload is judged whole before it is asked or rewritten, and a
-//! refusal changes no byte of an output.
+//! and asks for no prior check: a payload is judged whole before it is asked or rewritten, but for the
+//! quick question, which judges nothing, and a refusal changes no byte of an output.
 //!
 //! Names have two editions, which differ in the table of ids alone: `wide_` begins the calls of the
 //! wider one. Hints have two as well, which have no list in common: `old_` begins the calls of the
@@ -29,6 +29,7 @@ mod answer;
 mod canonical;
 mod edition;
 mod lists;
+mod markers;
 mod metadata;
 mod names;
 mod number;
@@ -44,6 +45,7 @@ mod writing;
 pub use answer::{Answer, Kind, Reason, Why};
 pub use canonical::{hints_canonical, metadata_canonical, names_canonical, wide_names_canonical};
 pub use lists::function_names_write;
+pub use markers::{markers, quick_function_name};
 pub use metadata::{hint, hints_judge, metadata, metadata_judge};
 pub use names::{
     field_name, function_name, kept, local_name, module_name, names_judge, tag_name, type_name,

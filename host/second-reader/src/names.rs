@@ -92,6 +92,23 @@ pub(crate) fn ask(
     Ok(found)
 }
 
+/// The contents of the subsection with an id, of a payload that is judged whole first.
+pub(crate) fn contents(
+    payload: &[u8],
+    edition: Edition,
+    wanted: u8,
+) -> Result<Option<Part<'_>>, Refusal> {
+    let payload = Part::whole(payload);
+    judge(payload, edition)?;
+    for subsection in Subsections::of(payload) {
+        let Subsection { id, contents } = subsection?;
+        if id == wanted {
+            return Ok(Some(contents));
+        }
+    }
+    Ok(None)
+}
+
 /// Reads and checks the payload to its end. Every owner is met at most once, since ids and indices
 /// increase.
 fn read<'a>(

@@ -7,7 +7,7 @@ use std::cmp::Ordering;
 
 use crate::answer::{Kind, Refusal, Why};
 use crate::edition::{id, Edition};
-use crate::names::{self, Subsection, Subsections};
+use crate::names;
 use crate::reading::Part;
 
 /// Why a function has no name, or where its name stands.
@@ -21,14 +21,16 @@ pub fn why_local(payload: &[u8], function: u32, local: u32) -> Why {
 }
 
 fn ask_function(payload: &[u8], function: u32) -> Result<Why, Refusal> {
-    let Some(mut map) = contents(payload, id::FUNCTIONS)? else {
+    let contents = names::contents(payload, Edition::First, id::FUNCTIONS)?;
+    let Some(mut map) = contents else {
         return Ok(Kind::NoSubsection.into());
     };
     Ok(Around::read(&mut map, function)?.why(id::FUNCTIONS))
 }
 
 fn ask_local(payload: &[u8], function: u32, local: u32) -> Result<Why, Refusal> {
-    let Some(mut groups) = contents(payload, id::LOCALS)? else {
+    let contents = names::contents(payload, Edition::First, id::LOCALS)?;
+    let Some(mut groups) = contents else {
         return Ok(Kind::NoSubsection.into());
     };
     let mut why = Kind::NoGroup.into();
@@ -40,19 +42,6 @@ fn ask_local(payload: &[u8], function: u32, local: u32) -> Result<Why, Refusal> 
         Ok(())
     })?;
     Ok(why)
-}
-
-/// The contents of the subsection with an id, of a payload that is judged whole first.
-fn contents(payload: &[u8], wanted: u8) -> Result<Option<Part<'_>>, Refusal> {
-    let payload = Part::whole(payload);
-    names::judge(payload, Edition::First)?;
-    for subsection in Subsections::of(payload) {
-        let Subsection { id, contents } = subsection?;
-        if id == wanted {
-            return Ok(Some(contents));
-        }
-    }
-    Ok(None)
 }
 
 /// What a name map has at an index, and around it.

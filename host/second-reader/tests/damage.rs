@@ -110,6 +110,21 @@ fn check_names(payload: &[u8]) {
         check_payload(payload, calls);
     }
     check_reasons(payload);
+    check_markers(payload);
+}
+
+/// Markers are refused as the payload is; asked by its own, it answers as in full.
+fn check_markers(payload: &[u8]) {
+    let made = marked(payload);
+    let judged = names_judge(payload);
+    if judged.kind == Kind::Refused {
+        assert_eq!(made, Err(judged));
+        return;
+    }
+    let markers = made.unwrap();
+    for index in INDICES {
+        assert_eq!(markers.quick(payload, index), function_name(payload, index));
+    }
 }
 
 /// A reason is given exactly where the question for the name gets none.
@@ -419,6 +434,44 @@ fn every_short_payload() {
     payloads.iter().for_each(|payload| check_names(payload));
     payloads.iter().for_each(|payload| check_metadata(payload));
     payloads.iter().for_each(|payload| check_older(payload));
+}
+
+/// Markers of no plan, over bytes of no plan: they are refused at a place that they have, and what is
+/// found lies between the marker that it was found by and the end.
+#[test]
+fn markers_of_no_plan() {
+    const LEAST_OF_EACH: u64 = 500;
+    let mut met = [0; 3];
+    for_seeds(40_000, |random| {
+        let payload: Vec<u8> = (0..random.below(24))
+            .map(|_| random.pick(&[0, 0, 1, 1, 2, 3, 5, 0x61, 0x80, 0xFF]))
+            .collect();
+        let count = random.below(4);
+        let mut list = |most: usize| -> Vec<u32> {
+            let mut numbers: Vec<u32> = (0..count).map(|_| random.below(most) as u32).collect();
+            if !random.one_in(3) {
+                numbers.sort_unstable();
+                numbers.dedup();
+            }
+            numbers
+        };
+        let markers = Markers::new(&list(6), &list(payload.len() + 1), payload.len() as u64);
+        let answer = markers.quick(&payload, 3);
+        met[answer.kind as usize] += 1;
+        match answer.kind {
+            Kind::Refused => {
+                assert_eq!(answer.code, 22);
+                assert!(answer.offset <= count as u64);
+            }
+            Kind::Found => {
+                let start = markers.offsets.iter().copied().map(u64::from).min();
+                assert!(answer.offset >= start.unwrap() + 2);
+                assert!(answer.offset + answer.length <= markers.end);
+            }
+            _ => assert_eq!(answer, NONE),
+        }
+    });
+    assert!(met.iter().all(|times| *times >= LEAST_OF_EACH), "{met:?}");
 }
 
 /// Lists of no plan: whatever is refused leaves the output alone, whatever is written reads back.

@@ -151,4 +151,5 @@ fn numbers() {
     assert_eq!(kinds.map(|kind| kind as u32), [0, 1, 2, 3, 4, 5, 6, 7]);
     assert_eq!(Reason::Preamble as u32, 1);
     assert_eq!(Reason::InputTooLarge as u32, 16);
+    assert_eq!(Reason::NotMarkers as u32, 22);
 }

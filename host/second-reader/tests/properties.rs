@@ -176,6 +176,56 @@ fn reasons_are_those_of_what_was_put_in() {
     });
 }
 
+/// Function names, up to seventy of them, between a module's name and those of its locals.
+fn random_functions(random: &mut Random) -> (Flat, Vec<u8>) {
+    let indices = ascending(random, 70).into_iter();
+    let functions: Flat = indices.map(|index| (index, text(random))).collect();
+    let mut subsections = vec![(1, Contents::Map(functions.clone()))];
+    if random.one_in(2) {
+        subsections.insert(0, (0, Contents::Module(text(random))));
+    }
+    if random.one_in(2) {
+        subsections.push((2, Contents::Indirect(random_nested(random, text))));
+    }
+    let payload = encoded_names(&subsections, random);
+    (functions, payload)
+}
+
+/// They are the first of each sixteen that were put in, and an entry begins where the text of the one
+/// before it ends.
+#[test]
+fn markers_are_those_of_what_was_put_in() {
+    for_seeds(SEEDS, |random| {
+        let (functions, payload) = random_functions(random);
+        let markers = marked(&payload).unwrap();
+        let first_of_each: Vec<u32> = functions.chunks(16).map(|some| some[0].0).collect();
+        assert_eq!(markers.indices, first_of_each);
+        for (some, offset) in functions.chunks(16).zip(markers.offsets.iter().skip(1)) {
+            let before = function_name(&payload, some[15].0);
+            assert_eq!(before.offset + before.length, u64::from(*offset));
+        }
+        if let Some((last, _)) = functions.last() {
+            let last = function_name(&payload, *last);
+            assert_eq!(last.offset + last.length, markers.end);
+        }
+    });
+}
+
+/// Asked at every index that was put in, and beside it.
+#[test]
+fn the_quick_question_answers_as_the_full_one() {
+    for_seeds(SEEDS / 4, |random| {
+        let (functions, payload) = random_functions(random);
+        let markers = marked(&payload).unwrap();
+        for (index, _) in functions {
+            for asked in [index.wrapping_sub(1), index, index.wrapping_add(1)] {
+                let full = function_name(&payload, asked);
+                assert_eq!(markers.quick(&payload, asked), full);
+            }
+        }
+    });
+}
+
 /// A custom section with any size of contents, its numbers padded at random.
 fn padded_section(name: &[u8], payload: &[u8], random: &mut Random) -> Vec<u8> {
     let mut padding = random;

@@ -5,7 +5,7 @@ use std::fmt;
 use crate::ffi::{
     Answer, WhyAnswer, FOUND, LIKELY, NONE, NO_ENTRY, NO_GROUP, NO_SUBSECTION, REFUSED, UNLIKELY,
 };
-use crate::{Hint, Reason, Refusal, Section, Why};
+use crate::{Hint, Marked, Reason, Refusal, Section, Why};
 
 impl Answer {
     /// The part of what was lent that was found, or none.
@@ -17,6 +17,16 @@ impl Answer {
         };
         let found = self.is_found()?;
         Ok(found.then(|| part().unwrap_or_else(|| self.misfit())))
+    }
+
+    /// The same of a call on lists, whose refusals count other things than bytes.
+    pub(crate) fn part_by_lists(self, lent: &[u8]) -> Result<Option<&[u8]>, Refusal> {
+        self.part(lent).map_err(in_lists)
+    }
+
+    /// The same of a call that was lent nothing that it could refuse.
+    pub(crate) fn part_unrefused(self, lent: &[u8]) -> Option<&[u8]> {
+        self.part(lent).unwrap_or_else(|_| self.misfit())
     }
 
     /// The section that was found, or none.
@@ -49,8 +59,20 @@ impl Answer {
 
     /// The same of a call on lists, whose refusals count other things than bytes.
     pub(crate) fn written_from_lists(self, out_len: usize) -> Result<usize, Refusal> {
-        let in_lists = |refusal: Refusal| Refusal::in_lists(refusal.reason(), refusal.offset());
         self.written(out_len).map_err(in_lists)
+    }
+
+    /// How many markers were written into lists that have room for so many, and where the subsection
+    /// ends in a payload of a length.
+    pub(crate) fn marked(self, room: usize, payload_len: usize) -> Result<Marked, Refusal> {
+        let count = self.written(room)?;
+        match usize::try_from(self.offset) {
+            Ok(end) if end <= payload_len => Ok(Marked {
+                count,
+                end: self.offset,
+            }),
+            _ => self.misfit(),
+        }
     }
 
     /// The hint, or none.
@@ -100,6 +122,11 @@ impl WhyAnswer {
             _ => misfit(self),
         }
     }
+}
+
+/// A refusal whose offset counts in lists.
+fn in_lists(refusal: Refusal) -> Refusal {
+    Refusal::in_lists(refusal.reason(), refusal.offset())
 }
 
 /// The refusal of an answer that is one, by its number and its offset.
@@ -187,6 +214,32 @@ mod tests {
     #[should_panic(expected = "is it of another version?")]
     fn no_more_is_written_than_there_is_room() {
         let _ = answer(FOUND, 0, 0, 5).written(4);
+    }
+
+    #[test]
+    #[should_panic(expected = "is it of another version?")]
+    fn what_cannot_be_refused_is_not() {
+        let _ = answer(REFUSED, 22, 0, 0).part_unrefused(&[1, 2, 3, 4]);
+    }
+
+    #[test]
+    fn markers_are_a_count_and_an_end() {
+        let end_of_payload = answer(FOUND, 0, 9, 2).marked(2, 9);
+        assert_eq!(end_of_payload, Ok(Marked { count: 2, end: 9 }));
+        let refusal = answer(REFUSED, 13, 2, 0).marked(1, 9).unwrap_err();
+        assert_eq!((refusal.number(), refusal.offset()), (13, 2));
+    }
+
+    #[test]
+    #[should_panic(expected = "is it of another version?")]
+    fn no_more_markers_are_written_than_there_is_room() {
+        let _ = answer(FOUND, 0, 9, 3).marked(2, 9);
+    }
+
+    #[test]
+    #[should_panic(expected = "is it of another version?")]
+    fn markers_end_inside_the_payload() {
+        let _ = answer(FOUND, 0, 10, 2).marked(2, 9);
     }
 
     #[test]
@@ -284,7 +337,7 @@ mod tests {
 
     #[test]
     fn every_reason_has_its_number() {
-        for number in (1..=15).chain([17]) {
+        for number in (1..=15).chain([17, 22]) {
             let refusal = answer(REFUSED, number, 7, 0).length().unwrap_err();
             assert_eq!((refusal.number(), refusal.offset()), (number, 7));
             assert_eq!(answer(REFUSED, number, 7, 0).hint().unwrap_err(), refusal);

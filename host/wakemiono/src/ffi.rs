@@ -6,9 +6,9 @@
 //!   counts what lies behind the pointer; the borrow keeps it alive and unchanged until the call
 //!   returns. A call reads what is lent to it and nothing else, keeps no pointer, and takes any
 //!   bytes and any numbers.
-//! - **output**: `&mut` is the only way to those bytes during the call, so no lent slice overlaps
-//!   them. A call stores into the output and nowhere else, and stores bytes, of which any is a
-//!   `u8`.
+//! - **output**: `&mut` is the only way to what lies there during the call, so no lent slice and no
+//!   other output overlaps it. A call stores into its outputs and nowhere else, and stores bytes or
+//!   numbers, of which any is a `u8` or a `u32`.
 
 use crate::{First, FunctionIndex, Wider};
 
@@ -194,6 +194,25 @@ extern "C" {
     fn wm_why_function(payload: *const u8, payload_len: usize, function: u32) -> WhyAnswer;
     fn wm_why_local(payload: *const u8, payload_len: usize, function: u32, local: u32)
         -> WhyAnswer;
+
+    fn wm_markers(
+        payload: *const u8,
+        payload_len: usize,
+        indices: *mut u32,
+        indices_len: usize,
+        offsets: *mut u32,
+        offsets_len: usize,
+    ) -> Answer;
+    fn wm_quick_function_name(
+        payload: *const u8,
+        payload_len: usize,
+        indices: *const u32,
+        indices_len: usize,
+        offsets: *const u32,
+        offsets_len: usize,
+        end: u64,
+        function: u32,
+    ) -> Answer;
 }
 
 pub(crate) fn walk(module: &[u8]) -> Answer {
@@ -397,6 +416,50 @@ impl First {
     asking! {
         pub(crate) fn why_function(function: u32) -> WhyAnswer = wm_why_function;
         pub(crate) fn why_local(function: u32, local: u32) -> WhyAnswer = wm_why_local;
+    }
+
+    pub(crate) fn markers(
+        payload: &[u8],
+        indices: &mut [FunctionIndex],
+        offsets: &mut [u32],
+    ) -> Answer {
+        // SAFETY: pointers and lengths of one live slice, lent, and of two `&mut` slices, the
+        // outputs, with numbers aligned as `u32` is. A `FunctionIndex` is laid out as its `u32`,
+        // being `repr(transparent)`, and any `u32` is one.
+        unsafe {
+            wm_markers(
+                payload.as_ptr(),
+                payload.len(),
+                indices.as_mut_ptr().cast::<u32>(),
+                indices.len(),
+                offsets.as_mut_ptr(),
+                offsets.len(),
+            )
+        }
+    }
+
+    pub(crate) fn quick_function_name(
+        payload: &[u8],
+        indices: &[FunctionIndex],
+        offsets: &[u32],
+        end: u64,
+        function: u32,
+    ) -> Answer {
+        // SAFETY: pointers and lengths of three live slices, all lent, with numbers aligned as
+        // `u32` is; a `FunctionIndex` is laid out as its `u32`, being `repr(transparent)`. Any end
+        // and any index may be asked, and lists that are no markers are refused by the call.
+        unsafe {
+            wm_quick_function_name(
+                payload.as_ptr(),
+                payload.len(),
+                indices.as_ptr().cast::<u32>(),
+                indices.len(),
+                offsets.as_ptr(),
+                offsets.len(),
+                end,
+                function,
+            )
+        }
     }
 }
 

@@ -24,6 +24,10 @@
 //! Where a function or a local has no name, [`NamePayload::why_function`] and
 //! [`NamePayload::why_local`] say [`Why`], in the first edition.
 //!
+//! Whoever asks one payload for many function names makes its [`Markers`] once, by
+//! [`NamePayload::markers`], and asks [`Markers::quick`] from then on, which reads sixteen entries
+//! where [`NamePayload::function_name`] reads all.
+//!
 //! Branch hints have two editions as well, which stand in sections of two names and count offsets
 //! from two places. A module may carry both: [`Module::hint`] asks the one, with a [`CodeOffset`],
 //! and [`Module::old_hint`] the older, with an [`InstructionOffset`].
@@ -47,6 +51,7 @@ mod edition;
 mod ffi;
 mod index;
 mod lists;
+mod markers;
 mod metadata;
 mod module;
 mod name;
@@ -62,6 +67,7 @@ pub use index::{
     LabelIndex, LocalIndex, MemoryIndex, TableIndex, TagIndex, TypeIndex,
 };
 pub use lists::{function_names, function_names_into};
+pub use markers::{Marked, Markers};
 pub use metadata::{Hint, Hints, Metadata};
 pub use module::{Module, Section, Sections};
 pub use name::Name;

@@ -103,7 +103,8 @@ mod tests {
         assert_eq!((refusal.number(), refusal.offset()), (15, 0));
         assert_eq!(
             refusal.to_string(),
-            "a subsection, or a payload of older hints, would exceed 4,294,967,295 bytes"
+            "a subsection, or a payload of older hints, would exceed 4,294,967,295 bytes, or a \
+             payload for markers does"
         );
     }
 }

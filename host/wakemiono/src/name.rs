@@ -49,7 +49,9 @@ impl<'a> Name<'a> {
         self.0
     }
 
-    /// The name as text, checked here once more; a name that a call has found is always text.
+    /// The name as text, checked here once more. A name that a call has found is always text, but
+    /// for one that [`NamePayload::quick_function_name`](crate::NamePayload::quick_function_name)
+    /// has found by lists that are not the payload's own markers.
     ///
     /// ```
     /// use wakemiono::Name;
@@ -60,7 +62,8 @@ impl<'a> Name<'a> {
     ///
     /// # Errors
     ///
-    /// Where the bytes are not UTF-8, which can only be with a name that did not come from a call.
+    /// Where the bytes are not UTF-8, which can only be with a name that did not come from a call, or
+    /// from that one.
     pub const fn to_str(&self) -> Result<&'a str, Utf8Error> {
         str::from_utf8(self.0)
     }

@@ -12,7 +12,8 @@ use crate::{
 /// one where the type names none.
 ///
 /// Any bytes may be lent, and nothing is checked beforehand: each call judges the whole payload
-/// first, and refuses it where it is damaged anywhere.
+/// first, and refuses it where it is damaged anywhere. The one call that judges nothing is
+/// [`quick_function_name`](NamePayload::quick_function_name), which goes by markers.
 ///
 /// ```
 /// use wakemiono::{FunctionIndex, NamePayload};

@@ -48,15 +48,22 @@ pub enum Reason {
     /// 12: a branch hint has a size other than 1, or data above 1, and the offset is that of the
     /// size; or one of the older edition has a kind above 1, and the offset is that of the kind.
     NotAHint = 12,
-    /// 13: the output is shorter than needed. In place of an offset stands the needed length.
+    /// 13: the output is shorter than needed. In place of an offset stands the needed length, of
+    /// markers their number.
     OutputTooShort = 13,
     /// 14: the lists disagree: their counts differ, or the lengths do not add up to the text.
     ListsDisagree = 14,
-    /// 15: a subsection, or a payload of older hints, would exceed 4,294,967,295 bytes.
+    /// 15: a subsection, or a payload of older hints, would exceed 4,294,967,295 bytes; or a payload
+    /// does that is to have markers, or is asked by them.
     SubsectionTooLong = 15,
     /// 17: in hints of the older edition the byte behind a function is not zero. The offset is that
     /// of the byte.
     NotZero = 17,
+    /// 22: what the quick question is given are no markers of a payload. The lists have unequal
+    /// lengths, and the offset is the shorter's length; else the end lies outside the payload, and
+    /// it is the length of the lists; else one of the lists does not rise, or an offset is not below
+    /// the end, and it is the first such position in the lists, counted from 0.
+    NotMarkers = 22,
 }
 
 impl Reason {
@@ -85,6 +92,7 @@ impl Reason {
         Reason::ListsDisagree,
         Reason::SubsectionTooLong,
         Reason::NotZero,
+        Reason::NotMarkers,
     ];
 
     /// The refusal number.
@@ -160,6 +168,7 @@ impl Reason {
             Reason::NotZero => {
                 "no hints of the older edition, or a damaged file: take it from its producer again"
             }
+            Reason::NotMarkers => "the markers are not those of the payload: make them anew",
         }
     }
 }
@@ -193,9 +202,14 @@ impl fmt::Display for Reason {
                 "the lists disagree: their counts differ, or the lengths do not add up to the text"
             }
             Reason::SubsectionTooLong => {
-                "a subsection, or a payload of older hints, would exceed 4,294,967,295 bytes"
+                "a subsection, or a payload of older hints, would exceed 4,294,967,295 bytes, or a \
+                 payload for markers does"
             }
             Reason::NotZero => "the byte behind a function of older hints is not zero",
+            Reason::NotMarkers => {
+                "the lists are no markers: their lengths differ, the end lies outside the payload, \
+                 or a position does not rise or is not below the end"
+            }
         })
     }
 }
@@ -325,6 +339,13 @@ impl fmt::Display for Refusal {
                 return write!(
                     f,
                     "{}: its position in the list is {at}, counted from 0",
+                    self.reason
+                );
+            }
+            (Reason::NotMarkers, _) => {
+                return write!(
+                    f,
+                    "{}: that position, counted from 0, or the length of the shorter list is {at}",
                     self.reason
                 );
             }

@@ -6,7 +6,7 @@ mod common;
 
 use common::{custom, module, AllQuestions, Asked, EVERY_ID, HINTS_NAME, ONLY_WIDER, P, SMALL};
 use wakemiono::{
-    offset_in, CodeOffset, First, FunctionIndex, Hints, LocalIndex, Metadata, Module, Name,
+    offset_in, CodeOffset, First, FunctionIndex, Hints, LocalIndex, Marked, Metadata, Module, Name,
     NamePayload, Refusal, Why, Wider,
 };
 
@@ -107,11 +107,35 @@ fn reason_agrees<'a, Index: Copy + Ord>(
     }
 }
 
+/// Markers are refused as the payload is; asked by them it gives the names that it has, whether they
+/// are its own markers or were stored; and by those of other bytes it answers as well.
+fn markers_agree(bytes: &[u8]) {
+    let payload = NamePayload::new(bytes);
+    let markers = payload.markers();
+    assert_eq!(markers.as_ref().err(), payload.judge().as_ref().err());
+    for function in (0..5).map(FunctionIndex) {
+        if let Ok(markers) = &markers {
+            let name = markers.quick(function);
+            assert_eq!(Ok(name), payload.function_name(function));
+            let (indices, offsets, end) = (markers.indices(), markers.offsets(), markers.end());
+            let by_stored = payload.quick_function_name(indices, offsets, end, function);
+            assert_eq!(by_stored, Ok(name));
+        }
+        let found = payload.quick_function_name(&[FunctionIndex(0)], &[7], 13, function);
+        match found {
+            Ok(Some(name)) => assert!(offset_in(&bytes[7..13], name.as_bytes()).is_some()),
+            Ok(None) => assert!(bytes.len() >= 13),
+            Err(refusal) => assert_eq!(place(refusal), (22, 1)),
+        }
+    }
+}
+
 fn names_agree_in_both(bytes: &[u8]) {
     names_agree::<First>(bytes);
     names_agree::<Wider>(bytes);
     editions_agree(bytes);
     reasons_agree(bytes);
+    markers_agree(bytes);
 }
 
 fn metadata_agree(bytes: &[u8]) {
@@ -322,6 +346,15 @@ fn nothing_at_all() {
         wakemiono::function_names_into(&[], &[], &[], &mut []),
         Ok(0)
     );
+}
+
+#[test]
+fn nothing_at_all_by_markers() {
+    let payload = NamePayload::new(&[]);
+    let no_markers = Marked { count: 0, end: 0 };
+    assert_eq!(payload.markers_into(&mut [], &mut []), Ok(no_markers));
+    let name = payload.quick_function_name(&[], &[], 0, FunctionIndex(0));
+    assert_eq!(name, Ok(None));
 }
 
 #[test]

@@ -24,6 +24,7 @@ fn parameter(c: &str) -> String {
         "const uint8_t *" => "*const u8",
         "const uint32_t *" => "*const u32",
         "uint8_t *" => "*mut u8",
+        "uint32_t *" => "*mut u32",
         "size_t" => "usize",
         "uint8_t" => "u8",
         "uint32_t" => "u32",
@@ -80,7 +81,7 @@ fn in_crate() -> Vec<String> {
 #[test]
 fn every_call_is_declared_as_the_header_has_it() {
     assert_eq!(in_crate(), in_header());
-    assert_eq!(in_crate().len(), 67);
+    assert_eq!(in_crate().len(), 69);
 }
 
 /// The fields of a struct of the header, as Rust declares them.

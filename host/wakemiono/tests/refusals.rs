@@ -149,6 +149,35 @@ fn of_lists() {
     );
 }
 
+/// Whatever of the three is wrong, the number is a position in the lists or a length of one.
+#[test]
+fn of_markers() {
+    let payload = NamePayload::new(&[0x01, 0x04, 0x01, 0x03, 0x01, 0x66]);
+    let quick = |indices: &[u32], offsets: &[u32], end| {
+        let indices: Vec<FunctionIndex> = indices.iter().copied().map(FunctionIndex).collect();
+        payload.quick_function_name(&indices, offsets, end, FunctionIndex(3))
+    };
+    let sentence = |at: u32| {
+        format!(
+            "the lists are no markers: their lengths differ, the end lies outside the payload, or a \
+             position does not rise or is not below the end: that position, counted from 0, or the \
+             length of the shorter list is {at}"
+        )
+    };
+    says(quick(&[3], &[], 6), Reason::NotMarkers, &sentence(0));
+    says(quick(&[3], &[3], 7), Reason::NotMarkers, &sentence(1));
+    says(
+        quick(&[3, 4, 4], &[3, 4, 5], 6),
+        Reason::NotMarkers,
+        &sentence(2),
+    );
+    says(
+        payload.markers_into(&mut [], &mut [0]),
+        Reason::OutputTooShort,
+        "the output is shorter than needed: the needed length is 1",
+    );
+}
+
 #[test]
 fn as_errors() {
     fn judged(bytes: &[u8]) -> Result<(), Box<dyn Error + Send + Sync>> {
@@ -164,13 +193,13 @@ fn as_errors() {
 }
 
 #[test]
-fn their_numbers_are_1_to_15_and_17() {
+fn their_numbers_are_1_to_15_17_and_22() {
     let numbers: Vec<u32> = Reason::ALL.iter().map(|reason| reason.number()).collect();
-    assert_eq!(numbers, (1..=15).chain([17]).collect::<Vec<u32>>());
+    assert_eq!(numbers, (1..=15).chain([17, 22]).collect::<Vec<u32>>());
     for reason in Reason::ALL {
         assert_eq!(Reason::from_number(reason.number()), Some(*reason));
     }
-    for none in [0, 16, 18, u32::MAX] {
+    for none in [0, 16, 18, 21, 23, u32::MAX] {
         assert_eq!(Reason::from_number(none), None);
     }
 }

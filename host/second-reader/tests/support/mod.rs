@@ -7,7 +7,7 @@ pub mod editions;
 pub mod inputs;
 pub mod random;
 
-use second_reader::{Answer, Kind, Why};
+use second_reader::{markers, quick_function_name, Answer, Kind, Why};
 
 pub const PREAMBLE: &[u8] = b"\0asm\x01\0\0\0";
 
@@ -131,6 +131,68 @@ fn check_room(write: &impl Fn(&mut [u8]) -> Answer, needed: usize, untouched: u8
         assert!(short.iter().all(|&byte| byte == untouched));
         assert_eq!(write(&mut []), refused(13, needed as u64));
     }
+}
+
+/// Markers as they are stored: both lists, and the end.
+#[derive(Clone, Debug, PartialEq, Eq)]
+pub struct Markers {
+    pub indices: Vec<u32>,
+    pub offsets: Vec<u32>,
+    pub end: u64,
+}
+
+impl Markers {
+    pub fn new(indices: &[u32], offsets: &[u32], end: u64) -> Markers {
+        Markers {
+            indices: indices.to_vec(),
+            offsets: offsets.to_vec(),
+            end,
+        }
+    }
+
+    /// The quick question, by these and whatever is lent.
+    pub fn quick(&self, payload: &[u8], function: u32) -> Answer {
+        quick_function_name(payload, &self.indices, &self.offsets, self.end, function)
+    }
+}
+
+/// What every place of a list holds before markers are made.
+const UNMARKED: u32 = 0xA5A5_A5A5;
+
+/// The markers that are made of a payload, or the refusal. Behind them both lists must stay as they
+/// were, and so must a list that is too short for them, and the other one.
+pub fn marked(payload: &[u8]) -> Result<Markers, Answer> {
+    let room = payload.len() + 1;
+    let (answer, mut indices, mut offsets) = marked_into(payload, room, room);
+    let count = match answer.kind {
+        Kind::Found => answer.length as usize,
+        _ => 0,
+    };
+    for list in [&mut indices, &mut offsets] {
+        assert!(list[count..].iter().all(|&number| number == UNMARKED));
+        list.truncate(count);
+    }
+    if answer.kind == Kind::Refused {
+        return Err(answer);
+    }
+    let exact = marked_into(payload, count, count);
+    assert_eq!(exact, (answer, indices.clone(), offsets.clone()));
+    if let Some(short) = count.checked_sub(1) {
+        for (of_indices, of_offsets) in [(short, count), (count, short), (0, room), (room, 0)] {
+            let unchanged = (vec![UNMARKED; of_indices], vec![UNMARKED; of_offsets]);
+            let (refusal, indices, offsets) = marked_into(payload, of_indices, of_offsets);
+            assert_eq!(refusal, refused(13, count as u64));
+            assert_eq!((indices, offsets), unchanged);
+        }
+    }
+    Ok(Markers::new(&indices, &offsets, answer.offset))
+}
+
+/// Makes markers in lists that have so much room, and hands them back as they are then.
+fn marked_into(payload: &[u8], indices: usize, offsets: usize) -> (Answer, Vec<u32>, Vec<u32>) {
+    let (mut indices, mut offsets) = (vec![UNMARKED; indices], vec![UNMARKED; offsets]);
+    let answer = markers(payload, &mut indices, &mut offsets);
+    (answer, indices, offsets)
 }
 
 /// A section of any id: id, size in its fewest bytes, contents. Only for contents below 128 bytes.
