@@ -8,10 +8,14 @@ use Rattle.format.specs.Questions.{answered}
 use Rattle.format.specs.Metadata.{hintAnswered}
 use Rattle.format.specs.Outputs.{Writes}
 use Rattle.format.specs.Markers.{Markers, Makes}
+use Rattle.format.specs.Pairs.{Paired, Supplied, pairAnswered}
+use Rattle.format.specs.Joined.{JoinWrites}
 use Rattle.format.specs.Laws.Answers.{same-answer, same-hint-answer}
 use Rattle.format.specs.Laws.Outputs.{writes-same}
+use Rattle.format.specs.Laws.PairAnswers.{same-pair-answer, joins-same}
 use Rattle.format.specs.declared.Answer.{Answer}
 use Rattle.format.specs.declared.Hint.{Hint}
+use Rattle.format.specs.declared.JoinWritten.{JoinWritten}
 use Rattle.format.specs.declared.Place.{Place}
 use Rattle.format.specs.declared.Written.{Written}
 
@@ -103,3 +107,10 @@ makes-determined wanted is os a b p q =
     let two = p .indices ∙ sym (q .indices) in
     let three = p .offsets ∙ sym (q .offsets) in
     λ i. (one i, two i, three i)
+
+-- K3: of two payloads, and of their join
+pub pair-answer-determined : (j : Paired (Option (Supplied Place))) → Determines (λ r. pairAnswered r ≡ j)
+pair-answer-determined j = meaning-determined same-pair-answer j
+
+pub joins-determined : (wanted : Paired (Judged (List ℕ))) (old : List ℕ) → Determines (λ (r : JoinWritten × List ℕ). JoinWrites wanted old (r .1) (r .0))
+joins-determined wanted old a b p q = let one = joins-same p q in λ i. (one .0 i, one .1 i)

@@ -20,6 +20,7 @@ use Rattle.format.specs.declared.Question.the-variants.{ModuleName, Func
 use Rattle.format.specs.Metadata.{hintOf, hintItem, metadata, judgeMetadata, itemAt, askMetadata, hintIn, askHint}
 use Rattle.format.specs.Canonical.{writePart, writeRows, writeTable, unlessEmpty, keepRows, bare, writeContent, writeSubsections, rewriteNames, canonicalNames}
 use Rattle.format.specs.Why.{Why}
+use Rattle.format.specs.declared.Whose.{Whose}
 use Rattle.format.specs.declared.Hint.{Hint}
 use Rattle.format.specs.declared.Hint.the-variants.{Unlikely, Likely}
 
@@ -42,6 +43,7 @@ pub data Result : Type 0 where
   because : Why → Result
   marks : (indices offsets : List ℕ) (end : ℕ) → Result
   refusal : ℕ → ℕ → Result
+  from : Whose → Result → Result
 
 unfoldable pub ofOutcome : {A : Type 0} → (A → ℕ → Result) → Outcome A → Result
 ofOutcome f (got v o bs) = f v o

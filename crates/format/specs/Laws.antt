@@ -22,6 +22,13 @@ pub mod OlderSorted
 pub mod OlderShorter
 pub mod OlderInOrder
 pub mod CanonicalOlder
+pub mod Merging
+pub mod WrittenMerges
+pub mod Joining
+pub mod JoiningAll
+pub mod Pairs
+pub mod PairAnswers
+pub mod Joined
 pub mod Unchanged
 pub mod UnchangedOlder
 pub mod Telling

@@ -22,13 +22,17 @@ pub mod Forms
 pub mod Outputs
 pub mod Lists
 pub mod Markers
+pub mod Pairs
+pub mod Joined
 pub mod MarkerRule
 pub mod Listing
 pub mod Examples
 pub mod Cases
 pub mod MarkerCases
+pub mod PairCases
 pub mod Laws
 pub mod Theorems
+pub mod PairTheorems
 pub mod Results
 pub mod Determined
 pub mod Promises

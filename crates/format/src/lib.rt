@@ -131,6 +131,27 @@ pub enum Answer {
     Refused(Refusal),
 }
 
+// K3: which of two payloads, the one that was sent apart or the module's own.
+pub enum Whose {
+    Separate,
+    Own,
+}
+
+// The answer to a question over the two: whose name was found, or which of them is refused.
+pub enum PairAnswer {
+    None,
+    Found(Whose, Place),
+    Refused(Whose, Refusal),
+}
+
+// The answer to writing the two as one: how many bytes it left at the front of the output, which of them is refused, or a
+// refusal of what is written.
+pub enum JoinWritten {
+    Length(usize),
+    PayloadRefused(Whose, Refusal),
+    Refused(Refusal),
+}
+
 // What judging a payload whole comes to.
 pub enum Verdict {
     Accepted,

@@ -38,14 +38,14 @@ module _ (kindOf : ℕ → Kind) where
   norm-stays : {t : Subsections} {least : ℕ} → Sorted SubNorm least t → keepRows trim t ≡ t
   norm-stays s = keep-all trim (λ id c p. trim-stay (p .0)) s
 
-  norm-fines : {t : Subsections} {least : ℕ} → Sorted SubNorm least t → Sorted (SubFine kindOf) least t
+  pub norm-fines : {t : Subsections} {least : ℕ} → Sorted SubNorm least t → Sorted (SubFine kindOf) least t
   norm-fines s = sorted-imp (λ id c p. (norm-fine (p .0), p .1)) s
 
   pub norm-answers : {t : Subsections} → Sorted (SubFine kindOf) 0 t → (id : ℕ) (q : Query) → answer id q (keepRows trim t) ≡ answer id q t
   unfolding answer
   norm-answers {t} s id q = rw (lookup-keep trim id s) (byOption (lookup id t) (λ e. rw e) (λ c e. rw e (trim-answer (lookup-fine id s e .0) q)))
 
-  norm-determined : {s t : Subsections} → Sorted SubNorm 0 s → Sorted SubNorm 0 t → ((id : ℕ) (q : Query) → answer id q s ≡ answer id q t) → s ≡ t
+  pub norm-determined : {s t : Subsections} → Sorted SubNorm 0 s → Sorted SubNorm 0 t → ((id : ℕ) (q : Query) → answer id q s ≡ answer id q t) → s ≡ t
   unfolding answer
   norm-determined a b h = table-sure (λ q c. answerIn q c) SubNorm (λ id c p. norm-loud (p .0)) (λ id c d p q e. norm-sure (p .0) (q .0) e) a b h
 
