@@ -9,7 +9,9 @@ use Rattle.format.specs.Markers.{made, quick}
 use Rattle.format.specs.Metadata.{anyItem, hintItem, judgeMetadata, askMetadata, askHint}
 use Rattle.format.specs.Names.{knownKind, widerKind, judgeNames}
 use Rattle.format.specs.Older.{judgeOlder, askOlder, canonicalOlder}
+use Rattle.format.specs.Joined.{joinNames}
 use Rattle.format.specs.Options.{mapSome}
+use Rattle.format.specs.Pairs.{askPair, asPlaces}
 use Rattle.format.specs.Questions.{asPlace, ask}
 use Rattle.format.specs.declared.Question.{Question}
 use Rattle.format.specs.Reading.{mapJudged, verdict}
@@ -19,8 +21,10 @@ use Rattle.format.specs.Why.{whyFunction, whyLocal}
 use Rattle.format.specs.Walk.{sectionCount, sectionAt, customPayload}
 use Rattle.walk.specs.Surveys.{sectionPlace}
 use Rattle.wakemiono.specs.Boundary.{wmCount, wmSection, wmPlace, wmJudged, wmHint, wmYes, WmWrites, WmMakes}
+use Rattle.wakemiono.specs.Pairs.{wmPair, WmJoins}
 use Rattle.wakemiono.specs.Why.{wmWhy}
 use Rattle.wakemiono.specs.declared.WmAnswer.{WmAnswer}
+use Rattle.wakemiono.specs.declared.beside.WmPairAnswer.{WmPairAnswer}
 use Rattle.wakemiono.specs.declared.why.WmWhy.{WmWhy}
 
 abbrev pub wm-walk : List ℕ → WmAnswer → Type 0
@@ -129,3 +133,16 @@ wm-markers payload indices offsets indices′ offsets′ a = WmMakes (made paylo
 
 abbrev pub wm-quick-function-name : (payload indices offsets : List ℕ) (end function : ℕ) → WmAnswer → Type 0
 wm-quick-function-name payload indices offsets end function a = a ≡ wmPlace (asPlace (quick payload indices offsets end (record { 0 = function })))
+
+-- K3: a question over two payloads, and the two as one. wm_pair_module_name asks ModuleName and so on, as the questions to one payload do
+abbrev pub wm-pair : Question → (separate own : List ℕ) → WmPairAnswer → Type 0
+wm-pair q separate own a = a ≡ wmPair (asPlaces (askPair knownKind q separate own))
+
+abbrev pub wm-wide-pair : Question → (separate own : List ℕ) → WmPairAnswer → Type 0
+wm-wide-pair q separate own a = a ≡ wmPair (asPlaces (askPair widerKind q separate own))
+
+abbrev pub wm-pair-join : (separate own old new : List ℕ) → WmPairAnswer → Type 0
+wm-pair-join separate own old new a = WmJoins (joinNames knownKind separate own) old new a
+
+abbrev pub wm-wide-pair-join : (separate own old new : List ℕ) → WmPairAnswer → Type 0
+wm-wide-pair-join separate own old new a = WmJoins (joinNames widerKind separate own) old new a

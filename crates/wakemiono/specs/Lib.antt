@@ -1,3 +1,4 @@
 pub mod Boundary
 pub mod Why
+pub mod Pairs
 pub mod Calls

@@ -1,0 +1,12 @@
+pub mod SideLaws
+pub mod StepLaws
+pub mod WayLaws
+pub mod MapLaws
+pub mod HeldLaws
+pub mod GroupLaws
+pub mod ContentLaws
+pub mod PutLaws
+pub mod FrameLaws
+pub mod SubsectionLaws
+pub mod SubsectionPuts
+pub mod JoinLaws

@@ -1,0 +1,2 @@
+pub mod Settling
+pub mod Promises
