@@ -280,6 +280,92 @@ wm_answer wm_markers(const uint8_t *payload, size_t payload_len, uint32_t *indic
 wm_answer wm_quick_function_name(const uint8_t *payload, size_t payload_len, const uint32_t *indices, size_t indices_len,
                                  const uint32_t *offsets, size_t offsets_len, uint64_t end, uint32_t function);
 
+/* Names that travel beside a stripped module: one question over two name payloads, a separate one and the module's own,
+ * which for a stripped module is empty. The separate payload answers unless it gives none, else the module's own. A
+ * present and empty name, or an empty kept subsection, is an answer, and hides the other's.
+ *
+ * Both payloads are judged whole, the separate one first, whatever is asked: a damaged own payload is refused though the
+ * separate one has the name. The payloads are only read, and may overlap.
+ *
+ *   kind           code            offset, length                       whose
+ *   WM_NONE     0  0               0, 0                                 WM_NOBODY
+ *   WM_FOUND    1  0               in the payload that supplied it      WM_SEPARATE or WM_OWN
+ *               1  0               joined: 0, bytes written             WM_NOBODY
+ *   WM_REFUSED  2  refusal number  where the fault lies in it, 0        WM_SEPARATE or WM_OWN
+ *               2  15 or 13        of the joined payload: as above, 0   WM_NOBODY */
+
+enum { WM_NOBODY = 0, WM_SEPARATE = 1, WM_OWN = 2 };
+
+typedef struct { uint32_t kind; uint32_t code; uint64_t offset; uint64_t length; uint64_t whose; } wm_pair_answer;
+
+/* The module's name. */
+wm_pair_answer wm_pair_module_name(const uint8_t *separate, size_t separate_len, const uint8_t *own, size_t own_len);
+/* A function's name. */
+wm_pair_answer wm_pair_function_name(const uint8_t *separate, size_t separate_len, const uint8_t *own, size_t own_len,
+                                     uint32_t function);
+/* The name of a local in a function. */
+wm_pair_answer wm_pair_local_name(const uint8_t *separate, size_t separate_len, const uint8_t *own, size_t own_len,
+                                  uint32_t function, uint32_t local);
+/* A type's name. */
+wm_pair_answer wm_pair_type_name(const uint8_t *separate, size_t separate_len, const uint8_t *own, size_t own_len, uint32_t type);
+/* The name of a field in a type. */
+wm_pair_answer wm_pair_field_name(const uint8_t *separate, size_t separate_len, const uint8_t *own, size_t own_len,
+                                  uint32_t type, uint32_t field);
+/* A tag's name. */
+wm_pair_answer wm_pair_tag_name(const uint8_t *separate, size_t separate_len, const uint8_t *own, size_t own_len, uint32_t tag);
+/* The contents of the kept subsection with an id; NONE for the ids that have questions of their own. */
+wm_pair_answer wm_pair_kept(const uint8_t *separate, size_t separate_len, const uint8_t *own, size_t own_len, uint8_t id);
+/* Both payloads joined into one that is canonical and answers every question, kept subsections too, as the pair does: maps
+ * are merged index by index, and so are the groups of one function or type; where both have an entry, it is the separate
+ * payload's. It is answered and written as the rewritings above; an output as long as both payloads together is always
+ * enough. Refusals in this order: the payloads'; 15, where the contents of a joined subsection would exceed 4,294,967,295
+ * bytes; 13. */
+wm_pair_answer wm_pair_join(const uint8_t *separate, size_t separate_len, const uint8_t *own, size_t own_len,
+                            uint8_t *out, size_t out_len);
+
+/* The same in the wider edition, by which both payloads are judged. */
+
+/* The module's name. */
+wm_pair_answer wm_wide_pair_module_name(const uint8_t *separate, size_t separate_len, const uint8_t *own, size_t own_len);
+/* A function's name. */
+wm_pair_answer wm_wide_pair_function_name(const uint8_t *separate, size_t separate_len, const uint8_t *own, size_t own_len,
+                                          uint32_t function);
+/* The name of a local in a function. */
+wm_pair_answer wm_wide_pair_local_name(const uint8_t *separate, size_t separate_len, const uint8_t *own, size_t own_len,
+                                       uint32_t function, uint32_t local);
+/* The name of a label in a function. */
+wm_pair_answer wm_wide_pair_label_name(const uint8_t *separate, size_t separate_len, const uint8_t *own, size_t own_len,
+                                       uint32_t function, uint32_t label);
+/* A type's name. */
+wm_pair_answer wm_wide_pair_type_name(const uint8_t *separate, size_t separate_len, const uint8_t *own, size_t own_len,
+                                      uint32_t type);
+/* A table's name. */
+wm_pair_answer wm_wide_pair_table_name(const uint8_t *separate, size_t separate_len, const uint8_t *own, size_t own_len,
+                                       uint32_t table);
+/* A memory's name. */
+wm_pair_answer wm_wide_pair_memory_name(const uint8_t *separate, size_t separate_len, const uint8_t *own, size_t own_len,
+                                        uint32_t memory);
+/* A global's name. */
+wm_pair_answer wm_wide_pair_global_name(const uint8_t *separate, size_t separate_len, const uint8_t *own, size_t own_len,
+                                        uint32_t global);
+/* An element segment's name. */
+wm_pair_answer wm_wide_pair_element_name(const uint8_t *separate, size_t separate_len, const uint8_t *own, size_t own_len,
+                                         uint32_t element);
+/* A data segment's name. */
+wm_pair_answer wm_wide_pair_data_name(const uint8_t *separate, size_t separate_len, const uint8_t *own, size_t own_len,
+                                      uint32_t data);
+/* The name of a field in a type. */
+wm_pair_answer wm_wide_pair_field_name(const uint8_t *separate, size_t separate_len, const uint8_t *own, size_t own_len,
+                                       uint32_t type, uint32_t field);
+/* A tag's name. */
+wm_pair_answer wm_wide_pair_tag_name(const uint8_t *separate, size_t separate_len, const uint8_t *own, size_t own_len,
+                                     uint32_t tag);
+/* The contents of the kept subsection with an id. */
+wm_pair_answer wm_wide_pair_kept(const uint8_t *separate, size_t separate_len, const uint8_t *own, size_t own_len, uint8_t id);
+/* Both payloads joined into one. */
+wm_pair_answer wm_wide_pair_join(const uint8_t *separate, size_t separate_len, const uint8_t *own, size_t own_len,
+                                 uint8_t *out, size_t out_len);
+
 #ifdef __cplusplus
 }
 #endif

@@ -1,13 +1,15 @@
-//! What may be taken at most: so many times what judging takes, or so many instructions.
+//! What may be taken at most: so many times what other operations take, or so many instructions.
 
 use crate::operation::Operation;
+use crate::pairs;
+use crate::payload::Kind;
 use crate::table::{library, Row};
 
 /// What an operation is held to.
 #[derive(Clone, Copy)]
 enum Most {
-    /// So many times what another operation takes.
-    Times(f64, Operation),
+    /// So many times what other operations take in all.
+    Times(f64, &'static [Operation]),
     Instructions(u64),
 }
 
@@ -44,7 +46,7 @@ const fn rewriting(payload: &'static str, times: f64) -> Bar {
     Bar {
         payload,
         operation: Operation::RewriteOldHints,
-        most: Most::Times(times, Operation::JudgeOldHints),
+        most: Most::Times(times, &[Operation::JudgeOldHints]),
     }
 }
 
@@ -52,15 +54,47 @@ const fn marking(payload: &'static str) -> Bar {
     Bar {
         payload,
         operation: Operation::Markers,
-        most: Most::Times(1.1, Operation::Judge),
+        most: Most::Times(1.1, &[Operation::Judge]),
     }
+}
+
+/// Two payloads: a question a tenth more than those to both of them, and the join three times as much as rewriting both.
+fn of_pair((payload, kind): (&'static str, Kind)) -> [Bar; 2] {
+    let (asked, each_asked, joined, each_rewritten): (_, &[_], _, &[_]) = match kind {
+        Kind::WidePair => (
+            Operation::WidePairLookUp,
+            &[Operation::WideSeparateLookUp, Operation::WideOwnLookUp],
+            Operation::WideJoin,
+            &[Operation::WideSeparateRewrite, Operation::WideOwnRewrite],
+        ),
+        _ => (
+            Operation::PairLookUp,
+            &[Operation::SeparateLookUp, Operation::OwnLookUp],
+            Operation::Join,
+            &[Operation::SeparateRewrite, Operation::OwnRewrite],
+        ),
+    };
+    let bar = |operation, most| Bar {
+        payload,
+        operation,
+        most,
+    };
+    [
+        bar(asked, Most::Times(1.1, each_asked)),
+        bar(joined, Most::Times(3.0, each_rewritten)),
+    ]
+}
+
+/// All bars, those of pairs last.
+fn bars() -> impl Iterator<Item = Bar> {
+    BARS.into_iter().chain(pairs::all().flat_map(of_pair))
 }
 
 /// A line for each bar, or a sentence on those that are broken.
 pub fn lines(rows: &[Row]) -> Result<String, String> {
     let mut kept = String::new();
     let mut broken = String::new();
-    for bar in BARS {
+    for bar in bars() {
         let (is_kept, line) = held(rows, &bar)?;
         match is_kept {
             true => kept.push_str(&format!("{line} is the bar\n")),
@@ -82,11 +116,16 @@ fn held(rows: &[Row], bar: &Bar) -> Result<(bool, String), String> {
             let line = format!("{payload}: '{words}' takes {taken} instructions, at most {most}");
             (taken <= most, line)
         }
-        Most::Times(most, base) => {
-            let times = taken as f64 / count(rows, payload, base)? as f64;
-            let base = base.words();
+        Most::Times(most, bases) => {
+            let mut in_all = 0;
+            for base in bases {
+                in_all += count(rows, payload, *base)?;
+            }
+            let times = taken as f64 / in_all as f64;
+            let bases: Vec<&str> = bases.iter().map(|base| base.words()).collect();
+            let bases = bases.join("' and '");
             let line =
-                format!("{payload}: '{words}' takes {times:.3} times '{base}', at most {most}");
+                format!("{payload}: '{words}' takes {times:.3} times '{bases}', at most {most}");
             (times <= most, line)
         }
     })
@@ -108,12 +147,14 @@ mod tests {
     /// The counts of runs that reach every bar, but for one operation, which takes so much more.
     fn rows(payload: &str, operation: Operation, more: u64) -> Vec<Row> {
         let mut counts = String::new();
-        for bar in BARS {
+        for bar in bars() {
             let most = match bar.most {
                 Most::Instructions(most) => most,
-                Most::Times(times, base) => {
-                    counts.push_str(&run(bar.payload, base, JUDGED));
-                    (times * JUDGED as f64) as u64
+                Most::Times(times, bases) => {
+                    for base in bases {
+                        counts.push_str(&run(bar.payload, *base, JUDGED));
+                    }
+                    (times * (bases.len() as u64 * JUDGED) as f64) as u64
                 }
             };
             let is_dearer = bar.payload == payload && bar.operation == operation;
@@ -138,7 +179,7 @@ mod tests {
     #[test]
     fn bars_that_are_kept() {
         let said = lines(&rows("go", Operation::Markers, 0)).expect("none is broken");
-        assert_eq!(said.lines().count(), BARS.len());
+        assert_eq!(said.lines().count(), bars().count());
         assert!(said.starts_with("old-hints: 'rewrite old hints' takes 4.000 times 'judge old hints', at most 4 is the bar"));
     }
 
@@ -147,6 +188,13 @@ mod tests {
         let said = lines(&rows("c++", Operation::Markers, 1)).expect_err("one is broken");
         let line =
             "c++: 'markers' takes 1.101 times 'judge', at most 1.1 is the bar, so speed it up.\n";
+        assert_eq!(said, line);
+    }
+
+    #[test]
+    fn so_is_one_over_two_operations() {
+        let said = lines(&rows("go-dealt", Operation::Join, 3)).expect_err("one is broken");
+        let line = "go-dealt: 'join' takes 3.002 times 'rewrite separate' and 'rewrite own', at most 3 is the bar, so speed it up.\n";
         assert_eq!(said, line);
     }
 

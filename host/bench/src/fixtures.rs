@@ -37,11 +37,8 @@ fn accepted(path: &Path) -> Option<Payload> {
         true => Kind::WideNames,
         false => Kind::Names,
     };
-    Some(Payload {
-        name: format!("fixture:{stem}"),
-        kind,
-        bytes: bytes.to_vec(),
-    })
+    let name = format!("fixture:{stem}");
+    Some(Payload::alone(name, kind, bytes.to_vec()))
 }
 
 #[cfg(test)]

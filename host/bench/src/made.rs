@@ -8,8 +8,9 @@ use crate::old_hints;
 use crate::payload::{Kind, Payload};
 use crate::texts;
 
-const LOCALS: u8 = 2;
-const LABELS: u8 = 3;
+/// The ids of the subsections with the names of locals, of labels and of data segments.
+pub const LOCALS: u8 = 2;
+pub const LABELS: u8 = 3;
 const DATA: u8 = 9;
 
 const LABELLED_FUNCTIONS: usize = 2_000;
@@ -98,11 +99,8 @@ pub fn payloads() -> impl Iterator<Item = &'static str> {
 /// and the counts of two runs are those of the same bytes.
 pub fn payload(name: &str) -> Option<Payload> {
     let recipe = RECIPES.iter().find(|recipe| recipe.name == name)?;
-    Some(Payload {
-        name: name.to_string(),
-        kind: recipe.kind,
-        bytes: (recipe.make)(&mut Random::new(SEED)),
-    })
+    let bytes = (recipe.make)(&mut Random::new(SEED));
+    Some(Payload::alone(name, recipe.kind, bytes))
 }
 
 /// A payload that names functions and nothing else.
@@ -210,6 +208,7 @@ mod tests {
                 library::old_hints_judge(bytes),
                 second_reader::old_hints_judge(bytes).into(),
             ],
+            Kind::Pair | Kind::WidePair => panic!("no pair is made here"),
         }
     }
 

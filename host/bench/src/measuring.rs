@@ -52,16 +52,16 @@ fn are_alike<Told: PartialEq>(told: Told, read: impl Into<Told>) -> bool {
 
 /// The operations that were measured, or the one on which the readers differ.
 pub fn measure(payload: &Payload) -> Result<Vec<Operation>, String> {
-    let mut compared = vec![walk(&payload.module())];
-    match payload.kind {
-        Kind::Names => compared.extend(names(&payload.bytes)),
-        Kind::WideNames => {
-            compared.extend(names(&payload.bytes));
-            compared.extend(wide_names(&payload.bytes));
-        }
-        Kind::Hints => compared.extend(hints(&payload.bytes)),
-        Kind::OldHints => compared.extend(old_hints(&payload.bytes)),
-    }
+    let bytes = &payload.bytes;
+    let alone = |operations: Vec<Compared>| [vec![walk(&payload.module())], operations].concat();
+    let compared = match payload.kind {
+        Kind::Names => alone(names(bytes)),
+        Kind::WideNames => alone([names(bytes), wide_names(bytes)].concat()),
+        Kind::Hints => alone(hints(bytes)),
+        Kind::OldHints => alone(old_hints(bytes)),
+        Kind::Pair => pair(bytes, &payload.own),
+        Kind::WidePair => wide_pair(bytes, &payload.own),
+    };
     let agreed = |(operation, alike): Compared| match alike {
         true => Ok(operation),
         false => Err(format!(
@@ -266,6 +266,107 @@ fn look_old_hint_up(payload: &[u8], branch: (u32, u32)) -> Compared {
     )
 }
 
+/// The greatest index that has a name in a map of either payload.
+fn last_of_both(separate: &[u8], own: &[u8], map_id: u8) -> Option<u32> {
+    let maps = [separate, own].map(|payload| NameMap::of(payload, map_id));
+    let last = |map: NameMap| map.lists.indices.last().copied();
+    maps.into_iter().flatten().filter_map(last).max()
+}
+
+fn pair(separate: &[u8], own: &[u8]) -> Vec<Compared> {
+    let last = last_of_both(separate, own, FUNCTIONS);
+    let mut compared = vec![
+        join(separate, own),
+        written!(
+            Operation::SeparateRewrite,
+            names_canonical(lent, out) where lent = separate, out of separate.len()
+        ),
+        written!(
+            Operation::OwnRewrite,
+            names_canonical(lent, out) where lent = own, out of own.len()
+        ),
+    ];
+    compared.extend(
+        last.into_iter()
+            .flat_map(|last| look_up_in_two(separate, own, last)),
+    );
+    compared
+}
+
+fn join(separate: &[u8], own: &[u8]) -> Compared {
+    let room = separate.len() + own.len();
+    written!(
+        Operation::Join,
+        pair_join(separate, own, out) where (separate, own) = (separate, own), out of room
+    )
+}
+
+/// A function's name in both, and in each of them.
+fn look_up_in_two(separate: &[u8], own: &[u8], last: u32) -> [Compared; 3] {
+    [
+        asked!(
+            Operation::PairLookUp,
+            pair_function_name(separate, own, last)
+            where (separate, own, last) = (separate, own, last)
+        ),
+        asked!(
+            Operation::SeparateLookUp,
+            function_name(lent, last) where (lent, last) = (separate, last)
+        ),
+        asked!(
+            Operation::OwnLookUp,
+            function_name(lent, last) where (lent, last) = (own, last)
+        ),
+    ]
+}
+
+fn wide_pair(separate: &[u8], own: &[u8]) -> Vec<Compared> {
+    let last = last_of_both(separate, own, GLOBALS);
+    let mut compared = vec![
+        wide_join(separate, own),
+        written!(
+            Operation::WideSeparateRewrite,
+            wide_names_canonical(lent, out) where lent = separate, out of separate.len()
+        ),
+        written!(
+            Operation::WideOwnRewrite,
+            wide_names_canonical(lent, out) where lent = own, out of own.len()
+        ),
+    ];
+    compared.extend(
+        last.into_iter()
+            .flat_map(|last| look_up_widely_in_two(separate, own, last)),
+    );
+    compared
+}
+
+fn wide_join(separate: &[u8], own: &[u8]) -> Compared {
+    let room = separate.len() + own.len();
+    written!(
+        Operation::WideJoin,
+        wide_pair_join(separate, own, out) where (separate, own) = (separate, own), out of room
+    )
+}
+
+/// A global's name in both, and in each of them.
+fn look_up_widely_in_two(separate: &[u8], own: &[u8], last: u32) -> [Compared; 3] {
+    [
+        asked!(
+            Operation::WidePairLookUp,
+            wide_pair_global_name(separate, own, last)
+            where (separate, own, last) = (separate, own, last)
+        ),
+        asked!(
+            Operation::WideSeparateLookUp,
+            wide_global_name(lent, last) where (lent, last) = (separate, last)
+        ),
+        asked!(
+            Operation::WideOwnLookUp,
+            wide_global_name(lent, last) where (lent, last) = (own, last)
+        ),
+    ]
+}
+
 #[cfg(test)]
 mod tests {
     use super::*;
@@ -293,6 +394,12 @@ mod tests {
             Operation::LookOldHintUp,
             Operation::TellOldHints,
             Operation::RewriteOldHints,
+            Operation::PairLookUp,
+            Operation::OwnRewrite,
+            Operation::Join,
+            Operation::WidePairLookUp,
+            Operation::WideOwnRewrite,
+            Operation::WideJoin,
         ] {
             assert!(operations.contains(&tried), "not tried: {}", tried.words());
         }

@@ -27,12 +27,10 @@ impl NameMap {
         let mut rest = Accepted(payload);
         let mut lists = None;
         let mut subsections = 0;
-        while !rest.0.is_empty() {
-            let id = rest.bytes(1)[0];
-            let contents = rest.sized();
+        while let Some((id, contents)) = rest.subsection() {
             subsections += 1;
             if id == map_id {
-                lists = Some(Accepted(contents).lists());
+                lists = Some(contents.lists());
             }
         }
         lists.map(|lists| NameMap {
@@ -43,16 +41,25 @@ impl NameMap {
 }
 
 /// What is left of an accepted payload: no read of it can fail.
-struct Accepted<'a>(&'a [u8]);
+pub struct Accepted<'a>(pub &'a [u8]);
 
 impl<'a> Accepted<'a> {
+    /// The next subsection, by its id and its contents; none at the end.
+    pub fn subsection(&mut self) -> Option<(u8, Accepted<'a>)> {
+        if self.0.is_empty() {
+            return None;
+        }
+        let id = self.bytes(1)[0];
+        Some((id, Accepted(self.sized())))
+    }
+
     fn bytes(&mut self, length: usize) -> &'a [u8] {
         let (taken, rest) = self.0.split_at(length);
         self.0 = rest;
         taken
     }
 
-    fn number(&mut self) -> u32 {
+    pub fn number(&mut self) -> u32 {
         let mut value = 0;
         let mut shift = 0;
         loop {
@@ -65,7 +72,7 @@ impl<'a> Accepted<'a> {
         }
     }
 
-    fn sized(&mut self) -> &'a [u8] {
+    pub fn sized(&mut self) -> &'a [u8] {
         let length = self.number();
         self.bytes(length as usize)
     }

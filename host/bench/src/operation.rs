@@ -26,6 +26,18 @@ pub enum Operation {
     LookOldHintUp,
     TellOldHints,
     RewriteOldHints,
+    PairLookUp,
+    SeparateLookUp,
+    OwnLookUp,
+    Join,
+    SeparateRewrite,
+    OwnRewrite,
+    WidePairLookUp,
+    WideSeparateLookUp,
+    WideOwnLookUp,
+    WideJoin,
+    WideSeparateRewrite,
+    WideOwnRewrite,
 }
 
 impl Operation {
@@ -54,6 +66,18 @@ impl Operation {
             Operation::LookOldHintUp => "judge old hints, look greatest up",
             Operation::TellOldHints => "tell old hints",
             Operation::RewriteOldHints => "rewrite old hints",
+            Operation::PairLookUp => "pair, last function",
+            Operation::SeparateLookUp => "separate alone, that function",
+            Operation::OwnLookUp => "own alone, that function",
+            Operation::Join => "join",
+            Operation::SeparateRewrite => "rewrite separate",
+            Operation::OwnRewrite => "rewrite own",
+            Operation::WidePairLookUp => "wide pair, last global",
+            Operation::WideSeparateLookUp => "wide separate alone, that global",
+            Operation::WideOwnLookUp => "wide own alone, that global",
+            Operation::WideJoin => "wide join",
+            Operation::WideSeparateRewrite => "wide rewrite separate",
+            Operation::WideOwnRewrite => "wide rewrite own",
         }
     }
 }

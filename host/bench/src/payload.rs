@@ -1,6 +1,6 @@
 //! A payload, and the names of all that are measured.
 
-use crate::{bytes, fixtures, made};
+use crate::{bytes, fixtures, made, pairs};
 
 /// Which section a payload is of, and how it is measured.
 #[derive(Clone, Copy, PartialEq, Eq, Debug)]
@@ -12,13 +12,17 @@ pub enum Kind {
     Hints,
     /// Of the older edition.
     OldHints,
+    /// Two payloads, by the first edition of names.
+    Pair,
+    /// Two payloads, by the wider edition.
+    WidePair,
 }
 
 impl Kind {
     /// The name of the custom section that holds such a payload.
     pub fn section(self) -> &'static str {
         match self {
-            Kind::Names | Kind::WideNames => "name",
+            Kind::Names | Kind::WideNames | Kind::Pair | Kind::WidePair => "name",
             Kind::Hints => "metadata.code.branch_hint",
             Kind::OldHints => "branchHints",
         }
@@ -29,21 +33,34 @@ impl Kind {
 pub struct Payload {
     pub name: String,
     pub kind: Kind,
+    /// Of a pair, the separate payload.
     pub bytes: Vec<u8>,
+    /// Of a pair, the module's own payload; of others nothing.
+    pub own: Vec<u8>,
 }
 
 impl Payload {
+    /// A payload that is no pair.
+    pub fn alone(name: impl Into<String>, kind: Kind, bytes: Vec<u8>) -> Payload {
+        Payload {
+            name: name.into(),
+            kind,
+            bytes,
+            own: vec![],
+        }
+    }
+
     /// The payload in a module without any other section.
     pub fn module(&self) -> Vec<u8> {
         bytes::module(self.kind.section(), &self.bytes)
     }
 }
 
-/// The names of all payloads: the made ones, then those of the fixtures.
+/// The names of all payloads: the made ones, the pairs of these, then those of the fixtures.
 pub fn names() -> Vec<String> {
-    let made = made::payloads().map(str::to_string);
+    let made = made::payloads().chain(pairs::all().map(|(name, _)| name));
     let of_fixtures = fixtures::payloads().into_iter().map(|payload| payload.name);
-    made.chain(of_fixtures).collect()
+    made.map(str::to_string).chain(of_fixtures).collect()
 }
 
 /// The payload of a name.
@@ -52,5 +69,7 @@ pub fn named(name: &str) -> Option<Payload> {
         let mut payloads = fixtures::payloads().into_iter();
         payloads.find(|payload| payload.name == name)
     };
-    made::payload(name).or_else(of_fixtures)
+    made::payload(name)
+        .or_else(|| pairs::payload(name))
+        .or_else(of_fixtures)
 }

@@ -5,7 +5,8 @@ use crate::payload::Payload;
 
 /// What a run was of, said before its counts: the payload, and for each region what it counts.
 pub fn mapping(payload: &Payload, operations: &[Operation]) -> String {
-    let mut text = format!("payload\t{}\t{}\n", payload.name, payload.bytes.len());
+    let length = payload.bytes.len() + payload.own.len();
+    let mut text = format!("payload\t{}\t{length}\n", payload.name);
     for &operation in operations {
         for who in Who::BOTH {
             let number = region(operation, who);

@@ -4,7 +4,7 @@
 // The crate that links the library is used for nothing else here.
 use wakemiono as _;
 
-/// The answer of every call but those to a yes or no, and those that say why.
+/// The answer of every call but those to a yes or no, those that say why, and those on two payloads.
 #[derive(Clone, Copy, Debug, PartialEq, Eq)]
 #[repr(C)]
 pub struct Told {
@@ -40,6 +40,22 @@ pub struct ToldWhy {
     pub above: u32,
 }
 
+/// The answer of the calls on two payloads.
+#[derive(Clone, Copy, Debug, PartialEq, Eq)]
+#[repr(C)]
+pub struct ToldPair {
+    /// None, found or refused.
+    pub kind: u32,
+    /// The number of a refusal.
+    pub code: u32,
+    /// Where what was found, or the fault, lies in the payload that it is of.
+    pub offset: u64,
+    /// How many bytes were found or written.
+    pub length: u64,
+    /// Which payload it is of.
+    pub whose: u64,
+}
+
 /// The kind of an answer without what was asked for.
 pub const NONE: u32 = 0;
 /// The kind of an answer with what was found, judged or written.
@@ -56,6 +72,13 @@ pub const NO_SUBSECTION: u32 = 5;
 pub const NO_GROUP: u32 = 6;
 /// The kind of a reason: the map does not have the index.
 pub const NO_ENTRY: u32 = 7;
+
+/// An answer of neither of two payloads.
+pub const NOBODY: u64 = 0;
+/// An answer of the payload that came apart from the module.
+pub const SEPARATE: u64 = 1;
+/// An answer of the module's own payload.
+pub const OWN: u64 = 2;
 
 /// The answer to a yes or no that says yes; no is 0.
 pub const YES: u32 = 1;
@@ -82,6 +105,41 @@ impl From<second_reader::Why> for ToldWhy {
             below: why.below.unwrap_or_default(),
             has_above: why.above.is_some().into(),
             above: why.above.unwrap_or_default(),
+        }
+    }
+}
+
+impl ToldPair {
+    /// What one of two payloads tells, or neither.
+    pub fn of(whose: u64, told: Told) -> ToldPair {
+        ToldPair {
+            kind: told.kind,
+            code: told.code,
+            offset: told.offset,
+            length: told.length,
+            whose,
+        }
+    }
+
+    /// The same without whose it is.
+    pub fn alone(self) -> Told {
+        Told {
+            kind: self.kind,
+            code: self.code,
+            offset: self.offset,
+            length: self.length,
+        }
+    }
+}
+
+impl From<second_reader::PairAnswer> for ToldPair {
+    fn from(answer: second_reader::PairAnswer) -> ToldPair {
+        ToldPair {
+            kind: answer.kind as u32,
+            code: answer.code,
+            offset: answer.offset,
+            length: answer.length,
+            whose: answer.whose as u64,
         }
     }
 }
@@ -192,6 +250,80 @@ rewritings! {
     metadata_canonical = wm_metadata_canonical;
     hints_canonical = wm_hints_canonical;
     old_hints_canonical = wm_old_hints_canonical;
+}
+
+/// Declares calls that take two lent payloads and numbers, with a safe function for each.
+macro_rules! pair_questions {
+    ($($call:ident = $symbol:ident ($($argument:ident: $of:ty),*);)*) => {
+        mod paired {
+            extern "C" {
+                $(pub fn $symbol(
+                    separate: *const u8, separate_len: usize, own: *const u8, own_len: usize $(, $argument: $of)*
+                ) -> super::ToldPair;)*
+            }
+        }
+        $(
+            #[doc = concat!("`", stringify!($symbol), "` of the header, on slices.")]
+            pub fn $call(separate: &[u8], own: &[u8] $(, $argument: $of)*) -> ToldPair {
+                // SAFETY: both are live slices, which the call only reads.
+                unsafe {
+                    paired::$symbol(separate.as_ptr(), separate.len(), own.as_ptr(), own.len() $(, $argument)*)
+                }
+            }
+        )*
+    };
+}
+
+pair_questions! {
+    pair_module_name = wm_pair_module_name();
+    pair_function_name = wm_pair_function_name(function: u32);
+    pair_local_name = wm_pair_local_name(function: u32, local: u32);
+    pair_type_name = wm_pair_type_name(index: u32);
+    pair_field_name = wm_pair_field_name(index: u32, field: u32);
+    pair_tag_name = wm_pair_tag_name(tag: u32);
+    pair_kept = wm_pair_kept(id: u8);
+    wide_pair_module_name = wm_wide_pair_module_name();
+    wide_pair_function_name = wm_wide_pair_function_name(function: u32);
+    wide_pair_local_name = wm_wide_pair_local_name(function: u32, local: u32);
+    wide_pair_label_name = wm_wide_pair_label_name(function: u32, label: u32);
+    wide_pair_type_name = wm_wide_pair_type_name(index: u32);
+    wide_pair_table_name = wm_wide_pair_table_name(table: u32);
+    wide_pair_memory_name = wm_wide_pair_memory_name(memory: u32);
+    wide_pair_global_name = wm_wide_pair_global_name(global: u32);
+    wide_pair_element_name = wm_wide_pair_element_name(element: u32);
+    wide_pair_data_name = wm_wide_pair_data_name(data: u32);
+    wide_pair_field_name = wm_wide_pair_field_name(index: u32, field: u32);
+    wide_pair_tag_name = wm_wide_pair_tag_name(tag: u32);
+    wide_pair_kept = wm_wide_pair_kept(id: u8);
+}
+
+/// Declares calls that join two lent payloads into an output.
+macro_rules! joinings {
+    ($($call:ident = $symbol:ident;)*) => {
+        mod joining {
+            extern "C" {
+                $(pub fn $symbol(
+                    separate: *const u8, separate_len: usize, own: *const u8, own_len: usize, out: *mut u8, out_len: usize
+                ) -> super::ToldPair;)*
+            }
+        }
+        $(
+            #[doc = concat!("`", stringify!($symbol), "` of the header, on slices.")]
+            pub fn $call(separate: &[u8], own: &[u8], out: &mut [u8]) -> ToldPair {
+                // SAFETY: all are live slices, the output overlaps neither payload, and the call stores into it alone.
+                unsafe {
+                    joining::$symbol(
+                        separate.as_ptr(), separate.len(), own.as_ptr(), own.len(), out.as_mut_ptr(), out.len()
+                    )
+                }
+            }
+        )*
+    };
+}
+
+joinings! {
+    pair_join = wm_pair_join;
+    wide_pair_join = wm_wide_pair_join;
 }
 
 extern "C" {

@@ -73,6 +73,9 @@ pub struct Tally {
     pub wide_said: Said,
     /// What the questions of the wider edition were answered, by the names of the calls.
     pub wide_met: BTreeMap<&'static str, Met>,
+    /// How often questions to two payloads, and joins of them, were answered in each way, by the names of the calls, the
+    /// kinds of the answers and whose they are.
+    pub pairs_met: BTreeMap<(&'static str, u32, u64), u64>,
     /// What they said of metadata payloads, by the rules for any format.
     pub metadata_said: Said,
     /// What they said of metadata payloads, by the rules for hints.
@@ -98,6 +101,7 @@ impl Default for Tally {
             quick_met: Met::default(),
             wide_said: Said::default(),
             wide_met: BTreeMap::new(),
+            pairs_met: BTreeMap::new(),
             metadata_said: Said::default(),
             hints_said: Said::default(),
             old_said: Said::default(),
@@ -189,6 +193,7 @@ macro_rules! rewrite {
 // They stand behind the macros, which they use.
 mod markers;
 mod older;
+mod pairs;
 mod why;
 mod wide;
 

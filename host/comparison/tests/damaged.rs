@@ -10,6 +10,9 @@ use comparison::spelling::{number, sized, unpadded};
 use comparison::tally::{Tally, WIDE_QUESTIONS};
 use std::collections::BTreeMap;
 
+/// The id of the subsection with the module's name.
+const MODULE: u8 = 0;
+
 /// The ids of two subsections with name maps: in each edition, and in the wider one.
 const FUNCTIONS: u8 = 1;
 const GLOBALS: u8 = 7;
@@ -255,6 +258,64 @@ fn reasons_for_no_name() {
     println!("compared {} calls", tally.calls);
     let told = [FOUND, REFUSED, NO_SUBSECTION, NO_GROUP, NO_ENTRY];
     tally.assert_why_met(&told, LEAST);
+}
+
+/// What the wider edition knows of each kind: a name, a map, an indirect one, and something kept.
+fn of_each_kind() -> Names {
+    let ids = [MODULE, FUNCTIONS, LOCALS, GLOBALS];
+    let mut subsections = BTreeMap::from(ids.map(|id| (id, with_names(id))));
+    subsections.insert(KEPT, Contents::Kept(vec![0]));
+    Names {
+        edition: &WIDER,
+        subsections,
+    }
+}
+
+/// Each id that the wider edition knows, damaged at every place, on either side of what it was, and of the next.
+#[test]
+fn pairs_of_each_known_id() {
+    const LEAST: u64 = 20;
+    let mut tally = Tally::default();
+    for id in 0..KEPT {
+        let (whole, next) = (one_known(id), one_known((id + 1) % KEPT));
+        for payload in damaged(&whole) {
+            tally.both_ways(&payload, &whole);
+            tally.both_ways(&payload, &next);
+        }
+    }
+    println!("compared {} calls", tally.calls);
+    tally.assert_pairs_met(LEAST);
+}
+
+/// Names on either side of others: padded at every place, and with an empty list at every place.
+#[test]
+fn pairs_of_the_same_names() {
+    let mut tally = Tally::default();
+    let held = of_each_kind();
+    let others = [&held, &functions_and_locals()].map(|other| other.spelled(&mut unpadded));
+    let with_empty = held.with_an_empty_list().into_iter();
+    let mut all = held.with_one_padded();
+    all.extend(with_empty.map(|held| held.spelled(&mut unpadded)));
+    for payload in &all {
+        for other in &others {
+            tally.both_ways(payload, other);
+        }
+        tally.beside_itself_and_nothing(payload);
+    }
+    println!("compared {} calls", tally.calls);
+}
+
+/// Both payloads are damaged, and not alike.
+#[test]
+fn pairs_of_damaged_payloads() {
+    let mut tally = Tally::default();
+    let held = of_each_kind();
+    let one = damaged(&held.spelled(&mut unpadded));
+    let other = damaged(&without(&held, FUNCTIONS).spelled(&mut unpadded));
+    for (separate, own) in one.iter().zip(other.iter().rev()) {
+        tally.both_ways(separate, own);
+    }
+    println!("compared {} calls", tally.calls);
 }
 
 /// So many functions, at every second index from 1 on, with names of up to two letters.

@@ -1,6 +1,8 @@
 //! The documents' own cases.
 
-use comparison::library::{FOUND, NONE, NO_ENTRY, NO_GROUP, NO_SUBSECTION, REFUSED};
+use comparison::library::{
+    self, FOUND, NOBODY, NONE, NO_ENTRY, NO_GROUP, NO_SUBSECTION, OWN, REFUSED, SEPARATE,
+};
 use comparison::markers::Markers;
 use comparison::tally::{Said, Tally};
 
@@ -209,6 +211,72 @@ fn name_payloads_of_the_wider_edition() {
     println!("compared {} calls", tally.calls);
     assert_eq!(tally.names_said, said(9, 1));
     assert_eq!(tally.wide_said, said(4, 3));
+}
+
+/// Two payloads: what the request names, and what its readings settle.
+const PAIRS: [[&[u8]; 2]; 16] = [
+    // a name in both, and in one
+    [b"\x01\x04\x01\x03\x01f", b"\x01\x04\x01\x03\x01g"],
+    [b"\x01\x04\x01\x03\x01f", b"\x01\x04\x01\x01\x01g"],
+    // an empty name hides a full one, and so does an empty module name
+    [b"\x01\x03\x01\x03\x00", b"\x01\x04\x01\x03\x01g"],
+    [b"\x00\x01\x00", b"\x00\x02\x01m"],
+    // an empty kept subsection hides a full one
+    [b"\x03\x00", b"\x03\x01\xFF"],
+    [b"\x0C\x00", b"\x0C\x01\xFF"],
+    // an empty map and an empty group hide nothing
+    [b"\x01\x01\x00", b"\x01\x04\x01\x03\x01g"],
+    [b"\x02\x03\x01\x03\x00", b"\x02\x06\x01\x03\x01\x00\x01x"],
+    // groups of one function in both
+    [
+        b"\x02\x0B\x02\x00\x01\x00\x01a\x03\x01\x01\x01b",
+        b"\x02\x0E\x02\x03\x02\x00\x01c\x01\x01d\x07\x01\x05\x01e",
+    ],
+    // a module name in the own one alone
+    [b"\x01\x04\x01\x03\x01f", b"\x00\x02\x01m"],
+    // globals, which the first edition keeps
+    [b"\x07\x04\x01\x03\x01g", b"\x07\x04\x01\x00\x01h"],
+    [b"\x07\x01\x00", b"\x07\x04\x01\x00\x01h"],
+    // both refused, each of them, and the own one while the separate one has the name
+    [b"\x01\x00", b"\x01\x02\x00\x00"],
+    [b"\x01\x02\x00\x00", b"\x01\x04\x01\x03\x01g"],
+    [b"\x00\x02\x01a", b"\x01\x00"],
+    // refused by the wider edition alone
+    [b"\x01\x04\x01\x03\x01f", b"\x07\x01\xFF"],
+];
+
+#[test]
+fn pairs() {
+    let mut tally = Tally::default();
+    for [separate, own] in PAIRS {
+        tally.both_ways(separate, own);
+        tally.beside_itself_and_nothing(own);
+    }
+    tally.beside_itself_and_nothing(&P);
+    println!("compared {} calls", tally.calls);
+}
+
+/// What the readings say of whose an answer is.
+#[test]
+fn whose_an_answer_is() {
+    let told = |separate: &[u8], own: &[u8]| {
+        let told = library::pair_module_name(separate, own);
+        (told.kind, told.code, told.offset, told.length, told.whose)
+    };
+    let (a, m, empty) = (b"\x00\x02\x01a", b"\x00\x02\x01m", b"\x00\x01\x00");
+    assert_eq!(told(a, m), (FOUND, 0, 3, 1, SEPARATE));
+    assert_eq!(told(empty, m), (FOUND, 0, 3, 0, SEPARATE));
+    assert_eq!(told(b"", m), (FOUND, 0, 3, 1, OWN));
+    assert_eq!(told(b"", b""), (NONE, 0, 0, 0, NOBODY));
+    assert_eq!(told(a, b"\x01\x00"), (REFUSED, 2, 2, 0, OWN));
+    assert_eq!(told(b"\x01\x00", b"\x00"), (REFUSED, 2, 2, 0, SEPARATE));
+    let joined = library::pair_join(a, m, &mut [0; 4]);
+    assert_eq!(
+        (joined.kind, joined.length, joined.whose),
+        (FOUND, 4, NOBODY)
+    );
+    let short = library::pair_join(a, m, &mut [0; 3]);
+    assert_eq!((short.code, short.offset, short.whose), (13, 4, NOBODY));
 }
 
 #[test]

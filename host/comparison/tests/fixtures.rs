@@ -1,7 +1,9 @@
 //! Modules of several producers: their listings, and every call compared on them and on their payloads.
 
 use comparison::fixtures::{files, modules};
-use comparison::library::{self, custom, section, walk, Told, FOUND, LIKELY, REFUSED, UNLIKELY};
+use comparison::library::{
+    self, custom, section, walk, Told, ToldPair, FOUND, LIKELY, OWN, REFUSED, SEPARATE, UNLIKELY,
+};
 use comparison::markers::Markers;
 use comparison::tally::{Judged, Said, Tally, HINTS, NAMES, OLD_HINTS};
 use second_reader::{Kind, Why};
@@ -30,6 +32,14 @@ const ANSWERED_WIDELY: (usize, usize) = (26, 1_116);
 const ANSWERED_OF_OLD: (usize, usize) = (4, 13);
 /// How many functions and locals are asked why they have no name: 1,040 that have one, and the two beside each.
 const ASKED_WHY: usize = 3 * 1_040;
+
+/// Those with a name section, accepted or not.
+const WITH_NAMES: usize = 56;
+/// How often each question is answered in each way at least, over all pairs of them.
+const LEAST_OF_PAIRS: u64 = 50;
+/// The questions to pairs of those whose names the third reading found, in each edition.
+const ASKED_OF_PAIRS: usize = 82_014;
+const ASKED_OF_PAIRS_WIDELY: usize = 55_532;
 
 /// Those that name more than sixteen functions, and their markers.
 const MARKED: (usize, usize) = (2, 60);
@@ -333,6 +343,142 @@ fn ask_why(path: &PathBuf) -> usize {
 fn reasons_for_no_name() {
     let questions: usize = files("answers").iter().map(ask_why).sum();
     assert_eq!(questions, ASKED_WHY);
+}
+
+/// The name payloads of the fixtures, accepted or not.
+fn name_payloads() -> Vec<Vec<u8>> {
+    let modules = modules().into_iter();
+    let bytes = modules.map(|path| fs::read(path).expect("a fixture can be read"));
+    let payload = |module: Vec<u8>| payload_of(&module, NAMES).map(<[u8]>::to_vec);
+    bytes.filter_map(payload).collect()
+}
+
+/// Every name payload beside every other, beside itself and beside nothing.
+#[test]
+fn pairs() {
+    let mut tally = Tally::default();
+    let payloads = name_payloads();
+    assert_eq!(payloads.len(), WITH_NAMES);
+    for separate in &payloads {
+        for own in &payloads {
+            tally.pair(separate, own);
+        }
+        tally.beside_itself_and_nothing(separate);
+    }
+    println!("compared {} calls", tally.calls);
+    tally.assert_pairs_met(LEAST_OF_PAIRS);
+}
+
+/// A name payload, and what the third reading found in it.
+struct Read {
+    payload: Vec<u8>,
+    /// By the words of each question, the bytes that answer it.
+    answers: BTreeMap<String, Vec<u8>>,
+}
+
+impl Read {
+    fn of(path: &PathBuf) -> Read {
+        let module = module_of(path);
+        let lines = fs::read_to_string(path).expect("answers can be read");
+        let answer = |line: &str| {
+            let words: Vec<&str> = line.split(' ').collect();
+            let (question, place) = words.split_at(words.len() - 2);
+            let [offset, length] = [place[0], place[1]].map(|word| word.parse().expect("a number"));
+            let found: &[u8] = &module[offset..][..length];
+            (question.join(" "), found.to_vec())
+        };
+        let of_names = |line: &&str| !line.starts_with("hints ") && !line.starts_with("metadata.");
+        Read {
+            payload: payload_of(&module, NAMES).unwrap_or_default().to_vec(),
+            answers: lines.lines().filter(of_names).map(answer).collect(),
+        }
+    }
+}
+
+/// What the third reading found, asked of two payloads.
+fn asked_of_two(separate: &[u8], own: &[u8], words: &[&str]) -> ToldPair {
+    let number = |at: usize| words[at].parse::<u32>().expect("a number");
+    match words[0] {
+        "module" => library::pair_module_name(separate, own),
+        "function" => library::pair_function_name(separate, own, number(1)),
+        "type" => library::pair_type_name(separate, own, number(1)),
+        "tag" => library::pair_tag_name(separate, own, number(1)),
+        "local" => library::pair_local_name(separate, own, number(1), number(2)),
+        "field" => library::pair_field_name(separate, own, number(1), number(2)),
+        "kept" => library::pair_kept(separate, own, number(1) as u8),
+        other => panic!("no question of the fixtures: {other}"),
+    }
+}
+
+/// The same, asked by the wider edition.
+fn asked_of_two_widely(separate: &[u8], own: &[u8], words: &[&str]) -> ToldPair {
+    let number = |at: usize| words[at].parse::<u32>().expect("a number");
+    match words[0] {
+        "module" => library::wide_pair_module_name(separate, own),
+        "function" => library::wide_pair_function_name(separate, own, number(1)),
+        "local" => library::wide_pair_local_name(separate, own, number(1), number(2)),
+        "label" => library::wide_pair_label_name(separate, own, number(1), number(2)),
+        "type" => library::wide_pair_type_name(separate, own, number(1)),
+        "table" => library::wide_pair_table_name(separate, own, number(1)),
+        "memory" => library::wide_pair_memory_name(separate, own, number(1)),
+        "global" => library::wide_pair_global_name(separate, own, number(1)),
+        "element" => library::wide_pair_element_name(separate, own, number(1)),
+        "data" => library::wide_pair_data_name(separate, own, number(1)),
+        "field" => library::wide_pair_field_name(separate, own, number(1), number(2)),
+        "tag" => library::wide_pair_tag_name(separate, own, number(1)),
+        "kept" => library::wide_pair_kept(separate, own, number(1) as u8),
+        other => panic!("no question of the fixtures: {other}"),
+    }
+}
+
+/// Asks two payloads for all that the third reading found in either: the separate one answers what it can. How many
+/// questions there are.
+fn ask_two(separate: &Read, own: &Read, asked: fn(&[u8], &[u8], &[&str]) -> ToldPair) -> usize {
+    let mut answers: BTreeMap<&String, (u64, &Vec<u8>)> = BTreeMap::new();
+    for (whose, read) in [(OWN, own), (SEPARATE, separate)] {
+        answers.extend(
+            read.answers
+                .iter()
+                .map(|(question, found)| (question, (whose, found))),
+        );
+    }
+    for (question, (whose, found)) in &answers {
+        let words: Vec<&str> = question.split(' ').collect();
+        let told = asked(&separate.payload, &own.payload, &words);
+        assert_eq!((told.kind, told.whose), (FOUND, *whose), "{question}");
+        let payload = if told.whose == OWN {
+            &own.payload
+        } else {
+            &separate.payload
+        };
+        let bytes = &payload[told.offset as usize..][..told.length as usize];
+        assert_eq!(bytes, &found[..], "{question}");
+    }
+    answers.len()
+}
+
+/// How many questions all pairs of fixtures have that the third reading answered in an edition.
+fn ask_all_pairs(kind: &str, asked: fn(&[u8], &[u8], &[&str]) -> ToldPair) -> usize {
+    let read: Vec<Read> = files(kind).iter().map(Read::of).collect();
+    let mut questions = 0;
+    for separate in &read {
+        for own in &read {
+            questions += ask_two(separate, own, asked);
+        }
+    }
+    questions
+}
+
+#[test]
+fn answers_of_pairs() {
+    let questions = ask_all_pairs("answers", asked_of_two);
+    assert_eq!(questions, ASKED_OF_PAIRS);
+}
+
+#[test]
+fn answers_of_pairs_in_the_wider_edition() {
+    let questions = ask_all_pairs("wide-answers", asked_of_two_widely);
+    assert_eq!(questions, ASKED_OF_PAIRS_WIDELY);
 }
 
 /// The markers that the third reading found: a line for each, and one for the end.

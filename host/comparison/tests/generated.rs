@@ -60,6 +60,42 @@ fn payloads_and_modules() {
     tally.assert_wide_met(2 * WIDE_QUESTIONS, LEAST_WIDE);
 }
 
+/// Payloads of either edition, each beside the one before, itself and nothing. Every third is damaged, so that each side is
+/// refused, too.
+#[test]
+fn pairs() {
+    const LEAST_OF_PAIRS: u64 = 20;
+    let mut r = Random::new(seed());
+    let mut tally = Tally::default();
+    let mut before = vec![];
+    for _ in 0..ROUNDS {
+        let mut payload = made::names(&mut r);
+        if r.once_in(3) && !payload.is_empty() {
+            let at = r.below(payload.len());
+            payload[at] = r.number() as u8;
+        }
+        tally.pair(&before, &payload);
+        tally.beside_itself_and_nothing(&payload);
+        before = payload;
+    }
+    println!("compared {} calls", tally.calls);
+    tally.assert_pairs_met(LEAST_OF_PAIRS);
+}
+
+/// Many functions on each side, at indices of which some are in both.
+#[test]
+fn pairs_of_many_functions() {
+    /// How many functions a payload has at most.
+    const FUNCTIONS: usize = 80;
+    let mut r = Random::new(seed());
+    let mut tally = Tally::default();
+    for _ in 0..ROUNDS {
+        let [separate, own] = [FUNCTIONS; 2].map(|most| made::functions(&mut r, most + 1));
+        tally.first_pair(&separate, &own);
+    }
+    println!("compared {} calls", tally.calls);
+}
+
 /// Many functions: every index is asked for by their own markers, and then by those of the payload before.
 #[test]
 fn markers_of_many_functions() {

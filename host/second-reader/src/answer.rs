@@ -3,7 +3,7 @@
 
 use crate::reading::Part;
 
-/// The answer to any call but those that say why. Fields that a kind does not use are 0.
+/// The answer to any call but those that say why and those on two payloads. Fields that a kind does not use are 0.
 #[derive(Clone, Copy, Debug, PartialEq, Eq)]
 #[must_use]
 pub struct Answer {
@@ -36,6 +36,35 @@ pub struct Why {
     pub below: Option<u32>,
     /// The nearest index above that the map has.
     pub above: Option<u32>,
+}
+
+/// The answer to a call on two payloads. Fields that a kind does not use are 0, or nobody.
+#[derive(Clone, Copy, Debug, PartialEq, Eq)]
+#[must_use]
+pub struct PairAnswer {
+    /// Found, none or refused.
+    pub kind: Kind,
+    /// The number of the refusal.
+    pub code: u32,
+    /// Where the thing found lies in the payload that supplied it; for a refusal, the offset that the
+    /// rules give with it.
+    pub offset: u64,
+    /// The length in bytes of the thing found, or of the joined payload.
+    pub length: u64,
+    /// Who supplied the thing found, or is refused.
+    pub whose: Whose,
+}
+
+/// Which of two payloads. Their numbers are fixed.
+#[derive(Clone, Copy, Debug, PartialEq, Eq)]
+#[repr(u64)]
+pub enum Whose {
+    /// Neither: there is none, or it is about the joined payload.
+    Nobody = 0,
+    /// The one that came apart from the module.
+    Separate = 1,
+    /// The one of the module itself.
+    Own = 2,
 }
 
 /// The kinds of answer. Their numbers are fixed.
@@ -186,6 +215,19 @@ impl From<Refusal> for Answer {
             code: refusal.reason as u32,
             offset: refusal.offset,
             length: 0,
+        }
+    }
+}
+
+impl PairAnswer {
+    /// The answer that one of two payloads gives, or that is of both.
+    pub(crate) fn new(answer: Answer, whose: Whose) -> PairAnswer {
+        PairAnswer {
+            kind: answer.kind,
+            code: answer.code,
+            offset: answer.offset,
+            length: answer.length,
+            whose,
         }
     }
 }

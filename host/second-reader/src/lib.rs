@@ -5,9 +5,10 @@
 //! the two give different answers for the same bytes, one of them misreads the rules.
 //!
 //! The functions are the calls of the C header under the same names, with slices for pointer and
-//! length. Each takes any bytes, ends in an [`Answer`], in a [`Why`] or, to a yes or no, in a `bool`,
-//! and asks for no prior check: a payload is judged whole before it is asked or rewritten, but for the
-//! quick question, which judges nothing, and a refusal changes no byte of an output.
+//! length. Each takes any bytes, ends in an [`Answer`], in a [`Why`], in a [`PairAnswer`] or, to a yes
+//! or no, in a `bool`, and asks for no prior check: a payload is judged whole before it is asked or
+//! rewritten, but for the quick question, which judges nothing, and a refusal changes no byte of an
+//! output.
 //!
 //! Names have two editions, which differ in the table of ids alone: `wide_` begins the calls of the
 //! wider one. Hints have two as well, which have no list in common: `old_` begins the calls of the
@@ -34,6 +35,7 @@ mod metadata;
 mod names;
 mod number;
 mod older;
+mod pairs;
 mod reading;
 mod telling;
 mod through;
@@ -42,7 +44,7 @@ mod why;
 mod wide;
 mod writing;
 
-pub use answer::{Answer, Kind, Reason, Why};
+pub use answer::{Answer, Kind, PairAnswer, Reason, Whose, Why};
 pub use canonical::{hints_canonical, metadata_canonical, names_canonical, wide_names_canonical};
 pub use lists::function_names_write;
 pub use markers::{markers, quick_function_name};
@@ -51,6 +53,13 @@ pub use names::{
     field_name, function_name, kept, local_name, module_name, names_judge, tag_name, type_name,
 };
 pub use older::{old_hint, old_hint_in, old_hints_canonical, old_hints_judge};
+pub use pairs::{
+    pair_field_name, pair_function_name, pair_join, pair_kept, pair_local_name, pair_module_name,
+    pair_tag_name, pair_type_name, wide_pair_data_name, wide_pair_element_name,
+    wide_pair_field_name, wide_pair_function_name, wide_pair_global_name, wide_pair_join,
+    wide_pair_kept, wide_pair_label_name, wide_pair_local_name, wide_pair_memory_name,
+    wide_pair_module_name, wide_pair_table_name, wide_pair_tag_name, wide_pair_type_name,
+};
 pub use telling::{
     hints_is_canonical, metadata_is_canonical, names_is_canonical, old_hints_is_canonical,
     wide_names_is_canonical,

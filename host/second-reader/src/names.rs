@@ -111,7 +111,7 @@ pub(crate) fn contents(
 
 /// Reads and checks the payload to its end. Every owner is met at most once, since ids and indices
 /// increase.
-fn read<'a>(
+pub(crate) fn read<'a>(
     payload: Part<'a>,
     edition: Edition,
     mut meet: impl FnMut(Owner, Part<'a>),

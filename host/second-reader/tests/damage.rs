@@ -113,6 +113,49 @@ fn check_names(payload: &[u8]) {
     check_markers(payload);
 }
 
+/// A payload beside which others are asked: what both editions know, and what only the wider does.
+const PAIRED: &[u8] = b"\x00\x01\x00\x01\x04\x01\x00\x01f\x02\x06\x01\x01\x01\x00\x01l\
+    \x03\x06\x01\x01\x01\x7F\x01b\x07\x04\x01\x01\x01g\x0C\x00";
+
+/// Puts one payload, whatever it is, on each side of another, of itself, and of nothing.
+fn check_pairs(payload: &[u8]) {
+    for edition in &EDITIONS {
+        for other in [b"", PAIRED] {
+            check_pair(edition, payload, other);
+            check_pair(edition, other, payload);
+        }
+        check_pair(edition, payload, payload);
+    }
+}
+
+/// Two payloads answer every question by what each answers alone, and what is joined of them answers
+/// as they do.
+fn check_pair(edition: &Edition, separate: &[u8], own: &[u8]) {
+    let joined = joined(edition, separate, own);
+    let mut questions = name_questions(edition, &INDICES);
+    questions.extend(KEPT.map(Question::Kept));
+    for question in questions {
+        let alone = |payload: &[u8]| (edition.ask)(payload, question);
+        let expected = of_two(alone(separate), alone(own));
+        let asked = (edition.ask_pair)(separate, own, question);
+        assert_eq!(
+            asked, expected,
+            "{question:?} of {separate:02X?} and {own:02X?}"
+        );
+        match &joined {
+            Err(refused) => assert_eq!(asked, *refused),
+            Ok(joined) => {
+                let said = bytes_of_pair(separate, own, asked);
+                assert_eq!(bytes_of(joined, alone(joined)), said);
+            }
+        }
+    }
+    if let Ok(joined) = joined {
+        assert!(joined.len() <= separate.len() + own.len());
+        assert!((edition.is_canonical)(&joined));
+    }
+}
+
 /// Markers are refused as the payload is; asked by its own, it answers as in full.
 fn check_markers(payload: &[u8]) {
     let made = marked(payload);
@@ -308,6 +351,14 @@ fn names_cut_short() {
 }
 
 #[test]
+fn pairs_cut_short() {
+    cut_everywhere(PAIRED, check_pairs);
+    for_seeds(20, |random| {
+        cut_everywhere(&names_input(random), check_pairs)
+    });
+}
+
+#[test]
 fn metadata_cut_short() {
     for_seeds(200, |random| {
         cut_everywhere(&metadata_input(random), check_metadata);
@@ -334,6 +385,28 @@ fn names_with_a_byte_changed() {
     for_seeds(12, |random| {
         let input = small(60, || names_input(random));
         change_everywhere(&input, check_names);
+    });
+}
+
+#[test]
+fn pairs_with_a_byte_changed() {
+    change_everywhere(PAIRED, check_pairs);
+}
+
+/// Payloads made for either edition, every second damaged, of which any two may meet.
+#[test]
+fn pairs_of_any_two() {
+    let mut before = Vec::new();
+    for_seeds(5_000, |random| {
+        let mut payload = names_input(random);
+        if random.one_in(2) && !payload.is_empty() {
+            let place = random.below(payload.len());
+            payload[place] = random.byte();
+        }
+        for edition in &EDITIONS {
+            check_pair(edition, &before, &payload);
+        }
+        before = payload;
     });
 }
 

@@ -135,7 +135,7 @@ fn the_listed_module() {
     );
 }
 
-/// The numbers of kinds and reasons are fixed.
+/// The numbers of kinds, of payloads and of reasons are fixed.
 #[test]
 fn numbers() {
     let kinds = [
@@ -149,6 +149,8 @@ fn numbers() {
         Kind::NoEntry,
     ];
     assert_eq!(kinds.map(|kind| kind as u32), [0, 1, 2, 3, 4, 5, 6, 7]);
+    let whose = [Whose::Nobody, Whose::Separate, Whose::Own];
+    assert_eq!(whose.map(|whose| whose as u64), [0, 1, 2]);
     assert_eq!(Reason::Preamble as u32, 1);
     assert_eq!(Reason::InputTooLarge as u32, 16);
     assert_eq!(Reason::NotMarkers as u32, 22);

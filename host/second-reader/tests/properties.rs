@@ -2,6 +2,8 @@
 
 mod support;
 
+use std::collections::BTreeMap;
+
 use second_reader::*;
 use support::editions::*;
 use support::inputs::*;
@@ -116,6 +118,73 @@ fn rewritten_names_answer_alike() {
             let before = bytes_of(payload, (edition.ask)(payload, question));
             let after = bytes_of(&canonical, (edition.ask)(&canonical, question));
             assert_eq!(before, after, "{question:?}");
+        }
+    });
+}
+
+/// What two plain lists of subsections come to, with the first one's before the other's.
+fn merged(separate: &Names, own: &Names) -> Names {
+    let mut subsections = BTreeMap::new();
+    for (id, contents) in own.iter().chain(separate) {
+        let contents = match (subsections.remove(id), contents) {
+            (Some(Contents::Map(behind)), Contents::Map(before)) => {
+                Contents::Map(merged_map(before, &behind))
+            }
+            (Some(Contents::Indirect(behind)), Contents::Indirect(before)) => {
+                Contents::Indirect(merged_groups(before, &behind))
+            }
+            (_, other) => other.clone(),
+        };
+        subsections.insert(*id, contents);
+    }
+    subsections.into_iter().collect()
+}
+
+fn merged_map(before: &Flat, behind: &Flat) -> Flat {
+    let mut entries: BTreeMap<u32, Vec<u8>> = behind.iter().cloned().collect();
+    entries.extend(before.iter().cloned());
+    entries.into_iter().collect()
+}
+
+fn merged_groups(before: &Nested, behind: &Nested) -> Nested {
+    let mut groups: BTreeMap<u32, Flat> = behind.iter().cloned().collect();
+    for (primary, entries) in before {
+        let group = groups.entry(*primary).or_default();
+        *group = merged_map(entries, group);
+    }
+    groups.into_iter().collect()
+}
+
+/// Asked for everything that is in either, and joined by the definition.
+#[test]
+fn pairs_answer_and_are_joined() {
+    for_names(SEEDS, |edition, separate_names, separate, random| {
+        let own_names = random_names(random, edition);
+        let own = encoded_names(&own_names, random);
+        let merged = merged(separate_names, &own_names);
+        let joined = joined(edition, separate, &own).unwrap();
+        assert_eq!(joined, canonical_names(&merged));
+        assert!(joined.len() <= separate.len() + own.len());
+        let of_separate = present(separate_names);
+        for (question, text) in present(&merged) {
+            let answer = (edition.ask_pair)(separate, &own, question);
+            let is_separate = of_separate.iter().any(|(other, _)| *other == question);
+            let whose = if is_separate {
+                Whose::Separate
+            } else {
+                Whose::Own
+            };
+            assert_eq!(answer.whose, whose, "{question:?}");
+            assert_eq!(
+                bytes_of_pair(separate, &own, answer),
+                Some(text),
+                "{question:?}"
+            );
+        }
+        for question in beside(&present(&merged), edition, random) {
+            let answer = (edition.ask_pair)(separate, &own, question);
+            let alone = |payload: &[u8]| (edition.ask)(payload, question);
+            assert_eq!(answer, of_two(alone(separate), alone(&own)), "{question:?}");
         }
     });
 }

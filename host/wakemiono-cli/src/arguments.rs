@@ -12,6 +12,9 @@ use crate::input::STANDARD_STREAM;
 use crate::options::{self, Given, Takes};
 use crate::question::{Kind, Question};
 
+/// The option that names a file of names beside a module.
+const BESIDE: &str = "--beside";
+
 /// The option that asks for the hints of the older edition.
 const OLD_HINTS: &str = "--old-hints";
 
@@ -40,8 +43,12 @@ pub enum Command {
     List(OsString),
     /// All names of a module, or those of one kind.
     Names(OsString, Option<Kind>),
+    /// The same of a module beside a file of names.
+    NamesBeside(OsString, OsString, Option<Kind>),
     /// One name.
     Name(OsString, Question),
+    /// The same of a module beside a file of names.
+    NameBeside(OsString, OsString, Question),
     /// Why a function, or a local in it, has no name.
     Why(OsString, FunctionIndex, Option<LocalIndex>),
     /// All branch hints of a module.
@@ -50,6 +57,9 @@ pub enum Command {
     Canon(OsString, Option<OsString>),
     /// The same of the hints of the older edition.
     CanonOldHints(OsString, Option<OsString>),
+    /// The names of a module and of a file beside it in one canonical payload, written to a file
+    /// where one is given.
+    Join(OsString, OsString, Option<OsString>),
     /// Whether two modules have the same names.
     Same(OsString, OsString),
     /// Whether a module and its payloads are accepted.
@@ -71,6 +81,8 @@ pub enum Topic {
     Hints,
     /// `canon`
     Canon,
+    /// `join`
+    Join,
     /// `same`
     Same,
     /// `judge`
@@ -79,13 +91,14 @@ pub enum Topic {
 
 impl Topic {
     /// Every command, in the order in which they are explained.
-    pub const ALL: [Topic; 8] = [
+    pub const ALL: [Topic; 9] = [
         Topic::List,
         Topic::Names,
         Topic::Name,
         Topic::Why,
         Topic::Hints,
         Topic::Canon,
+        Topic::Join,
         Topic::Same,
         Topic::Judge,
     ];
@@ -99,6 +112,7 @@ impl Topic {
             Topic::Why => "why",
             Topic::Hints => "hints",
             Topic::Canon => "canon",
+            Topic::Join => "join",
             Topic::Same => "same",
             Topic::Judge => "judge",
         }
@@ -106,10 +120,11 @@ impl Topic {
 
     fn takes(self) -> Takes {
         let (flags, valued): (&[_], &[_]) = match self {
-            Topic::Names => (&["--json", "--wide"], &["--kind"]),
+            Topic::Names => (&["--json", "--wide"], &["--kind", BESIDE]),
             Topic::Name => (&["--json", "--wide", "--module"], asked::OPTIONS),
             Topic::Why => (&["--json", "--wide"], &["--function", "--local"]),
             Topic::Canon => (&["--json", "--wide", OLD_HINTS], &["-o"]),
+            Topic::Join => (&["--json", "--wide"], &["-o"]),
             Topic::Same | Topic::Judge => (&["--json", "--wide"], &[]),
             Topic::List | Topic::Hints => (&["--json"], &[]),
         };
@@ -168,12 +183,13 @@ fn run(topic: Topic, words: &[OsString]) -> Result<Invocation, String> {
     let (wide, json) = (given.has("--wide"), given.has("--json"));
     let command = match topic {
         Topic::List => Command::List(one_file(&given)?),
-        Topic::Names => Command::Names(one_file(&given)?, kind(&given, wide)?),
-        Topic::Name => Command::Name(one_file(&given)?, asked::question(&given, wide)?),
+        Topic::Names => names(&given, wide)?,
+        Topic::Name => name(&given, wide)?,
         Topic::Why => why(&given)?,
         Topic::Hints => Command::Hints(one_file(&given)?),
         Topic::Canon => canon(&given)?,
-        Topic::Same => two_files(&given)?,
+        Topic::Join => join(&given)?,
+        Topic::Same => same(&given)?,
         Topic::Judge => Command::Judge(one_file(&given)?),
     };
     Ok(Invocation::Run {
@@ -181,6 +197,31 @@ fn run(topic: Topic, words: &[OsString]) -> Result<Invocation, String> {
         wide,
         json,
     })
+}
+
+fn names(given: &Given, wide: bool) -> Result<Command, String> {
+    let (file, kind) = (one_file(given)?, kind(given, wide)?);
+    Ok(match beside(given, &file)? {
+        Some(names) => Command::NamesBeside(file, names, kind),
+        None => Command::Names(file, kind),
+    })
+}
+
+fn name(given: &Given, wide: bool) -> Result<Command, String> {
+    let (file, question) = (one_file(given)?, asked::question(given, wide)?);
+    Ok(match beside(given, &file)? {
+        Some(names) => Command::NameBeside(file, names, question),
+        None => Command::Name(file, question),
+    })
+}
+
+/// The file of names beside a module, where one is given.
+fn beside(given: &Given, file: &OsStr) -> Result<Option<OsString>, String> {
+    let Some(names) = given.value(BESIDE) else {
+        return Ok(None);
+    };
+    check_streams(file, names)?;
+    Ok(Some(names.to_owned()))
 }
 
 fn why(given: &Given) -> Result<Command, String> {
@@ -214,14 +255,25 @@ fn one_file(given: &Given) -> Result<OsString, String> {
     }
 }
 
-fn two_files(given: &Given) -> Result<Command, String> {
+fn join(given: &Given) -> Result<Command, String> {
+    let (file, names) = two_files(given, "a module and its names are joined")?;
+    Ok(Command::Join(file, names, output(given)?))
+}
+
+fn same(given: &Given) -> Result<Command, String> {
+    let (a, b) = two_files(given, "two files are compared")?;
+    Ok(Command::Same(a, b))
+}
+
+/// The two files that a command needs, of which it says what is done with them.
+fn two_files(given: &Given, done: &str) -> Result<(OsString, OsString), String> {
     match given.files.as_slice() {
-        [a, b] if a == STANDARD_STREAM && b == STANDARD_STREAM => {
-            Err("standard input can be read only once: give a file for one of the two".to_owned())
+        [a, b] => {
+            check_streams(a, b)?;
+            Ok((a.clone(), b.clone()))
         }
-        [a, b] => Ok(Command::Same(a.clone(), b.clone())),
         files => Err(format!(
-            "two files are compared, and {} given: name two",
+            "{done}, and {} given: name two",
             match files.len() {
                 0 => "none is".to_owned(),
                 1 => "one is".to_owned(),
@@ -229,6 +281,16 @@ fn two_files(given: &Given) -> Result<Command, String> {
             }
         )),
     }
+}
+
+/// One of two files may be standard input, and not both.
+fn check_streams(a: &OsStr, b: &OsStr) -> Result<(), String> {
+    if a == STANDARD_STREAM && b == STANDARD_STREAM {
+        return Err(
+            "standard input can be read only once: give a file for one of the two".to_owned(),
+        );
+    }
+    Ok(())
 }
 
 fn kind(given: &Given, wide: bool) -> Result<Option<Kind>, String> {

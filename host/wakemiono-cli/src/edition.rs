@@ -1,6 +1,6 @@
 //! The editions of names, with what this program must know of each.
 
-use wakemiono::{First, Module, Name, Refusal, Wider};
+use wakemiono::{First, Module, Name, Pair, PairRefusal, Refusal, SuppliedName, Wider};
 
 use crate::json::Json;
 use crate::question::{Kind, Question};
@@ -15,6 +15,12 @@ pub trait Edition: wakemiono::Edition {
 
     /// Puts a question to a module. What only another edition has gets none.
     fn ask<'a>(question: Question, module: Module<'a, Self>) -> Result<Option<Name<'a>>, Refusal>;
+
+    /// Puts a question to two payloads, in the same way.
+    fn ask_pair<'s, 'o>(
+        question: Question,
+        pair: Pair<'s, 'o, Self>,
+    ) -> Result<Option<SuppliedName<'s, 'o>>, PairRefusal>;
 
     /// What the subsection with an id holds.
     fn kind(id: u8) -> Kind {
@@ -34,6 +40,37 @@ pub trait Edition: wakemiono::Edition {
     }
 }
 
+/// Puts a question that both editions have; none of the others has an answer.
+macro_rules! ask_in_both {
+    ($question:expr, $asked:expr) => {
+        match $question {
+            Question::Module => $asked.module_name(),
+            Question::Function(function) => $asked.function_name(function),
+            Question::Local(function, local) => $asked.local_name(function, local),
+            Question::Type(type_) => $asked.type_name(type_),
+            Question::Field(type_, field) => $asked.field_name(type_, field),
+            Question::Tag(tag) => $asked.tag_name(tag),
+            Question::Kept(id) => Ok($asked.kept(id)?.map(Into::into)),
+            _ => Ok(None),
+        }
+    };
+}
+
+/// Puts a question of the wider edition.
+macro_rules! ask_in_wider {
+    ($question:expr, $asked:expr) => {
+        match $question {
+            Question::Label(function, label) => $asked.label_name(function, label),
+            Question::Table(table) => $asked.table_name(table),
+            Question::Memory(memory) => $asked.memory_name(memory),
+            Question::Global(global) => $asked.global_name(global),
+            Question::Element(element) => $asked.element_name(element),
+            Question::Data(data) => $asked.data_name(data),
+            other => ask_in_both!(other, $asked),
+        }
+    };
+}
+
 impl Edition for First {
     const KNOWN: &'static [(u8, Kind)] = &[
         (0, Kind::Module),
@@ -47,7 +84,14 @@ impl Edition for First {
     const IN_JSON: Option<&'static str> = None;
 
     fn ask<'a>(question: Question, module: Module<'a, First>) -> Result<Option<Name<'a>>, Refusal> {
-        ask_in_both(question, module)
+        ask_in_both!(question, module)
+    }
+
+    fn ask_pair<'s, 'o>(
+        question: Question,
+        pair: Pair<'s, 'o, First>,
+    ) -> Result<Option<SuppliedName<'s, 'o>>, PairRefusal> {
+        ask_in_both!(question, pair)
     }
 }
 
@@ -70,32 +114,14 @@ impl Edition for Wider {
     const IN_JSON: Option<&'static str> = Some("wider");
 
     fn ask<'a>(question: Question, module: Module<'a, Wider>) -> Result<Option<Name<'a>>, Refusal> {
-        match question {
-            Question::Label(function, label) => module.label_name(function, label),
-            Question::Table(table) => module.table_name(table),
-            Question::Memory(memory) => module.memory_name(memory),
-            Question::Global(global) => module.global_name(global),
-            Question::Element(element) => module.element_name(element),
-            Question::Data(data) => module.data_name(data),
-            _ => ask_in_both(question, module),
-        }
+        ask_in_wider!(question, module)
     }
-}
 
-/// Puts a question that both editions have; none of the others has an answer.
-fn ask_in_both<'a, E: Edition>(
-    question: Question,
-    module: Module<'a, E>,
-) -> Result<Option<Name<'a>>, Refusal> {
-    match question {
-        Question::Module => module.module_name(),
-        Question::Function(function) => module.function_name(function),
-        Question::Local(function, local) => module.local_name(function, local),
-        Question::Type(type_) => module.type_name(type_),
-        Question::Field(type_, field) => module.field_name(type_, field),
-        Question::Tag(tag) => module.tag_name(tag),
-        Question::Kept(id) => Ok(module.kept(id)?.map(Name::from)),
-        _ => Ok(None),
+    fn ask_pair<'s, 'o>(
+        question: Question,
+        pair: Pair<'s, 'o, Wider>,
+    ) -> Result<Option<SuppliedName<'s, 'o>>, PairRefusal> {
+        ask_in_wider!(question, pair)
     }
 }
 

@@ -7,21 +7,25 @@ wakemiono asks the metadata of a WebAssembly module: its sections, names and bra
 
 Usage: wakemiono COMMAND FILE [OPTIONS]
 
-  list FILE     the sections, and where names and branch hints lie
-  names FILE    all names
-  name FILE     one name
-  why FILE      why a function or a local has no name
-  hints FILE    all branch hints, of both editions
-  canon FILE    the canonical form of the name payload, or of hints of the older edition
-  same A B      whether two modules have the same names
-  judge FILE    whether the module, its names and its hints are accepted, and canonical
+  list FILE         the sections, and where names and branch hints lie
+  names FILE        all names
+  name FILE         one name
+  why FILE          why a function or a local has no name
+  hints FILE        all branch hints, of both editions
+  canon FILE        the canonical form of the name payload, or of hints of the older edition
+  join FILE NAMES   names that came apart from a module and its own, in one canonical payload
+  same A B          whether two modules have the same names
+  judge FILE        whether the module, its names and its hints are accepted, and canonical
 
 FILE may be - for standard input. `wakemiono COMMAND --help` says more of one command; --version
 says the version.
 
-Names are asked in their first edition. With --wide the commands names, name, why, canon, same and
-judge ask the wider one, which also has the names of labels, tables, memories, globals, element
+Names are asked in their first edition. With --wide the commands names, name, why, canon, join, same
+and judge ask the wider one, which also has the names of labels, tables, memories, globals, element
 segments and data segments.
+
+Names may travel beside a stripped module: names and name take them by --beside NAMES, and join makes
+one payload of them and the module's own.
 
 The exit status is 0 where there is an answer, even none; 1 for a refusal, or where two modules
 are not the same; 2 where the program cannot do what it is asked, and says why on standard error.
@@ -52,7 +56,7 @@ Example: wakemiono list app.wasm
 const NAMES: &str = "\
 Lists all names of a module.
 
-Usage: wakemiono names FILE [--kind KIND] [--wide] [--json]
+Usage: wakemiono names FILE [--kind KIND] [--beside NAMES] [--wide] [--json]
 
 Each line is `KIND INDICES OFFSET NAME`, in the order of the name section: no index for module; one
 for function, type, tag and kept; two for local (its function first) and field (its type first).
@@ -65,12 +69,22 @@ Each name is one question to the whole module, so that the time grows with the s
 number: on two processors 20,000 names took 3 seconds, and 50,000 took 16. --kind asks for fewer,
 and `wakemiono name` for one.
 
-  --kind KIND   only the names of a kind: module, function, type, tag, local, field or kept; with
-                --wide also table, memory, global, element, data or label
-  --wide        ask the wider edition of names
+  --kind KIND      only the names of a kind: module, function, type, tag, local, field or kept; with
+                   --wide also table, memory, global, element, data or label
+  --beside NAMES   ask names that came apart from the module, too: NAMES is a file that holds a name
+                   payload, or a module, whose name section is taken
+  --wide           ask the wider edition of names
+
+With --beside each line is `KIND INDICES WHOSE OFFSET NAME`. Where NAMES has a name, be it empty, it
+is `separate`, and the offset counts from the start of NAMES; else it is the module's `own`. Both are
+judged whole, NAMES first. FILE may be stripped, and then has no names of its own.
 
 Example: wakemiono names app.wasm --kind local
   local 3 0 35 x
+
+Example: wakemiono names app.wasm --kind function --beside app.names
+  function 0 own 24 a
+  function 3 separate 5 f
 
 Example: wakemiono names app.wasm --kind global --wide
   global 3 49 g
@@ -79,7 +93,7 @@ Example: wakemiono names app.wasm --kind global --wide
 const NAME: &str = "\
 Prints one name of a module, or none.
 
-Usage: wakemiono name FILE QUESTION [--wide] [--json]
+Usage: wakemiono name FILE QUESTION [--beside NAMES] [--wide] [--json]
 
   --module                  the module's name
   --function N              the name of function N
@@ -102,11 +116,17 @@ Numbers are decimal, or hexadecimal behind 0x. What is not printable in a name i
 that is itself none is shown as \\u{6e}one, so that `none` always means that there is no name. With
 --json no name is null.
 
+With --beside NAMES names that came apart from the module are asked first, as `wakemiono names --help`
+has it, and the line is `separate NAME`, `own NAME` or `none`.
+
 Example: wakemiono name app.wasm --function 3 --local 0
   x
 
 Example: wakemiono name app.wasm --global 3 --wide
   g
+
+Example: wakemiono name app.wasm --function 3 --beside app.names
+  separate f
 ";
 
 const WHY: &str = "\
@@ -178,6 +198,28 @@ Example: wakemiono canon app.wasm
   saves 2 (8.6 %)
 ";
 
+const JOIN: &str = "\
+Joins names that came apart from a module and the module's own in one canonical payload, which answers
+every question as `wakemiono names FILE --beside NAMES` does.
+
+Usage: wakemiono join FILE NAMES [-o OUT] [--wide] [--json]
+
+NAMES is a file that holds a name payload, or a module, whose name section is taken. FILE may be
+stripped. Where both have a name for something, that of NAMES is taken, even if it is empty.
+
+Without -o it prints how many bytes both payloads have, and how many the joined one would have.
+
+  -o OUT   write the joined payload to the file OUT, over what is there; - is standard output
+  --wide   join in the wider edition of names
+
+OUT is neither FILE nor NAMES. It is replaced as a whole, and stays as it was where that fails.
+
+Example: wakemiono join app.wasm app.names
+  separate 6
+  own 21
+  joined 21
+";
+
 const SAME: &str = "\
 Says whether the name payloads of two modules would share one entry: whether every question about
 names gets the same answer from both, which is whether their canonical payloads are equal.
@@ -228,6 +270,7 @@ pub const fn text(topic: Option<Topic>) -> &'static str {
         Some(Topic::Why) => WHY,
         Some(Topic::Hints) => HINTS,
         Some(Topic::Canon) => CANON,
+        Some(Topic::Join) => JOIN,
         Some(Topic::Same) => SAME,
         Some(Topic::Judge) => JUDGE,
     }

@@ -10,6 +10,7 @@
 #![deny(missing_docs)]
 
 mod arguments;
+mod beside;
 mod canonical;
 mod commands;
 mod dump;

@@ -11,14 +11,36 @@ use std::process;
 
 use crate::escape;
 use crate::input::STANDARD_STREAM;
-use crate::report::Failure;
+use crate::json::Json;
+use crate::report::{Failure, Report, Status};
 
 /// Paths by which the streams can be compared with files.
 const STANDARD_INPUT: &str = "/dev/stdin";
 const STANDARD_OUTPUT: &str = "/dev/stdout";
 
-/// Refuses an output that is the very file that is read, since the module in it would be lost.
-pub fn check_apart(input: &OsStr, out: &OsStr) -> Result<(), Failure> {
+/// What is read from a file.
+#[derive(Clone, Copy, Debug)]
+pub enum Read {
+    /// A module.
+    Module,
+    /// Names that came apart from a module.
+    Names,
+}
+
+impl Read {
+    const fn words(self) -> &'static str {
+        match self {
+            Read::Module => "the module",
+            Read::Names => "the file of names",
+        }
+    }
+}
+
+/// Refuses an output that is the very file that is read, since what is in it would be lost.
+pub fn check_apart(input: &OsStr, read: Read, out: Option<&OsStr>) -> Result<(), Failure> {
+    let Some(out) = out else {
+        return Ok(());
+    };
     let input = if input == STANDARD_STREAM {
         OsStr::new(STANDARD_INPUT)
     } else {
@@ -28,14 +50,42 @@ pub fn check_apart(input: &OsStr, out: &OsStr) -> Result<(), Failure> {
         return Ok(());
     }
     Err(Failure::Misuse(format!(
-        "{} is the module that is read, and would be lost: give another file behind -o.",
-        escape::quoted(out)
+        "{} is {} that is read, and would be lost: give another file behind -o.",
+        escape::quoted(out),
+        read.words()
     )))
+}
+
+/// Writes a payload where an output is given, and reports it: in JSON where there is some, and
+/// otherwise by the lines, which are left out where the payload was written.
+pub fn reported(
+    payload: Vec<u8>,
+    out: Option<&OsStr>,
+    json: Option<Json>,
+    lines: impl FnOnce() -> String,
+) -> Result<Report, Failure> {
+    if out == Some(OsStr::new(STANDARD_STREAM)) {
+        return Ok(Report::good(payload));
+    }
+    if let Some(out) = out {
+        write(out, &payload)?;
+    }
+    Ok(match (json, out) {
+        (Some(json), _) => Report::json(Status::Good, &json),
+        (None, Some(_)) => Report::good(""),
+        (None, None) => Report::good(lines()),
+    })
+}
+
+/// The member of a JSON object that says where a payload was written to.
+pub fn written_to(out: Option<&OsStr>) -> (&'static str, Json) {
+    let word = out.map(OsStr::to_string_lossy);
+    ("written_to", word.map_or(Json::Null, Json::text))
 }
 
 /// Writes bytes over what is there. Where that fails, a file is as it was, while a device or a pipe
 /// may have taken some of them.
-pub fn write(out: &OsStr, bytes: &[u8]) -> Result<(), Failure> {
+fn write(out: &OsStr, bytes: &[u8]) -> Result<(), Failure> {
     let path = Path::new(out);
     let target = Target::of(path);
     let keeps = match &target {

@@ -118,11 +118,7 @@ impl Question {
         module: Module<'a, E>,
     ) -> Result<Option<Answer<'a>>, Refusal> {
         let name = E::ask(*self, module)?;
-        Ok(name.map(|name| Answer {
-            lent: module.as_bytes(),
-            found: name,
-            is_text: self.kind() != Kind::Kept,
-        }))
+        Ok(name.map(|name| Answer::new(*self, module.as_bytes(), name)))
     }
 
     /// What it asks for.
@@ -190,12 +186,21 @@ pub struct Answer<'a> {
 }
 
 impl<'a> Answer<'a> {
+    /// The answer to a question, which was found in what was lent.
+    pub fn new(question: Question, lent: &'a [u8], found: Name<'a>) -> Answer<'a> {
+        Answer {
+            lent,
+            found,
+            is_text: question.kind() != Kind::Kept,
+        }
+    }
+
     /// The bytes that were found.
     pub fn bytes(&self) -> &'a [u8] {
         self.found.as_bytes()
     }
 
-    /// Where they lie in the module.
+    /// Where they lie in the file.
     pub fn offset(&self) -> usize {
         offset_in(self.lent, self.bytes()).expect("what is found lies in what was lent")
     }

@@ -19,7 +19,7 @@ pub struct Refused {
 }
 
 impl Refused {
-    /// The refusal of an input. Its offset counts from the start of the whole module.
+    /// The refusal of an input. Its offset counts from the start of the whole file.
     pub fn new<E: Edition>(input: &Input<E>, refusal: Refusal) -> Refused {
         let around = dump::around(input.bytes(), refusal.offset()).unwrap_or_default();
         Refused {
@@ -30,6 +30,11 @@ impl Refused {
             bytes_from: around.start,
             bytes: input.bytes()[around].to_vec(),
         }
+    }
+
+    /// The same with more to say first in JSON than the input itself says.
+    pub fn among(self, input: Vec<(&'static str, Json)>) -> Refused {
+        Refused { input, ..self }
     }
 
     /// The line that the listing format has for a refused module.

@@ -4,7 +4,7 @@ mod common;
 
 use std::fs;
 
-use common::{path, program, BARE, COMMANDS, MODULE, NO_SUCH_SECTION, WIDE};
+use common::{path, program, BARE, COMMANDS, MODULE, NAMES, NO_SUCH_SECTION, WIDE};
 
 const README: &str = include_str!("../README.md");
 
@@ -27,6 +27,7 @@ fn examples_print_what_they_say() {
         ("hinted.wasm", &hinted),
         ("bare.wasm", BARE),
         ("later.wasm", NO_SUCH_SECTION),
+        ("app.names", NAMES),
     ] {
         fs::write(format!("{folder}/{name}"), module).unwrap();
     }

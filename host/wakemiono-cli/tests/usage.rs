@@ -43,7 +43,7 @@ fn version() {
 }
 
 const LIST_OF_COMMANDS: &str =
-    "give one of list, names, name, why, hints, canon, same, judge; see `wakemiono --help`.";
+    "give one of list, names, name, why, hints, canon, join, same, judge; see `wakemiono --help`.";
 
 #[test]
 fn no_such_command() {

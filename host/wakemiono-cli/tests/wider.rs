@@ -167,6 +167,7 @@ fn what_only_the_wider_edition_refuses() {
         ("why", &["--function", "0"]),
         ("canon", &[]),
         ("same", &[module.as_str()]),
+        ("join", &[module.as_str()]),
     ] {
         let arguments = [&[command, &module], more].concat();
         assert_eq!(run(&arguments).status, 0, "{command}");

@@ -2,21 +2,29 @@
 
 use std::fmt;
 
+use crate::ffi::pairs::{PairAnswer, NOBODY, OWN, SEPARATE};
 use crate::ffi::{
     Answer, WhyAnswer, FOUND, LIKELY, NONE, NO_ENTRY, NO_GROUP, NO_SUBSECTION, REFUSED, UNLIKELY,
 };
-use crate::{Hint, Marked, Reason, Refusal, Section, Why};
+use crate::{
+    Hint, Marked, PairRefusal, Reason, Refusal, Section, Supplied, SuppliedBytes, Whose, Why,
+};
 
 impl Answer {
     /// The part of what was lent that was found, or none.
     pub(crate) fn part(self, lent: &[u8]) -> Result<Option<&[u8]>, Refusal> {
-        let part = || {
+        let found = self.is_found()?;
+        Ok(found.then(|| self.place(lent)))
+    }
+
+    /// Where something lies that was found.
+    fn place(self, lent: &[u8]) -> &[u8] {
+        let place = || {
             let from = usize::try_from(self.offset).ok()?;
             let length = usize::try_from(self.length).ok()?;
             lent.get(from..from.checked_add(length)?)
         };
-        let found = self.is_found()?;
-        Ok(found.then(|| part().unwrap_or_else(|| self.misfit())))
+        place().unwrap_or_else(|| self.misfit())
     }
 
     /// The same of a call on lists, whose refusals count other things than bytes.
@@ -119,6 +127,66 @@ impl WhyAnswer {
                 below: is_yes(self.has_below).then(|| self.below.into()),
                 above: is_yes(self.has_above).then(|| self.above.into()),
             }),
+            _ => misfit(self),
+        }
+    }
+}
+
+impl PairAnswer {
+    /// The part of one of two payloads that was found, or none.
+    pub(crate) fn part<'s, 'o>(
+        self,
+        separate: &'s [u8],
+        own: &'o [u8],
+    ) -> Result<Option<SuppliedBytes<'s, 'o>>, PairRefusal> {
+        let answer = self.alone();
+        let found = answer.is_found().map_err(|refusal| self.refused(refusal))?;
+        match (found, self.whose()) {
+            (false, None) => Ok(None),
+            (true, Some(Whose::Separate)) => Ok(Some(Supplied::Separate(answer.place(separate)))),
+            (true, Some(Whose::Own)) => Ok(Some(Supplied::Own(answer.place(own)))),
+            _ => misfit(self),
+        }
+    }
+
+    /// How many bytes of a joined payload were written into an output of a length.
+    pub(crate) fn written(self, out_len: usize) -> Result<usize, PairRefusal> {
+        let written = self.alone().written(out_len);
+        let written = written.map_err(|refusal| self.refused(refusal))?;
+        match self.whose() {
+            None => Ok(written),
+            Some(_) => misfit(self),
+        }
+    }
+
+    /// The same without whose it is.
+    fn alone(self) -> Answer {
+        Answer {
+            kind: self.kind,
+            code: self.code,
+            offset: self.offset,
+            length: self.length,
+        }
+    }
+
+    fn whose(self) -> Option<Whose> {
+        match self.whose {
+            NOBODY => None,
+            SEPARATE => Some(Whose::Separate),
+            OWN => Some(Whose::Own),
+            _ => misfit(self),
+        }
+    }
+
+    /// No payload that is lent is refused for what only a joined one can be, nor the other way round.
+    fn refused(self, refusal: Refusal) -> PairRefusal {
+        let only_of_joined = matches!(
+            refusal.reason(),
+            Reason::SubsectionTooLong | Reason::OutputTooShort
+        );
+        match self.whose() {
+            Some(whose) if !only_of_joined => PairRefusal::of(whose, refusal),
+            None if only_of_joined => PairRefusal::of_joined(refusal),
             _ => misfit(self),
         }
     }
@@ -333,6 +401,85 @@ mod tests {
     #[should_panic(expected = "is it of another version?")]
     fn no_why_is_refused_with_the_number_16() {
         let _ = of_function(why(REFUSED, 16));
+    }
+
+    const LENT: [u8; 4] = [1, 2, 3, 4];
+
+    fn of_pair(kind: u32, code: u32, offset: u64, length: u64, whose: u64) -> PairAnswer {
+        PairAnswer {
+            kind,
+            code,
+            offset,
+            length,
+            whose,
+        }
+    }
+
+    #[test]
+    fn a_part_is_of_the_payload_that_is_said() {
+        let part = |answer: PairAnswer| answer.part(&LENT[..2], &LENT).unwrap();
+        let of_separate = part(of_pair(FOUND, 0, 1, 1, SEPARATE));
+        assert_eq!(of_separate, Some(Supplied::Separate(&LENT[1..2])));
+        let of_own = part(of_pair(FOUND, 0, 1, 3, OWN));
+        assert_eq!(of_own, Some(Supplied::Own(&LENT[1..])));
+        assert_eq!(part(of_pair(NONE, 0, 0, 0, NOBODY)), None);
+    }
+
+    #[test]
+    fn a_refusal_is_of_the_payload_that_is_said() {
+        for (whose, said) in [(SEPARATE, Whose::Separate), (OWN, Whose::Own)] {
+            let refused = of_pair(REFUSED, 11, 5, 0, whose);
+            let refusal = PairRefusal::of(said, answer(REFUSED, 11, 5, 0).refusal());
+            assert_eq!(refused.part(&LENT, &LENT), Err(refusal));
+            assert_eq!(refused.written(9), Err(refusal));
+        }
+        for code in [13, 15] {
+            let refusal = of_pair(REFUSED, code, 5, 0, NOBODY).written(4).unwrap_err();
+            assert_eq!((refusal.whose(), refusal.refusal().number()), (None, code));
+        }
+        assert_eq!(of_pair(FOUND, 0, 0, 4, NOBODY).written(4), Ok(4));
+    }
+
+    #[test]
+    #[should_panic(expected = "is it of another version?")]
+    fn a_part_beyond_its_own_payload_is_a_misfit() {
+        let _ = of_pair(FOUND, 0, 1, 3, SEPARATE).part(&LENT[..2], &LENT);
+    }
+
+    #[test]
+    #[should_panic(expected = "is it of another version?")]
+    fn what_is_found_is_somebodys() {
+        let _ = of_pair(FOUND, 0, 1, 1, NOBODY).part(&LENT, &LENT);
+    }
+
+    #[test]
+    #[should_panic(expected = "is it of another version?")]
+    fn no_name_is_nobodys() {
+        let _ = of_pair(NONE, 0, 0, 0, OWN).part(&LENT, &LENT);
+    }
+
+    #[test]
+    #[should_panic(expected = "is it of another version?")]
+    fn there_are_two_payloads() {
+        let _ = of_pair(FOUND, 0, 1, 1, 3).part(&LENT, &LENT);
+    }
+
+    #[test]
+    #[should_panic(expected = "is it of another version?")]
+    fn what_is_joined_is_nobodys() {
+        let _ = of_pair(FOUND, 0, 0, 4, SEPARATE).written(4);
+    }
+
+    #[test]
+    #[should_panic(expected = "is it of another version?")]
+    fn a_damaged_payload_is_somebodys() {
+        let _ = of_pair(REFUSED, 11, 5, 0, NOBODY).written(4);
+    }
+
+    #[test]
+    #[should_panic(expected = "is it of another version?")]
+    fn an_output_that_is_too_short_is_nobodys() {
+        let _ = of_pair(REFUSED, 13, 5, 0, OWN).written(4);
     }
 
     #[test]

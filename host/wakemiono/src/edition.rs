@@ -1,5 +1,6 @@
 //! The editions of names.
 
+use crate::ffi::pairs::PairCalls;
 use crate::ffi::NameCalls;
 
 /// An edition of names: the subsections of a `name` section that are known and read as names. All
@@ -32,7 +33,7 @@ use crate::ffi::NameCalls;
 ///
 /// same(NamePayload::new(&[]), NamePayload::wider(&[]));
 /// ```
-pub trait Edition: NameCalls + Copy + Send + Sync + 'static {}
+pub trait Edition: NameCalls + PairCalls + Copy + Send + Sync + 'static {}
 
 /// The first edition of names. It knows six ids: the module's name (0), functions (1), locals (2),
 /// types (4), fields (10) and tags (11).

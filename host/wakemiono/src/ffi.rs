@@ -1,4 +1,5 @@
-//! The C calls, each behind a safe function on slices. All `unsafe` code of this crate stands here.
+//! The C calls, each behind a safe function on slices. All `unsafe` code of this crate stands here,
+//! and, of the calls on two name payloads, in [`pairs`].
 //!
 //! What every block relies on, as the header `wakemiono.h` states it:
 //!
@@ -9,6 +10,8 @@
 //! - **output**: `&mut` is the only way to what lies there during the call, so no lent slice and no
 //!   other output overlaps it. A call stores into its outputs and nowhere else, and stores bytes or
 //!   numbers, of which any is a `u8` or a `u32`.
+
+pub(crate) mod pairs;
 
 use crate::{First, FunctionIndex, Wider};
 

@@ -28,6 +28,9 @@
 //! [`NamePayload::markers`], and asks [`Markers::quick`] from then on, which reads sixteen entries
 //! where [`NamePayload::function_name`] reads all.
 //!
+//! Names may travel beside a stripped module. [`Module::names_beside`] makes one [`Pair`] of them and
+//! the module's own, which has the same questions and can be joined into one payload.
+//!
 //! Branch hints have two editions as well, which stand in sections of two names and count offsets
 //! from two places. A module may carry both: [`Module::hint`] asks the one, with a [`CodeOffset`],
 //! and [`Module::old_hint`] the older, with an [`InstructionOffset`].
@@ -57,7 +60,9 @@ mod module;
 mod name;
 mod name_payload;
 mod old_hints;
+mod pair;
 mod refusal;
+mod whose;
 mod why;
 mod wider;
 
@@ -73,7 +78,9 @@ pub use module::{Module, Section, Sections};
 pub use name::Name;
 pub use name_payload::NamePayload;
 pub use old_hints::OldHints;
+pub use pair::Pair;
 pub use refusal::{Reason, Refusal};
+pub use whose::{PairRefusal, Supplied, SuppliedBytes, SuppliedName, Whose};
 pub use why::Why;
 
 /// Where a part that was found lies in the bytes that were lent, as an offset from their start;
@@ -96,10 +103,10 @@ pub fn offset_in(lent: &[u8], part: &[u8]) -> Option<usize> {
 }
 
 /// What is written into an output of a length that is enough, and no more than that.
-fn to_vec(
+fn to_vec<Refused>(
     enough: usize,
-    write: impl FnOnce(&mut [u8]) -> Result<usize, Refusal>,
-) -> Result<Vec<u8>, Refusal> {
+    write: impl FnOnce(&mut [u8]) -> Result<usize, Refused>,
+) -> Result<Vec<u8>, Refused> {
     let mut out = vec![0; enough];
     let length = write(&mut out)?;
     out.truncate(length);

@@ -4,10 +4,12 @@
 
 mod common;
 
-use common::{custom, module, AllQuestions, Asked, EVERY_ID, HINTS_NAME, ONLY_WIDER, P, SMALL};
+use common::{
+    custom, module, AllQuestions, Asked, PairAsked, EVERY_ID, HINTS_NAME, ONLY_WIDER, P, SMALL,
+};
 use wakemiono::{
     offset_in, CodeOffset, First, FunctionIndex, Hints, LocalIndex, Marked, Metadata, Module, Name,
-    NamePayload, Refusal, Why, Wider,
+    NamePayload, Pair, PairRefusal, Refusal, SuppliedName, Whose, Why, Wider,
 };
 
 type Answers<'a> = Vec<Option<&'a [u8]>>;
@@ -130,9 +132,69 @@ fn markers_agree(bytes: &[u8]) {
     }
 }
 
+/// What a question gets from a pair, as whose it is and what: a name, or a refusal.
+type Said<'a> = Result<Option<(Whose, Name<'a>)>, (Option<Whose>, Refusal)>;
+
+/// What a pair is to say, by what both payloads say alone.
+fn said_by_two<'a>(separate: Asked<'a>, own: Asked<'a>) -> Said<'a> {
+    let of = |whose| move |refusal| (Some(whose), refusal);
+    let separate = separate.map_err(of(Whose::Separate))?;
+    let own = own.map_err(of(Whose::Own))?;
+    let supplied = separate.map(|name| (Whose::Separate, name));
+    Ok(supplied.or(own.map(|name| (Whose::Own, name))))
+}
+
+fn said_by_pair<'a>(answer: PairAsked<'a, 'a>) -> Said<'a> {
+    let refused = |refused: PairRefusal| (refused.whose(), refused.refusal());
+    let name = answer.map_err(refused)?;
+    Ok(name.map(|name| (name.whose(), name.into_inner())))
+}
+
+/// Every question to a pair is answered by the two payloads, and the joined one answers as the pair.
+fn pair_agrees<E: AllQuestions>(separate: &[u8], own: &[u8]) {
+    let in_edition = NamePayload::<E>::in_edition;
+    let pair = Pair::new(in_edition(separate), in_edition(own));
+    let joined = pair.to_joined();
+    assert_eq!(joined.as_ref().map(drop), pair.judge().as_ref().copied());
+    for (one, two) in ASKED_THROUGH {
+        let id = one as u8;
+        let asked_alone = |bytes| {
+            let payload = in_edition(bytes);
+            with_kept(E::names(payload, one, two), payload.kept(id))
+        };
+        let kept = pair.kept(id).map(|kept| kept.map(SuppliedName::from));
+        let asked = E::of_pair(pair, one, two).into_iter().chain([kept]);
+        let said: Vec<Said<'_>> = asked.map(said_by_pair).collect();
+        let alone = asked_alone(separate).into_iter().zip(asked_alone(own));
+        let by_two: Vec<Said<'_>> = alone.map(|(one, other)| said_by_two(one, other)).collect();
+        assert_eq!(said, by_two);
+        if let Ok(joined) = &joined {
+            let names = said
+                .into_iter()
+                .map(|said| said.unwrap().map(|(_, name)| name));
+            assert!(names.eq(asked_alone(joined).into_iter().map(Result::unwrap)));
+        }
+    }
+}
+
+/// The bytes on each side of a payload that has every name, of themselves, and of nothing.
+fn pairs_agree<E: AllQuestions>(bytes: &[u8]) {
+    pair_agrees::<E>(bytes, &EVERY_ID);
+    pair_agrees::<E>(&EVERY_ID, bytes);
+    pair_agrees::<E>(bytes, bytes);
+    let payload = NamePayload::<E>::in_edition(bytes);
+    let nothing = NamePayload::in_edition(&[]);
+    for pair in [Pair::new(payload, nothing), Pair::new(nothing, payload)] {
+        let joined = pair.to_joined().map_err(|refused| refused.refusal());
+        assert_eq!(joined, payload.to_canonical());
+    }
+}
+
 fn names_agree_in_both(bytes: &[u8]) {
     names_agree::<First>(bytes);
     names_agree::<Wider>(bytes);
+    pairs_agree::<First>(bytes);
+    pairs_agree::<Wider>(bytes);
     editions_agree(bytes);
     reasons_agree(bytes);
     markers_agree(bytes);
@@ -355,6 +417,14 @@ fn nothing_at_all_by_markers() {
     assert_eq!(payload.markers_into(&mut [], &mut []), Ok(no_markers));
     let name = payload.quick_function_name(&[], &[], 0, FunctionIndex(0));
     assert_eq!(name, Ok(None));
+}
+
+#[test]
+fn nothing_at_all_in_pairs() {
+    let (first, wider) = (NamePayload::new(&[]), NamePayload::wider(&[]));
+    assert_eq!(Pair::new(first, first).join_into(&mut []), Ok(0));
+    assert_eq!(Pair::new(wider, wider).join_into(&mut []), Ok(0));
+    assert_eq!(Pair::new(wider, wider).kept(12), Ok(None));
 }
 
 #[test]

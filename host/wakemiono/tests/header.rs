@@ -2,7 +2,10 @@
 //! compiler sees both.
 
 const HEADER: &str = include_str!("../../../include/wakemiono.h");
-const DECLARED: &str = include_str!("../src/ffi.rs");
+const DECLARED: &str = concat!(
+    include_str!("../src/ffi.rs"),
+    include_str!("../src/ffi/pairs.rs")
+);
 
 /// What stands between two marks, the first time that the opening one occurs.
 fn between<'a>(text: &'a str, opening: &str, closing: &str) -> &'a str {
@@ -43,6 +46,7 @@ fn answer(c: &str) -> &'static str {
     match c {
         "wm_answer" => "Answer",
         "wm_why" => "WhyAnswer",
+        "wm_pair_answer" => "PairAnswer",
         "uint32_t" => "u32",
         other => panic!("the header has an answer that is not known here: {other}"),
     }
@@ -67,10 +71,11 @@ fn in_header() -> Vec<String> {
 }
 
 fn in_crate() -> Vec<String> {
-    let declared = between(DECLARED, "extern \"C\" {", "\n}");
+    let blocks = DECLARED.split("extern \"C\" {").skip(1);
+    let declared = blocks.map(|block| block.split_once("\n}").expect("it ends").0);
     let words = |call: &str| call.split_whitespace().collect::<Vec<&str>>().join(" ");
     let calls = declared
-        .split(';')
+        .flat_map(|calls| calls.split(';'))
         .map(words)
         .filter(|call| !call.is_empty());
     calls
@@ -81,7 +86,7 @@ fn in_crate() -> Vec<String> {
 #[test]
 fn every_call_is_declared_as_the_header_has_it() {
     assert_eq!(in_crate(), in_header());
-    assert_eq!(in_crate().len(), 69);
+    assert_eq!(in_crate().len(), 91);
 }
 
 /// The fields of a struct of the header, as Rust declares them.
@@ -100,12 +105,21 @@ fn the_answers_are_declared_as_the_header_has_them() {
     for (c, rust) in [
         ("} wm_answer;", "struct Answer {"),
         ("} wm_why;", "struct WhyAnswer {"),
+        ("} wm_pair_answer;", "struct PairAnswer {"),
     ] {
         let fields = fields(c);
         let declared = between(DECLARED, rust, "}").replace("pub(crate) ", "");
         let declared: Vec<&str> = declared.split_terminator(',').map(str::trim).collect();
         assert_eq!(declared[..fields.len()], fields);
         assert_eq!(declared[fields.len()..].concat(), "");
+    }
+}
+
+/// The type of the field that has a number of the header, by its name.
+fn field_type(name: &str) -> &'static str {
+    match name {
+        "NOBODY" | "SEPARATE" | "OWN" => "u64",
+        _ => "u32",
     }
 }
 
@@ -117,7 +131,8 @@ fn the_kinds_are_numbered_as_the_header_has_it() {
         .map(|kind| {
             let (name, number) = kind.split_once(" = ").expect("a kind has a number");
             let name = name.trim().trim_start_matches("WM_");
-            format!("pub(crate) const {name}: u32 = {};", number.trim())
+            let of = field_type(name);
+            format!("pub(crate) const {name}: {of} = {};", number.trim())
         })
         .collect();
     let declared = DECLARED

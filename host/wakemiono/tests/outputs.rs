@@ -3,7 +3,10 @@
 mod common;
 
 use common::{refused, EVERY_ID, P};
-use wakemiono::{function_names_into, FunctionIndex, Hints, Metadata, NamePayload, Refusal};
+use wakemiono::{
+    function_names_into, Edition, First, FunctionIndex, Hints, Metadata, NamePayload, Pair,
+    Refusal, Wider,
+};
 
 const GUARD: usize = 16;
 const UNTOUCHED: u8 = 0xA5;
@@ -78,6 +81,26 @@ fn names_of_the_wider_edition_are_rewritten_between_guards() {
     });
 }
 
+/// Joins into an output. Whose a refusal is, is not what is tried here.
+fn join<E: Edition>(separate: &[u8], own: &[u8], out: &mut [u8]) -> Result<usize, Refusal> {
+    let in_edition = NamePayload::<E>::in_edition;
+    let joined = Pair::new(in_edition(separate), in_edition(own)).join_into(out);
+    joined.map_err(|refused| refused.refusal())
+}
+
+#[test]
+fn pairs_are_joined_between_guards() {
+    let padded = [0x01, 0x85, 0x00, 0x01, 0x00, 0x81, 0x00, 0x61];
+    let other = [0x01, 0x04, 0x01, 0x03, 0x01, 0x62];
+    let joined = [0x01, 0x07, 0x02, 0x00, 0x01, 0x61, 0x03, 0x01, 0x62];
+    writes(&joined, |out| join::<First>(&padded, &other, out));
+    writes(&joined, |out| join::<Wider>(&other, &padded, out));
+    writes(&P, |out| join::<First>(&P, &P, out));
+    writes(&EVERY_ID, |out| join::<Wider>(&EVERY_ID, &P[..4], out));
+    writes(&[], |out| join::<First>(&[0x01, 0x01, 0x00], &[], out));
+    writes(&[], |out| join::<Wider>(&[], &[0x07, 0x01, 0x00], out));
+}
+
 #[test]
 fn metadata_and_hints_are_rewritten_between_guards() {
     let padded = [
@@ -112,6 +135,10 @@ fn a_refusal_writes_nothing() {
     refuses((11, 8), |out| {
         NamePayload::wider(&labels_fall).canonical_into(out)
     });
+    let left_over = [0x01, 0x02, 0x00, 0x00];
+    refuses((10, 3), |out| join::<First>(&left_over, &P, out));
+    refuses((10, 3), |out| join::<First>(&P, &left_over, out));
+    refuses((11, 8), |out| join::<Wider>(&EVERY_ID, &labels_fall, out));
     refuses((2, 0), |out| Metadata::new(&[]).canonical_into(out));
     refuses((12, 4), |out| {
         Hints::new(&[0x01, 0x02, 0x01, 0x05, 0x01, 0x02]).canonical_into(out)

@@ -9,7 +9,7 @@ use std::path::Path;
 use common::{custom, module, section, HINTS_NAME};
 use wakemiono::{
     function_names, function_names_into, FunctionIndex, Hints, Metadata, Module, NamePayload,
-    OldHints, Reason, Refusal,
+    OldHints, Pair, PairRefusal, Reason, Refusal, Whose,
 };
 
 #[track_caller]
@@ -175,6 +175,48 @@ fn of_markers() {
         payload.markers_into(&mut [], &mut [0]),
         Reason::OutputTooShort,
         "the output is shorter than needed: the needed length is 1",
+    );
+}
+
+#[test]
+fn of_pairs() {
+    let (accepted, left_over) = (
+        NamePayload::new(&[0x00, 0x02, 0x01, 0x6D]),
+        NamePayload::new(&[0x01, 0x02, 0x00, 0x00]),
+    );
+    let said = |separate, own| Pair::new(separate, own).module_name().unwrap_err();
+    let sentence =
+        "bytes are left over in a subsection, in metadata or in hints: the first of them \
+                    stands at byte 0x3 (3)";
+    assert_eq!(
+        said(left_over, accepted).to_string(),
+        format!("the separate payload: {sentence}")
+    );
+    assert_eq!(
+        said(accepted, left_over).to_string(),
+        format!("the module's own payload: {sentence}")
+    );
+    let too_short = Pair::new(accepted, accepted).join_into(&mut [0; 3]);
+    assert_eq!(
+        too_short.unwrap_err().to_string(),
+        "the joined payload: the output is shorter than needed: the needed length is 4"
+    );
+}
+
+#[test]
+fn of_pairs_as_errors() {
+    fn judged(separate: &[u8], own: &[u8]) -> Result<(), Box<dyn Error + Send + Sync>> {
+        Pair::new(NamePayload::new(separate), NamePayload::new(own)).judge()?;
+        Ok(())
+    }
+    let error = judged(&[], &[0x01, 0x02, 0x00, 0x00]).unwrap_err();
+    let refused = error
+        .downcast_ref::<PairRefusal>()
+        .expect("the error is the refusal of a pair");
+    assert_eq!(refused.whose(), Some(Whose::Own));
+    assert_eq!(
+        (refused.refusal().number(), refused.refusal().offset()),
+        (10, 3)
     );
 }
 

@@ -3,7 +3,7 @@
 use second_reader::*;
 
 /// A question to a name payload: by the id of the subsection, and the indices in it.
-#[derive(Clone, Copy, Debug)]
+#[derive(Clone, Copy, Debug, PartialEq, Eq)]
 pub enum Question {
     Module,
     Flat(u8, u32),
@@ -22,6 +22,8 @@ pub struct Edition {
     pub ask_in: fn(&[u8], Question) -> Answer,
     pub rewrite: fn(&[u8], &mut [u8]) -> Answer,
     pub is_canonical: fn(&[u8]) -> bool,
+    pub ask_pair: fn(&[u8], &[u8], Question) -> PairAnswer,
+    pub join: fn(&[u8], &[u8], &mut [u8]) -> PairAnswer,
 }
 
 pub const FIRST: Edition = Edition {
@@ -32,6 +34,8 @@ pub const FIRST: Edition = Edition {
     ask_in: ask_first_in,
     rewrite: names_canonical,
     is_canonical: names_is_canonical,
+    ask_pair: ask_first_pair,
+    join: pair_join,
 };
 
 pub const WIDER: Edition = Edition {
@@ -42,6 +46,8 @@ pub const WIDER: Edition = Edition {
     ask_in: ask_wider_in,
     rewrite: wide_names_canonical,
     is_canonical: wide_names_is_canonical,
+    ask_pair: ask_wider_pair,
+    join: wide_pair_join,
 };
 
 pub const EDITIONS: [Edition; 2] = [FIRST, WIDER];
@@ -106,6 +112,38 @@ fn ask_wider_in(module: &[u8], question: Question) -> Answer {
         Question::Nested(3, primary, index) => wide_label_name_in(module, primary, index),
         Question::Nested(10, primary, index) => wide_field_name_in(module, primary, index),
         Question::Kept(id) => wide_kept_in(module, id),
+        other => panic!("no question of the wider edition: {other:?}"),
+    }
+}
+
+fn ask_first_pair(separate: &[u8], own: &[u8], question: Question) -> PairAnswer {
+    match question {
+        Question::Module => pair_module_name(separate, own),
+        Question::Flat(1, index) => pair_function_name(separate, own, index),
+        Question::Flat(4, index) => pair_type_name(separate, own, index),
+        Question::Flat(11, index) => pair_tag_name(separate, own, index),
+        Question::Nested(2, primary, index) => pair_local_name(separate, own, primary, index),
+        Question::Nested(10, primary, index) => pair_field_name(separate, own, primary, index),
+        Question::Kept(id) => pair_kept(separate, own, id),
+        other => panic!("no question of the first edition: {other:?}"),
+    }
+}
+
+fn ask_wider_pair(separate: &[u8], own: &[u8], question: Question) -> PairAnswer {
+    match question {
+        Question::Module => wide_pair_module_name(separate, own),
+        Question::Flat(1, index) => wide_pair_function_name(separate, own, index),
+        Question::Flat(4, index) => wide_pair_type_name(separate, own, index),
+        Question::Flat(5, index) => wide_pair_table_name(separate, own, index),
+        Question::Flat(6, index) => wide_pair_memory_name(separate, own, index),
+        Question::Flat(7, index) => wide_pair_global_name(separate, own, index),
+        Question::Flat(8, index) => wide_pair_element_name(separate, own, index),
+        Question::Flat(9, index) => wide_pair_data_name(separate, own, index),
+        Question::Flat(11, index) => wide_pair_tag_name(separate, own, index),
+        Question::Nested(2, primary, index) => wide_pair_local_name(separate, own, primary, index),
+        Question::Nested(3, primary, index) => wide_pair_label_name(separate, own, primary, index),
+        Question::Nested(10, primary, index) => wide_pair_field_name(separate, own, primary, index),
+        Question::Kept(id) => wide_pair_kept(separate, own, id),
         other => panic!("no question of the wider edition: {other:?}"),
     }
 }

@@ -12,6 +12,7 @@ pub type Flat = Vec<(u32, Vec<u8>)>;
 /// A list of (number, flat list): an indirect map, or a metadata payload.
 pub type Nested = Vec<(u32, Flat)>;
 
+#[derive(Clone)]
 pub enum Contents {
     Module(Vec<u8>),
     Map(Flat),

@@ -7,7 +7,8 @@ pub mod editions;
 pub mod inputs;
 pub mod random;
 
-use second_reader::{markers, quick_function_name, Answer, Kind, Why};
+use editions::Edition;
+use second_reader::{markers, quick_function_name, Answer, Kind, PairAnswer, Whose, Why};
 
 pub const PREAMBLE: &[u8] = b"\0asm\x01\0\0\0";
 
@@ -87,10 +88,40 @@ pub const fn why_refused(code: u32, offset: u64) -> Why {
     }
 }
 
+/// The answer of two payloads that is one's, or nobody's.
+pub const fn of(whose: Whose, answer: Answer) -> PairAnswer {
+    PairAnswer {
+        kind: answer.kind,
+        code: answer.code,
+        offset: answer.offset,
+        length: answer.length,
+        whose,
+    }
+}
+
+/// What two payloads are to answer, by what each of them answers alone.
+pub fn of_two(separate: Answer, own: Answer) -> PairAnswer {
+    let answers = [(Whose::Separate, separate), (Whose::Own, own)];
+    let refused = answers.iter().find(|(_, it)| it.kind == Kind::Refused);
+    let found = answers.iter().find(|(_, it)| it.kind == Kind::Found);
+    let (whose, answer) = refused.or(found).unwrap_or(&(Whose::Nobody, NONE));
+    of(*whose, *answer)
+}
+
 /// The bytes that an answer points to, or none where it is not a found one.
 pub fn bytes_of(lent: &[u8], answer: Answer) -> Option<&[u8]> {
     let start = answer.offset as usize;
     (answer.kind == Kind::Found).then(|| &lent[start..start + answer.length as usize])
+}
+
+/// The bytes that an answer of two payloads points to, in the one that supplied them.
+pub fn bytes_of_pair<'a>(separate: &'a [u8], own: &'a [u8], said: PairAnswer) -> Option<&'a [u8]> {
+    let lent = match said.whose {
+        Whose::Nobody => return None,
+        Whose::Separate => separate,
+        Whose::Own => own,
+    };
+    bytes_of(lent, answer(said.kind, said.code, said.offset, said.length))
 }
 
 /// What a rewriting writes, or its refusal. Around what is written the output must stay as it was.
@@ -118,6 +149,25 @@ pub fn written(write: impl Fn(&mut [u8]) -> Answer, room: usize) -> Result<Vec<u
     check_room(&write, length, UNTOUCHED);
     out.truncate(length);
     Ok(out)
+}
+
+/// What is joined of two payloads, or the refusal of one of them, whatever the output.
+pub fn joined(edition: &Edition, separate: &[u8], own: &[u8]) -> Result<Vec<u8>, PairAnswer> {
+    let join = |out: &mut [u8]| (edition.join)(separate, own, out);
+    let write = |out: &mut [u8]| {
+        let PairAnswer {
+            kind,
+            code,
+            offset,
+            length,
+            whose,
+        } = join(out);
+        let of_a_payload = kind == Kind::Refused && code != 13;
+        assert_eq!(whose != Whose::Nobody, of_a_payload);
+        answer(kind, code, offset, length)
+    };
+    let joined = written(write, separate.len() + own.len() + 1);
+    joined.map_err(|_| join(&mut []))
 }
 
 /// Exactly enough room is enough; one byte less is refusal 13, gives the needed length and writes

@@ -2,12 +2,12 @@
 
 use wakemiono::{FunctionIndex, LocalIndex};
 
-use super::{add_wide, may_be_asked};
+use super::{add_wide, may_be_asked, BESIDE};
 use crate::escape;
 use crate::options::Given;
 use crate::question::{Kind, Question};
 
-/// The options that a number follows.
+/// The options of `name` that a value follows: the numbers that are asked for, and the file of names.
 pub const OPTIONS: &[&str] = &[
     "--function",
     "--local",
@@ -21,6 +21,7 @@ pub const OPTIONS: &[&str] = &[
     "--element",
     "--data",
     "--kept",
+    BESIDE,
 ];
 
 /// Those of them that say what lies within something else, and within what.

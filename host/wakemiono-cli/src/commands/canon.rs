@@ -5,15 +5,15 @@ use std::ffi::OsStr;
 use wakemiono::First;
 
 use crate::edition::Edition;
-use crate::input::{Input, STANDARD_STREAM};
+use crate::input::Input;
 use crate::json::Json;
-use crate::output;
+use crate::output::{self, Read};
 use crate::payloads;
-use crate::report::{Failure, Report, Status};
+use crate::report::{Failure, Report};
 
 /// Rewrites the name payload: writes it where an output is given, and says what it saves otherwise.
 pub fn names<E: Edition>(file: &OsStr, out: Option<&OsStr>, json: bool) -> Result<Report, Failure> {
-    check_apart(file, out)?;
+    output::check_apart(file, Read::Module, out)?;
     let input = &Input::<E>::read(file)?;
     let payload = input.accepted(payloads::names(input.module()))?;
     let judged = payload.map(|payload| (payload.as_bytes(), payload.is_canonical()));
@@ -28,7 +28,7 @@ pub fn names<E: Edition>(file: &OsStr, out: Option<&OsStr>, json: bool) -> Resul
 
 /// The same for hints of the older edition.
 pub fn old_hints(file: &OsStr, out: Option<&OsStr>, json: bool) -> Result<Report, Failure> {
-    check_apart(file, out)?;
+    output::check_apart(file, Read::Module, out)?;
     let input = &Input::<First>::read(file)?;
     let payload = input.accepted(payloads::old_hints(input.module()))?;
     let judged = payload.map(|payload| (payload.as_bytes(), payload.is_canonical()));
@@ -42,10 +42,6 @@ pub fn old_hints(file: &OsStr, out: Option<&OsStr>, json: bool) -> Result<Report
                   one byte 00, that of no hints.\n",
     };
     rewriting.reported(out, json)
-}
-
-fn check_apart(file: &OsStr, out: Option<&OsStr>) -> Result<(), Failure> {
-    out.map_or(Ok(()), |out| output::check_apart(file, out))
 }
 
 /// A payload and its canonical form.
@@ -66,22 +62,10 @@ impl Rewriting<'_> {
             None => self.without,
         };
         let saving = Saving::of(self.of, &self.canonical);
-        if out == Some(OsStr::new(STANDARD_STREAM)) {
-            return Ok(Report::good(self.canonical).saying(note));
-        }
-        if let Some(out) = out {
-            output::write(out, &self.canonical)?;
-        }
-        if json {
-            let document = document(self.members, &saving, out);
-            return Ok(Report::json(Status::Good, &document));
-        }
-        let lines = if out.is_some() {
-            String::new()
-        } else {
-            saving.lines()
-        };
-        Ok(Report::good(lines).saying(note))
+        let document = json.then(|| document(self.members, &saving, out));
+        let report = output::reported(self.canonical, out, document, || saving.lines())?;
+        // JSON says it by itself.
+        Ok(if json { report } else { report.saying(note) })
     }
 }
 
@@ -131,7 +115,6 @@ impl Saving {
 }
 
 fn document(members: Vec<(&'static str, Json)>, saving: &Saving, out: Option<&OsStr>) -> Json {
-    let written = out.map_or(Json::Null, |out| Json::text(out.to_string_lossy()));
     let said = vec![
         ("section", Json::Bool(saving.is_canonical.is_some())),
         (
@@ -141,7 +124,7 @@ fn document(members: Vec<(&'static str, Json)>, saving: &Saving, out: Option<&Os
         ("before", Json::size(saving.before)),
         ("after", Json::size(saving.after)),
         ("saves", Json::size(saving.saved())),
-        ("written_to", written),
+        output::written_to(out),
     ];
     Json::Object([members, said].concat())
 }

@@ -3,6 +3,7 @@
 
 mod canon;
 mod hints;
+mod join;
 mod judge;
 mod list;
 mod name;
@@ -13,6 +14,7 @@ mod why;
 use wakemiono::{First, Wider};
 
 use crate::arguments::Command;
+use crate::beside::Beside;
 use crate::edition::Edition;
 use crate::input::Input;
 use crate::report::{Failure, Report};
@@ -30,13 +32,20 @@ fn run_in<E: Edition>(command: &Command, json: bool) -> Result<Report, Failure> 
     match command {
         Command::List(file) => list::run(&Input::read(file)?, json),
         Command::Names(file, kind) => names::run(&Input::<E>::read(file)?, *kind, json),
+        Command::NamesBeside(file, names, kind) => {
+            names::run_beside(&Beside::<E>::read(file, names)?, *kind, json)
+        }
         Command::Name(file, question) => name::run(&Input::<E>::read(file)?, *question, json),
+        Command::NameBeside(file, names, question) => {
+            name::run_beside(&Beside::<E>::read(file, names)?, *question, json)
+        }
         Command::Why(file, function, local) => {
             why::run(&Input::<E>::read(file)?, *function, *local, json)
         }
         Command::Hints(file) => hints::run(&Input::read(file)?, json),
         Command::Canon(file, out) => canon::names::<E>(file, out.as_deref(), json),
         Command::CanonOldHints(file, out) => canon::old_hints(file, out.as_deref(), json),
+        Command::Join(file, names, out) => join::run::<E>(file, names, out.as_deref(), json),
         Command::Same(a, b) => same::run(&Input::<E>::read(a)?, &Input::read(b)?, json),
         Command::Judge(file) => Ok(judge::run(&Input::<E>::read(file)?, json)),
     }

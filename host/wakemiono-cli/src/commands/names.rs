@@ -1,5 +1,8 @@
-//! `names`: all names of a module.
+//! `names`: all names of a module, or of a module beside names that came apart from it.
 
+use wakemiono::Whose;
+
+use crate::beside::{self, Beside};
 use crate::canonical::{self, Entry};
 use crate::edition::Edition;
 use crate::escape;
@@ -10,7 +13,13 @@ use crate::payloads;
 use crate::question::{Answer, Kind, Question};
 use crate::report::{Failure, Report, Status};
 
-type Row<'a> = (Question, Answer<'a>);
+/// A name in the listing.
+struct Row<'a> {
+    question: Question,
+    /// Whose it is, where there are two payloads.
+    whose: Option<Whose>,
+    answer: Answer<'a>,
+}
 
 /// Lists the names of a kind, or all.
 pub fn run<E: Edition>(
@@ -19,58 +28,91 @@ pub fn run<E: Edition>(
     json: bool,
 ) -> Result<Report, Failure> {
     let payload = input.accepted(payloads::names(input.module()))?;
-    let has_section = payload.is_some();
     let canonical = payloads::canonical_names(payload)?;
-    let entries = canonical::name_entries::<E>(&canonical).ok_or(Failure::Misfit)?;
-    let rows = rows(input, &entries, kind)?;
-    if json {
-        return Ok(Report::json(Status::Good, &document(input, &rows)));
-    }
-    Ok(
-        Report::good(rows.iter().map(line).collect::<String>()).saying(note(
-            has_section,
-            kind,
-            &rows,
-        )),
-    )
+    let rows = rows::<E>(&canonical, kind, |question| {
+        let answer = input.accepted(question.ask(input.module()))?;
+        Ok(answer.map(|answer| Row {
+            question,
+            whose: None,
+            answer,
+        }))
+    })?;
+    let none = match (payload, kind) {
+        (None, _) => "wakemiono: the module has no name section.\n",
+        (Some(_), None) => "wakemiono: the name section has no names.\n",
+        (Some(_), Some(_)) => "wakemiono: the name section has no such names.\n",
+    };
+    Ok(reported(input.members(), &rows, none, json))
 }
 
-/// Asks the library through the module for each entry that the canonical payload holds.
-fn rows<'a, E: Edition>(
-    input: &'a Input<E>,
-    entries: &[Entry<'_>],
+/// The same of a module beside its names, with whose each name is.
+pub fn run_beside<E: Edition>(
+    beside: &Beside<E>,
     kind: Option<Kind>,
+    json: bool,
+) -> Result<Report, Failure> {
+    let pair = beside.pair()?;
+    let joined = beside.joined(pair)?;
+    let rows = rows::<E>(&joined, kind, |question| {
+        let found = beside.ask(question, pair)?;
+        Ok(found.map(|(whose, answer)| Row {
+            question,
+            whose: Some(whose),
+            answer,
+        }))
+    })?;
+    let none = match kind {
+        None => "wakemiono: neither of the two files has names.\n",
+        Some(_) => "wakemiono: neither of the two files has such names.\n",
+    };
+    Ok(reported(beside.members(), &rows, none, json))
+}
+
+/// Asks the library for each entry that a canonical payload holds.
+fn rows<'a, E: Edition>(
+    canonical: &[u8],
+    kind: Option<Kind>,
+    ask: impl Fn(Question) -> Result<Option<Row<'a>>, Failure> + Sync,
 ) -> Result<Vec<Row<'a>>, Failure> {
+    let entries = canonical::name_entries::<E>(canonical).ok_or(Failure::Misfit)?;
     let wanted = |question: &Question| kind.is_none() || kind == Some(question.kind());
-    let questions = entries.iter().map(|entry| entry.question).filter(wanted);
-    let asked = parallel::map(&questions.collect::<Vec<_>>(), |question| {
-        let answer = input.accepted(question.ask(input.module()))?;
-        // The rewriting keeps every answer, so that there is one.
-        Ok((*question, answer.ok_or(Failure::Misfit)?))
+    let questions = entries.iter().map(|entry: &Entry<'_>| entry.question);
+    let questions: Vec<Question> = questions.filter(wanted).collect();
+    // The rewriting keeps every answer, and so does the join, so that there is one.
+    let asked = parallel::map(&questions, |question| {
+        ask(*question)?.ok_or(Failure::Misfit)
     });
     asked.into_iter().collect()
 }
 
-fn line((question, answer): &Row<'_>) -> String {
-    let name = escape::escaped(answer.bytes());
-    format!("{question} {} {name}\n", answer.offset())
-}
-
-/// Why there are no lines, for a person who sees none.
-fn note(has_section: bool, kind: Option<Kind>, rows: &[Row<'_>]) -> &'static str {
-    match (has_section, kind) {
-        _ if !rows.is_empty() => "",
-        (false, _) => "wakemiono: the module has no name section.\n",
-        (true, None) => "wakemiono: the name section has no names.\n",
-        (true, Some(_)) => "wakemiono: the name section has no such names.\n",
+/// The rows in JSON or as lines, and a sentence for a person who sees none of these.
+fn reported(
+    members: Vec<(&'static str, Json)>,
+    rows: &[Row<'_>],
+    none: &str,
+    json: bool,
+) -> Report {
+    if json {
+        let names = vec![("names", rows.iter().map(object).collect())];
+        let document = Json::Object([members, names].concat());
+        return Report::json(Status::Good, &document);
     }
+    let said = if rows.is_empty() { none } else { "" };
+    Report::good(rows.iter().map(line).collect::<String>()).saying(said)
 }
 
-fn document<E: Edition>(input: &Input<E>, rows: &[Row<'_>]) -> Json {
-    let row = |(question, answer): &Row<'_>| {
-        Json::Object([question.members(), answer.members()].concat())
-    };
-    let mut members = input.members();
-    members.push(("names", rows.iter().map(row).collect()));
-    Json::Object(members)
+fn line(row: &Row<'_>) -> String {
+    let Row {
+        question,
+        whose,
+        answer,
+    } = row;
+    let whose = whose.map_or(String::new(), |whose| format!("{} ", beside::word(whose)));
+    let name = escape::escaped(answer.bytes());
+    format!("{question} {whose}{} {name}\n", answer.offset())
+}
+
+fn object(row: &Row<'_>) -> Json {
+    let whose = row.whose.map(beside::member).into_iter().collect();
+    Json::Object([row.question.members(), whose, row.answer.members()].concat())
 }

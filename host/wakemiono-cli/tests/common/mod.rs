@@ -24,13 +24,16 @@ pub const BARE: &[u8] = b"\0asm\x01\0\0\0";
 /// A module that is refused, for a section of a later version.
 pub const NO_SUCH_SECTION: &[u8] = b"\0asm\x01\0\0\0\x0E\x00";
 
+/// A name payload that came apart from its module: function 3 called `f`.
+pub const NAMES: &[u8] = b"\x01\x04\x01\x03\x01f";
+
 /// The words of all commands.
-pub const COMMANDS: [&str; 8] = [
-    "list", "names", "name", "why", "hints", "canon", "same", "judge",
+pub const COMMANDS: [&str; 9] = [
+    "list", "names", "name", "why", "hints", "canon", "join", "same", "judge",
 ];
 
 /// The words of those that ask names, and so take `--wide`.
-pub const ASK_NAMES: [&str; 6] = ["names", "name", "why", "canon", "same", "judge"];
+pub const ASK_NAMES: [&str; 7] = ["names", "name", "why", "canon", "join", "same", "judge"];
 
 /// A name payload with every kind of name that the first edition knows.
 pub const EVERY_KIND: &[u8] = b"\x00\x02\x01m\x01\x04\x01\x00\x01a\x02\x06\x01\x03\x01\x00\x01x\

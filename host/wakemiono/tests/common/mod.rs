@@ -5,8 +5,8 @@
 
 use wakemiono::{
     DataIndex, Edition, ElementIndex, FieldIndex, First, FunctionIndex, GlobalIndex, LabelIndex,
-    LocalIndex, MemoryIndex, Module, Name, NamePayload, Refusal, TableIndex, TagIndex, TypeIndex,
-    Wider,
+    LocalIndex, MemoryIndex, Module, Name, NamePayload, Pair, PairRefusal, Refusal, SuppliedName,
+    TableIndex, TagIndex, TypeIndex, Whose, Wider,
 };
 
 /// The payload P of the documents, at one place in memory.
@@ -39,6 +39,9 @@ pub const ONLY_WIDER: [u8; 6] = [3, 5, 6, 7, 8, 9];
 
 /// What a question for a name gets.
 pub type Asked<'a> = Result<Option<Name<'a>>, Refusal>;
+
+/// What a question for a name gets from a pair.
+pub type PairAsked<'s, 'o> = Result<Option<SuppliedName<'s, 'o>>, PairRefusal>;
 
 /// The questions for names that both editions have.
 macro_rules! asked_in_both {
@@ -73,6 +76,7 @@ macro_rules! asked_in_wider {
 pub trait AllQuestions: Edition {
     fn names<'a>(payload: NamePayload<'a, Self>, one: u32, two: u32) -> Vec<Asked<'a>>;
     fn names_in<'a>(module: Module<'a, Self>, one: u32, two: u32) -> Vec<Asked<'a>>;
+    fn of_pair<'s, 'o>(pair: Pair<'s, 'o, Self>, one: u32, two: u32) -> Vec<PairAsked<'s, 'o>>;
 }
 
 impl AllQuestions for First {
@@ -82,6 +86,10 @@ impl AllQuestions for First {
 
     fn names_in<'a>(module: Module<'a, First>, one: u32, two: u32) -> Vec<Asked<'a>> {
         asked_in_both!(module, one, two).to_vec()
+    }
+
+    fn of_pair<'s, 'o>(pair: Pair<'s, 'o, First>, one: u32, two: u32) -> Vec<PairAsked<'s, 'o>> {
+        asked_in_both!(pair, one, two).to_vec()
     }
 }
 
@@ -101,6 +109,14 @@ impl AllQuestions for Wider {
         ]
         .concat()
     }
+
+    fn of_pair<'s, 'o>(pair: Pair<'s, 'o, Wider>, one: u32, two: u32) -> Vec<PairAsked<'s, 'o>> {
+        [
+            asked_in_both!(pair, one, two),
+            asked_in_wider!(pair, one, two),
+        ]
+        .concat()
+    }
 }
 
 pub const HINTS_NAME: &str = "metadata.code.branch_hint";
@@ -115,6 +131,14 @@ pub const SMALL: &[u8] = include_bytes!("../../../../examples/small.wasm");
 pub fn refused<T: std::fmt::Debug>(answer: Result<T, Refusal>) -> (u32, u64) {
     let refusal = answer.expect_err("this is refused");
     (refusal.number(), refusal.offset())
+}
+
+/// Whose the refusal is that must be there, its number and its offset.
+#[track_caller]
+pub fn refused_of<T: std::fmt::Debug>(answer: Result<T, PairRefusal>) -> (Option<Whose>, u32, u64) {
+    let refused = answer.expect_err("this is refused");
+    let refusal = refused.refusal();
+    (refused.whose(), refusal.number(), refusal.offset())
 }
 
 /// The text of the name that must be there.
