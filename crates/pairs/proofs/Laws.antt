@@ -8,11 +8,10 @@ use native.Mathlib.Omega.{arith}
 use borrow.Author.Needs.{needs}
 use denote.Enum.Declared.{tagOf}
 use Rattle.format.specs.Names.{Kind, judgeNames}
-use Rattle.format.specs.Pairs.{Paired, agreed, refusedBy, bothJudged, firstOf, Supplied, askPair, asPlaces, suppliedBytes, lentBy, suppliedFrom, pairAnswered}
-use Rattle.format.specs.Parts.{Part, placeOf}
+use Rattle.format.specs.Pairs.{Paired, agreed, refusedBy, bothJudged, firstOf, Supplied, askPair, asPlaces, suppliedBytes, suppliedFrom, pairAnswered}
+use Rattle.format.specs.Parts.{Part}
 use Rattle.format.specs.Questions.{idOf, queryOf, answer, asked, askAt, ask, asPlace, asBytes, startOf, answered}
 use Rattle.format.specs.Reading.{Judged, accepted, refused, mapJudged, verdict}
-use Rattle.format.specs.Refusals.{numberOf}
 use Rattle.format.specs.Verdicts.{verdictOf}
 use Rattle.format.specs.declared.Answer.{Answer}
 use Rattle.format.specs.declared.Answer.the-variants.{None, Found, Refused}
@@ -32,7 +31,7 @@ use Rattle.format.proofs.Verdict as verdict-type
 use Rattle.format.proofs.Whose as whose-type
 use Rattle.names.proofs.TakenLaws.{question-bytes, question-start}
 use Rattle.reading.specs.Taken.{Takes}
-use Rattle.pairs.specs.Settling.{ownAnswer, besideOwn, handedBack, HandsBack}
+use Rattle.pairs.specs.Settling.{ownAnswer, besideOwn, HandsBack}
 
 -- An arm that binds nothing gives the tag alone
 as-accepted : (v : Verdict) → tagOf verdict-type.the-type v ≡ 0 → v ≡ Accepted

@@ -10,7 +10,6 @@ use Rattle.format.specs.declared.PairAnswer.the-variants.{None as NoName, Found
 use Rattle.format.specs.declared.Place.{Place}
 use Rattle.format.specs.declared.Verdict.{Verdict}
 use Rattle.format.specs.declared.Verdict.the-variants.{Accepted, Refused as NotAccepted}
-use Rattle.format.specs.declared.Whose.{Whose}
 use Rattle.format.specs.declared.Whose.the-variants.{Separate, Own}
 use Rattle.reading.specs.Taken.{Takes}
 

@@ -4,15 +4,20 @@ use mathlib.Core.Bool.{cond}
 use mathlib.Core.Option.{Option, none, some}
 use mathlib.Core.Path.{_≡_, refl}
 use lib.Dec.{eqb}
+use Rattle.format.specs.Pairs.{Paired, agreed, refusedBy, Supplied}
 use Rattle.format.specs.Reading.{Judged, accepted, refused}
 use Rattle.format.specs.Why.{Why, named, noSubsection, noGroup, noEntry}
 use Rattle.format.specs.declared.Hint.{Hint}
 use Rattle.format.specs.declared.Hint.the-variants.{Unlikely, Likely}
 use Rattle.format.specs.declared.Place.{Place}
+use Rattle.format.specs.declared.Whose.{Whose}
+use Rattle.format.specs.declared.Whose.the-variants.{Separate, Own}
 use Rattle.walk.specs.declared.survey.SectionPlace.{SectionPlace}
 use Rattle.wakemiono.specs.Boundary.{wmPlace, wmSection, wmCount, wmJudged, wmHint}
+use Rattle.wakemiono.specs.Pairs.{wmPair, wmJoin}
 use Rattle.wakemiono.specs.Why.{wmWhy}
 use Rattle.wakemiono.specs.declared.WmAnswer.{WmAnswer}
+use Rattle.wakemiono.specs.declared.beside.WmPairAnswer.{WmPairAnswer}
 use Rattle.wakemiono.specs.declared.why.WmWhy.{WmWhy}
 
 -- kind 2 is a refusal; kind 0 is none
@@ -81,3 +86,29 @@ why-said (accepted (noEntry none (some a))) = refl
 why-said (accepted (noEntry (some b) none)) = refl
 why-said (accepted (noEntry (some b) (some a))) = refl
 why-said (refused n at) = refl
+
+-- K3: whose is 1 for the separate payload's and 2 for the own one's; a refusal of nobody's is one of the join
+abbrev saysWhose : ℕ → Whose
+saysWhose n = cond (eqb n 1) Separate Own
+
+abbrev pub saysPair : WmPairAnswer → Paired (Option (Supplied Place))
+saysPair a = cond (eqb (a .kind) 2) (refusedBy (saysWhose (a .whose)) (a .code) (a .offset)) (agreed (cond (eqb (a .kind) 0) none (some (record { whose = saysWhose (a .whose); value = record { offset = record { 0 = a .offset }; length = a .length } }))))
+
+abbrev pub saysJoin : WmPairAnswer → Paired (Judged ℕ)
+saysJoin a = cond (eqb (a .kind) 1) (agreed (accepted (a .length))) (cond (eqb (a .whose) 0) (agreed (refused (a .code) (a .offset))) (refusedBy (saysWhose (a .whose)) (a .code) (a .offset)))
+
+pub pair-answer-said : (j : Paired (Option (Supplied Place))) → saysPair (wmPair j) ≡ j
+pair-answer-said (agreed none) = refl
+pair-answer-said (agreed (some x)) = of-whose (x .whose) (x .value)
+  where
+    of-whose : (w : Whose) (p : Place) → saysPair (wmPair (agreed (some (record { whose = w; value = p })))) ≡ agreed (some (record { whose = w; value = p }))
+    of-whose Separate p = refl
+    of-whose Own p = refl
+pair-answer-said (refusedBy Separate n at) = refl
+pair-answer-said (refusedBy Own n at) = refl
+
+pub join-answer-said : (j : Paired (Judged ℕ)) → saysJoin (wmJoin j) ≡ j
+join-answer-said (agreed (accepted n)) = refl
+join-answer-said (agreed (refused n at)) = refl
+join-answer-said (refusedBy Separate n at) = refl
+join-answer-said (refusedBy Own n at) = refl

@@ -43,6 +43,14 @@ use Rattle.grammar.specs.Modules.{Section, Among, Called}
 use Rattle.format.specs.Older.{OlderHint, OlderEntry}
 use Rattle.format.specs.declared.Hint.{Hint}
 use Rattle.format.specs.declared.Hint.the-variants.{Unlikely, Likely}
+-- TWO PAYLOADS. The calls over two name payloads answer with a record of five numbers, those four and `whose`: 0 is nobody's, 1 (`wmWhose Separate`) the separate payload's, 2 (`wmWhose Own`) the module's own. `wmPairNone` is five times 0; `wmPairFound whose offset length` and `wmPairRefused whose number offset` are as above, with whose it is. `joinedContents t u` is what two meanings come to as one, with nothing empty left, by crates/format/specs/Joined.antt; `writeContent c` are the bytes of contents, and `writeSubsections` those of all subsections.
+use Rattle.format.specs.Canonical.{writeContent, writeSubsections}
+use Rattle.format.specs.Joined.{joinedContents}
+use Rattle.format.specs.declared.Edition.{Edition}
+use Rattle.format.specs.declared.Edition.the-variants.{First, Wider}
+use Rattle.format.specs.declared.Whose.{Whose}
+use Rattle.wakemiono.specs.Pairs.{wmWhose, wmPairNone, wmPairFound, wmPairRefused}
+use Rattle.wakemiono.specs.declared.beside.WmPairAnswer.{WmPairAnswer}
 -- WHY A NAME IS MISSING: `Why` is `named id position`, `noSubsection`, `noGroup` or `noEntry below above`, each side `some` index or `none`. `TrueOfFunction k m w` and `TrueOfLocal k j m w` say, without any search, that w is true of the function k, and of its local j, in a meaning m: no subsection has that id, no row that number; below is the greatest number below that has a row, and above the least above; a row stands at a position, from 0. Two calls answer with a record of eight numbers: `wmNamed id position` has kind 1 and these as its code and position, `wmAlone 5` and `wmAlone 6` have kind 5 and 6 and nothing else, `wmNoEntry below above` kind 7 and, for each side that there is, 1 and its index, `wmWhyRefused number offset` kind 2 and these. `wmWhy (accepted w)` is the one for w.
 use Rattle.format.specs.Why.{Why, TrueOfFunction, TrueOfLocal}
 use Rattle.wakemiono.specs.Why.{wmAlone, wmNamed, wmNoEntry, wmWhyRefused, wmWhy}
@@ -67,14 +75,16 @@ use Rattle.format.specs.declared.Question.{Question}
 use Rattle.format.specs.declared.Question.the-variants.{ModuleName, FunctionName, LocalName, LabelName, TypeName, TableName, MemoryName, GlobalName, ElementName, DataName, FieldName, TagName, KeptContents}
 -- Of metadata and hints: `ItemQuestion` is a function and an offset, each a record of one number; `ItemInRange q` says that both are below 4,294,967,296. `OlderInRange q` says it of a question for a hint of the older edition.
 use Rattle.format.specs.Theorems.{ItemQuestion, ItemInRange, OlderInRange}
--- THE CALLS, each by its promise: `wm-walk bytes a` says that the answer a is one that the promise of wm_walk allows for these bytes. It is the promise itself, the one name that stands in the `ensures` of the call in crates/wakemiono/src. What the promises come to is said below, so that nothing has to be known of how they are put. `wm-name q` is the promise of the call that asks q: wm_module_name asks `ModuleName`, wm_function_name `FunctionName` of its function, wm_type_name `TypeName` of its index, wm_tag_name `TagName` of its tag, wm_local_name `LocalName` of its function and its local, wm_field_name `FieldName` of its index and its field, wm_kept `KeptContents` of its id; `wm-name-in q` is that of the same call with `_in`, which is lent a module. `wm-wide-name q` and `wm-wide-name-in q` are those of the wider edition, wm_wide_module_name and so on, which has six more: wm_wide_label_name asks `LabelName` of its function and its label, wm_wide_table_name `TableName`, wm_wide_memory_name `MemoryName`, wm_wide_global_name `GlobalName`, wm_wide_element_name `ElementName` and wm_wide_data_name `DataName`. The calls that write are promised of the output before and after, too: `old` and `new`. `wm-markers p is os is′ os′ a` is promised of both lists before the call, `is` and `os`, and after it; `wm-quick-function-name p is os end function a` of a payload, two lists, an end and the function asked.
-use Rattle.wakemiono.specs.Calls.{wm-walk, wm-section, wm-custom, wm-names-judge, wm-name, wm-metadata-judge, wm-metadata, wm-hints-judge, wm-hint, wm-name-in, wm-metadata-in, wm-hint-in, wm-names-canonical, wm-metadata-canonical, wm-hints-canonical, wm-function-names-write, wm-names-is-canonical, wm-metadata-is-canonical, wm-hints-is-canonical, wm-wide-names-judge, wm-wide-name, wm-wide-name-in, wm-wide-names-canonical, wm-wide-names-is-canonical, wm-old-hints-judge, wm-old-hint, wm-old-hint-in, wm-old-hints-canonical, wm-old-hints-is-canonical, wm-why-function, wm-why-local, wm-markers, wm-quick-function-name}
+-- THE CALLS, each by its promise: `wm-walk bytes a` says that the answer a is one that the promise of wm_walk allows for these bytes. It is the promise itself, the one name that stands in the `ensures` of the call in crates/wakemiono/src. What the promises come to is said below, so that nothing has to be known of how they are put. `wm-name q` is the promise of the call that asks q: wm_module_name asks `ModuleName`, wm_function_name `FunctionName` of its function, wm_type_name `TypeName` of its index, wm_tag_name `TagName` of its tag, wm_local_name `LocalName` of its function and its local, wm_field_name `FieldName` of its index and its field, wm_kept `KeptContents` of its id; `wm-name-in q` is that of the same call with `_in`, which is lent a module. `wm-wide-name q` and `wm-wide-name-in q` are those of the wider edition, wm_wide_module_name and so on, which has six more: wm_wide_label_name asks `LabelName` of its function and its label, wm_wide_table_name `TableName`, wm_wide_memory_name `MemoryName`, wm_wide_global_name `GlobalName`, wm_wide_element_name `ElementName` and wm_wide_data_name `DataName`. The calls that write are promised of the output before and after, too: `old` and `new`. `wm-markers p is os is′ os′ a` is promised of both lists before the call, `is` and `os`, and after it; `wm-quick-function-name p is os end function a` of a payload, two lists, an end and the function asked. `wm-pair q separate own a` is the promise of the call that asks q over two payloads, wm_pair_module_name and so on, and `wm-wide-pair` that of the wider edition; `wm-pair-join separate own old new a` is the join's.
+use Rattle.wakemiono.specs.Calls.{wm-walk, wm-section, wm-custom, wm-names-judge, wm-name, wm-metadata-judge, wm-metadata, wm-hints-judge, wm-hint, wm-name-in, wm-metadata-in, wm-hint-in, wm-names-canonical, wm-metadata-canonical, wm-hints-canonical, wm-function-names-write, wm-names-is-canonical, wm-metadata-is-canonical, wm-hints-is-canonical, wm-wide-names-judge, wm-wide-name, wm-wide-name-in, wm-wide-names-canonical, wm-wide-names-is-canonical, wm-old-hints-judge, wm-old-hint, wm-old-hint-in, wm-old-hints-canonical, wm-old-hints-is-canonical, wm-why-function, wm-why-local, wm-markers, wm-quick-function-name, wm-pair, wm-wide-pair, wm-pair-join, wm-wide-pair-join}
 -- THE NUMBER READER of the library, by its promise: from the cursor c over the bytes s it reads the number v, says `told`, and stands at `next`; `left s c` are the bytes from c to the end of the innermost part, and `shortest v` is the shortest form of v. `Inside s c`: the cursor lies in what was lent.
 use Rattle.format.specs.Numbers.{shortest}
 use Rattle.reading.specs.Cursors.{Inside, left}
 use Rattle.reading.specs.Promises.{reading-number}
 use Rattle.reading.specs.declared.Cursor.{Cursor}
 use Rattle.reading.specs.declared.NumberRead.the-variants.{Value}
+-- THE PART that is handed back in Rattle, by the promise of `pairs::ask_bytes`: of two payloads that begin at two places in memory, each a block and an offset in it, the part's bytes and the place where it begins.
+use Rattle.pairs.specs.Promises.{pairs-ask-bytes}
 
 -- DEMAND 1. "Any bytes may be lent as a module, a section or a set of lists. Each public call ends, does nothing undefined and asks no prior check. Bad input gets a refusal number and the offset document 01 gives with it, and every lent buffer is unchanged." Proved as `demand-1` in Proved.antt.
 
@@ -658,3 +668,82 @@ pub record K8 : Type 0 where
   pub own : (p is os is′ os′ : List ℕ) (a : WmAnswer) → wm-markers p is os is′ os′ a → a .kind ≡ 1 → (function : ℕ) (b c : WmAnswer) → wm-quick-function-name p (take (a .length) is′) (take (a .length) os′) (a .offset) function b → wm-name (FunctionName (record { 0 = function })) p c → b ≡ c
   -- "with others it still follows this rule", and nothing else does
   pub rule : (p is os : List ℕ) (end function : ℕ) (a : WmAnswer) → wm-quick-function-name p is os end function a → (j : Judged (Option Part)) × Follows p is os end function j × (a ≡ wmPlace (asPlace j)) × ((other : Judged (Option Part)) → Follows p is os end function other → other ≡ j)
+
+-- K3. "Names that travel beside a stripped module. We are sent a name payload apart. One question goes over the two lent payloads: the separate one answers unless it gives none, else the module's; a name found says which, and is handed back as a part of the payload that supplied it. Add a writer of one canonical payload that answers every question, kept subsections too, as the pair does. Refusals: the separate payload's first, the answer saying whose; 15 for a joined subsection too large, then 13." Proved as `k3` in Proved.antt.
+
+-- What a question over two payloads is answered: none; or a place, or a refusal, and whose it is
+pub data PairReply : WmPairAnswer → Type 0 where
+  pairNone : PairReply wmPairNone
+  pairFound : (whose : Whose) (offset length : ℕ) → PairReply (wmPairFound (wmWhose whose) offset length)
+  pairRefused : (whose : Whose) (number offset : ℕ) → PairReply (wmPairRefused (wmWhose whose) number offset)
+
+-- The questions over a separate payload s and an own one o, by the calls that are lent one payload. Both are judged whole, whatever is asked
+pub record AsksPairs (judging : List ℕ → WmAnswer → Type 0) (asking : Question → List ℕ → WmAnswer → Type 0) (asking-both : Question → (separate own : List ℕ) → WmPairAnswer → Type 0) : Type 0 where
+  pub answers : (q : Question) (s o : List ℕ) (a : WmPairAnswer) → asking-both q s o a → PairReply a
+  -- "the separate one answers unless it gives none", where the own one is accepted
+  pub separate-answers : (q : Question) (s o : List ℕ) (a : WmPairAnswer) (b j : WmAnswer) → asking-both q s o a → asking q s b → judging o j → (offset long : ℕ) → (a ≡ wmPairFound 1 offset long) ↔ ((b ≡ wmFound 0 offset long) × (j .kind ≡ 1))
+  -- "else the module's"
+  pub own-answers : (q : Question) (s o : List ℕ) (a : WmPairAnswer) (b c : WmAnswer) → asking-both q s o a → asking q s b → asking q o c → (offset long : ℕ) → (a ≡ wmPairFound 2 offset long) ↔ ((b ≡ wmNone) × (c ≡ wmFound 0 offset long))
+  pub none-answered : (q : Question) (s o : List ℕ) (a : WmPairAnswer) (b c : WmAnswer) → asking-both q s o a → asking q s b → asking q o c → (a ≡ wmPairNone) ↔ ((b ≡ wmNone) × (c ≡ wmNone))
+  -- "the separate payload's first, the answer saying whose": the judging call's own refusals
+  pub refuses-separate : (q : Question) (s o : List ℕ) (a : WmPairAnswer) (i : WmAnswer) → asking-both q s o a → judging s i → (number offset : ℕ) → (a ≡ wmPairRefused 1 number offset) ↔ (i ≡ wmRefused number offset)
+  pub refuses-own : (q : Question) (s o : List ℕ) (a : WmPairAnswer) (i j : WmAnswer) → asking-both q s o a → judging s i → judging o j → (number offset : ℕ) → (a ≡ wmPairRefused 2 number offset) ↔ ((i .kind ≡ 1) × (j ≡ wmRefused number offset))
+  pub numbered : (q : Question) (s o : List ℕ) (a : WmPairAnswer) → asking-both q s o a → (whose number offset : ℕ) → a ≡ wmPairRefused whose number offset → isAmong numbers number ≡ true
+
+-- "is handed back as a part of the payload that supplied it": the very bytes at the place that was found, in that payload's own memory; and no bytes where nothing was found
+pub record HandsBack (edition : Edition) (asking-both : Question → (separate own : List ℕ) → WmPairAnswer → Type 0) : Type 0 where
+  pub of-separate : (q : Question) (s o bytes : List ℕ) (s-begins o-begins begins : ℕ × ℕ) (a : WmPairAnswer) → asking-both q s o a → pairs-ask-bytes s o s-begins o-begins edition q begins bytes → (offset long : ℕ) → a ≡ wmPairFound 1 offset long → (offset + long ≤ length s) × (bytes ≡ take long (drop offset s)) × (begins ≡ (s-begins .0, offset + s-begins .1))
+  pub of-own : (q : Question) (s o bytes : List ℕ) (s-begins o-begins begins : ℕ × ℕ) (a : WmPairAnswer) → asking-both q s o a → pairs-ask-bytes s o s-begins o-begins edition q begins bytes → (offset long : ℕ) → a ≡ wmPairFound 2 offset long → (offset + long ≤ length o) × (bytes ≡ take long (drop offset o)) × (begins ≡ (o-begins .0, offset + o-begins .1))
+  pub else-empty : (q : Question) (s o bytes : List ℕ) (s-begins o-begins begins : ℕ × ℕ) (a : WmPairAnswer) → asking-both q s o a → pairs-ask-bytes s o s-begins o-begins edition q begins bytes → (a .kind ≡ 1 → ⊥) → bytes ≡ []
+
+-- An answer over two payloads without whose it is; and the bytes at its place, in the payload that it says
+abbrev pub withoutWhose : WmPairAnswer → WmAnswer
+withoutWhose a = record { kind = a .kind; code = a .code; offset = a .offset; length = a .length }
+
+abbrev pub bytesOf : (separate own : List ℕ) → WmPairAnswer → List ℕ
+bytesOf s o a = take (a .length) (drop (a .offset) (cond (eqb (a .whose) 1) s o))
+
+-- What the join answers: a length; a refusal of one of the payloads, and whose it is; or one of what both come to
+pub data JoinReply : WmPairAnswer → Type 0 where
+  joinWritten : (length : ℕ) → JoinReply (wmPairFound 0 0 length)
+  payloadNotJoined : (whose : Whose) (number offset : ℕ) → JoinReply (wmPairRefused (wmWhose whose) number offset)
+  notJoined : (number offset : ℕ) → JoinReply (wmPairRefused 0 number offset)
+
+-- Which pair it refuses, and how, into an output of a length: as the separate payload is judged; then as the own one; then 15, exactly where the contents of a subsection of both would be above 4,294,967,295 bytes; then 13
+pub data JoinRefused (kindOf : ℕ → Kind) (s o : List ℕ) (room : ℕ) : (whose number offset : ℕ) → Type 0 where
+  separateRefused : {number offset : ℕ} → judgeNames kindOf 0 s ≡ refused number offset → JoinRefused kindOf s o room 1 number offset
+  ownRefused : {number offset : ℕ} {t : Table (Content Part)} → judgeNames kindOf 0 s ≡ accepted t → judgeNames kindOf 0 o ≡ refused number offset → JoinRefused kindOf s o room 2 number offset
+  joinTooLarge : {t u : Table (Content Part)} → judgeNames kindOf 0 s ≡ accepted t → judgeNames kindOf 0 o ≡ accepted u → (id : ℕ) (c : Content (List ℕ)) → Has id c (joinedContents t u) → 4_294_967_295 < length (writeContent c) → JoinRefused kindOf s o room 0 15 0
+  joinTooShort : {t u : Table (Content Part)} → judgeNames kindOf 0 s ≡ accepted t → judgeNames kindOf 0 o ≡ accepted u → ((id : ℕ) (c : Content (List ℕ)) → Has id c (joinedContents t u) → length (writeContent c) ≤ 4_294_967_295) → room < length (writeSubsections (joinedContents t u)) → JoinRefused kindOf s o room 0 13 (length (writeSubsections (joinedContents t u)))
+
+-- The join, by the calls of its edition. What was written is `take (a .length) new`, as of every call that writes
+module _ (kindOf : ℕ → Kind) (judging : List ℕ → WmAnswer → Type 0) (asking : Question → List ℕ → WmAnswer → Type 0) (asking-both : Question → (separate own : List ℕ) → WmPairAnswer → Type 0)
+    (rewriting : (payload old new : List ℕ) → WmAnswer → Type 0) (telling : List ℕ → ℕ → Type 0) (joining : (separate own old new : List ℕ) → WmPairAnswer → Type 0) where
+  pub record JoinsPairs : Type 0 where
+    -- demand 1
+    pub answers : (s o old new : List ℕ) (a : WmPairAnswer) → joining s o old new a → JoinReply a
+    pub refuses : (s o old new : List ℕ) (a : WmPairAnswer) → joining s o old new a → (whose number offset : ℕ) → (a ≡ wmPairRefused whose number offset) ↔ JoinRefused kindOf s o (length old) whose number offset
+    pub numbered : (s o old new : List ℕ) (a : WmPairAnswer) → joining s o old new a → (whose number offset : ℕ) → a ≡ wmPairRefused whose number offset → isAmong numbers number ≡ true
+    pub leaves : (s o old new : List ℕ) (a : WmPairAnswer) → joining s o old new a → Leaves old new (withoutWhose a)
+    pub needs-room : (s o : List ℕ) → NeedsRoom (λ old new b. (a : WmPairAnswer) × joining s o old new a × (withoutWhose a ≡ b))
+    -- accepted payloads below 4,294,967,296 bytes together are joined into an output as long as both
+    pub room-enough : (s o old new : List ℕ) (a : WmPairAnswer) (i j : WmAnswer) → joining s o old new a → judging s i → i .kind ≡ 1 → judging o j → j .kind ≡ 1 → length s + length o < 4_294_967_296 → length s + length o ≤ length old → a .kind ≡ 1
+    -- "one canonical payload": it is accepted, wm_names_is_canonical, or its like of the wider edition, says yes, and it is no longer than both
+    pub is-accepted : (s o old new : List ℕ) (a : WmPairAnswer) → joining s o old new a → a .kind ≡ 1 → (j : WmAnswer) → judging (take (a .length) new) j → j .kind ≡ 1
+    pub is-canonical : (s o old new : List ℕ) (a : WmPairAnswer) → joining s o old new a → a .kind ≡ 1 → (y : ℕ) → telling (take (a .length) new) y → y ≡ 1
+    pub never-longer : (s o old new : List ℕ) (a : WmPairAnswer) → joining s o old new a → a .kind ≡ 1 → a .length ≤ length s + length o
+    -- "that answers every question, kept subsections too, as the pair does"
+    pub answers-as-pair : (s o old new : List ℕ) (a : WmPairAnswer) → joining s o old new a → a .kind ≡ 1 → (q : Question) (b : WmPairAnswer) (c : WmAnswer) → asking-both q s o b → asking q (take (a .length) new) c → (b .kind ≡ c .kind) × (bytesOf s o b ≡ take (c .length) (drop (c .offset) (take (a .length) new)))
+    -- so two pairs have the same joined payload exactly when all their answers agree
+    pub same-exactly : (s o s′ o′ old new old′ new′ : List ℕ) (a b : WmPairAnswer) → Bytes s → Bytes o → Bytes s′ → Bytes o′ → joining s o old new a → joining s′ o′ old′ new′ b → a .kind ≡ 1 → b .kind ≡ 1 → (take (a .length) new ≡ take (b .length) new′) ↔ ((q : Question) → AllowedBy kindOf q → (c d : WmPairAnswer) → asking-both q s o c → asking-both q s′ o′ d → (c .kind ≡ d .kind) × (bytesOf s o c ≡ bytesOf s′ o′ d))
+    -- joined with an empty payload it is the rewriting, answer and output, refusals too
+    pub no-own : (s old new new′ : List ℕ) (a : WmPairAnswer) (b : WmAnswer) → joining s [] old new a → rewriting s old new′ b → (withoutWhose a ≡ b) × (new ≡ new′)
+    pub no-separate : (o old new new′ : List ℕ) (a : WmPairAnswer) (b : WmAnswer) → joining [] o old new a → rewriting o old new′ b → (withoutWhose a ≡ b) × (new ≡ new′)
+
+pub record K3 : Type 0 where
+  pub asks : AsksPairs wm-names-judge wm-name wm-pair
+  pub wide-asks : AsksPairs wm-wide-names-judge wm-wide-name wm-wide-pair
+  pub hands-back : HandsBack First wm-pair
+  pub wide-hands-back : HandsBack Wider wm-wide-pair
+  pub joins : JoinsPairs knownKind wm-names-judge wm-name wm-pair wm-names-canonical wm-names-is-canonical wm-pair-join
+  pub wide-joins : JoinsPairs widerKind wm-wide-names-judge wm-wide-name wm-wide-pair wm-wide-names-canonical wm-wide-names-is-canonical wm-wide-pair-join

@@ -17,5 +17,7 @@ pub mod Rewrite
 pub mod Through
 pub mod Neighbours
 pub mod Markers
+pub mod Pairs
+pub mod Joining
 pub mod Wakemiono
 pub mod Saying

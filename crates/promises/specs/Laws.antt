@@ -19,3 +19,5 @@ pub mod Shortest
 pub mod Why
 pub mod FunctionNames
 pub mod Markers
+pub mod Pairs
+pub mod Joins

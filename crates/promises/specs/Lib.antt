@@ -13,6 +13,7 @@ pub mod Telling
 pub mod Older
 pub mod Why
 pub mod Markers
+pub mod Pairs
 pub mod Demands
 pub mod Laws
 pub mod Proved

@@ -54,7 +54,7 @@ use Rattle.promises.specs.Laws.Judging.{found-grammar, refused-grammar}
 use Rattle.promises.specs.Laws.Listing.{lists-accepted, lists-read-back, lists-rest}
 use Rattle.promises.specs.Laws.Lists.{lists-fine, fine-written}
 use Rattle.promises.specs.Laws.Lookups.{tells-as, asked-tells, asked-refused, likely-held, unlikely-held, no-hint-held, hint-refused, name-held, contents-held, entry-held, inner-held, within-held}
-use Rattle.promises.specs.Laws.Outputs.{wrote, wrote-nothing, wrote-others, wrote-room, wrote-as-long, wrote-short, wrote-again}
+use Rattle.promises.specs.Laws.Outputs.{wrote-leaves, wrote-short, wrote-again}
 use Rattle.promises.specs.Laws.Editions.{none-kept, within-one-edition, accepted-by-both, answered-alike}
 use Rattle.promises.specs.Laws.Exactly.{name-in-exactly, metadata-in-exactly, hint-in-exactly, older-in-exactly, written-exactly, rewritten-exactly}
 use Rattle.promises.specs.Laws.ListsRefused.{lists-refused}
@@ -68,9 +68,11 @@ use Rattle.promises.specs.Laws.Through.{name-through, hint-through, olde
 use Rattle.promises.specs.Laws.Why.{function-in-1, local-in-2, says-why}
 use Rattle.promises.specs.Laws.FunctionNames.{function-names}
 use Rattle.promises.specs.Laws.Markers.{made-reply, markers-refused, markers-numbered, indices-left, offsets-left, markers-marked, own-answers, rule-followed, quick-refused, quick-numbered}
+use Rattle.promises.specs.Laws.Pairs.{asks-pairs, hands-back}
+use Rattle.promises.specs.Laws.Joins.{joins-pairs}
 use Rattle.promises.specs.Laws.Walking.{walked, walk-counts, section-found, section-first, section-none, section-refused, custom-tells, custom-refused}
 use Rattle.wakemiono.specs.Calls.{wm-walk, wm-metadata-judge, wm-hints-judge, wm-metadata-canonical, wm-hints-canonical, wm-function-names-write, wm-old-hints-judge, wm-old-hints-canonical}
-use Rattle.promises.specs.Demands.{Verdict, Reply, SectionReply, HintReply, Answers, RefusedBy, RefusedThrough, RefusedOrShort, ListsRefused, Leaves, NeedsRoom, Writing, Demand1, HoldsName, HoldsData, JudgesExactly, AnswersNames, AnswersMetadata, AnswersHints, Walks, Demand2, SameAnswer, Rewritten, Rewrites, Demand3, yes, no, replyNone, replyFound, replyRefused, sectionNone, sectionFound, sectionRefused, hintNone, hintUnlikely, hintLikely, hintRefused, byTheWalk, byItsPayload, asJudged, tooShort, listsDisagree, notAbove, notText, subsectionTooLarge, outputTooShort, TellsCanonical, K10, K9, OlderRefused, AnswersOlder, K2, olderJudged, olderTooLong, olderTooShort, K11, K7, K8}
+use Rattle.promises.specs.Demands.{Verdict, Reply, SectionReply, HintReply, Answers, RefusedBy, RefusedThrough, RefusedOrShort, ListsRefused, NeedsRoom, Writing, Demand1, HoldsName, HoldsData, JudgesExactly, AnswersNames, AnswersMetadata, AnswersHints, Walks, Demand2, SameAnswer, Rewritten, Rewrites, Demand3, yes, no, replyNone, replyFound, replyRefused, sectionNone, sectionFound, sectionRefused, hintNone, hintUnlikely, hintLikely, hintRefused, byTheWalk, byItsPayload, asJudged, tooShort, listsDisagree, notAbove, notText, subsectionTooLarge, outputTooShort, TellsCanonical, K10, K9, OlderRefused, AnswersOlder, K2, olderJudged, olderTooLong, olderTooShort, K11, K7, K8, K3}
 
 -- Demand 1
 judged-verdict : (n : ℕ) (j : Judged (Unit {0})) → Verdict (wmJudged n j)
@@ -128,14 +130,6 @@ lists-numbered (outputTooShort _ _ _) = refl
 written-verdict : (wanted : Judged (List ℕ)) (old new : List ℕ) (a : WmAnswer) → WmWrites wanted old new a → Verdict a
 written-verdict wanted old new a w = rw (w .says) (count-verdict (writeAnswer (length old) wanted))
 
-leaves : (wanted : Judged (List ℕ)) (old new : List ℕ) (a : WmAnswer) → WmWrites wanted old new a → Leaves old new a
-leaves wanted old new a w = record {
-  refused-unchanged = wrote-nothing wanted w;
-  others-unchanged = λ k. wrote-others (wrote wanted w k);
-  inside = wrote-room wanted w;
-  as-long = wrote-as-long wanted w;
-}
-
 needs-room : (wanted : Judged (List ℕ)) → NeedsRoom (λ old new a. WmWrites wanted old new a)
 needs-room wanted old new old′ new′ a b v w k = (wrote-short v w k, wrote-again v w k)
 
@@ -146,7 +140,7 @@ writes-as f j fair = record {
     refuses = rewritten-exactly f j w;
     numbered = λ n at e. short-numbered fair (rewritten-exactly f j w n at .0 e);
   };
-  leaves = leaves (mapJudged f j);
+  leaves = wrote-leaves (mapJudged f j);
   needs-room = needs-room (mapJudged f j);
 }
 
@@ -180,7 +174,7 @@ writes-lists is ns text = record {
     refuses = exactly w;
     numbered = λ n at e. lists-numbered (exactly w n at .0 e);
   };
-  leaves = leaves (functionNames is ns text);
+  leaves = wrote-leaves (functionNames is ns text);
   needs-room = needs-room (functionNames is ns text);
 }
   where
@@ -379,7 +373,7 @@ writes-older p = record {
     refuses = exactly w;
     numbered = λ n at e. older-refused-numbered (exactly w n at .0 e);
   };
-  leaves = leaves (canonicalOlder p);
+  leaves = wrote-leaves (canonicalOlder p);
   needs-room = needs-room (canonicalOlder p);
 }
   where
@@ -451,4 +445,14 @@ k8 = record {
   marked = λ p is os is′ os′ entries n begin end a f w. markers-marked p is os is′ os′ a w entries n begin end f;
   own = λ p is os is′ os′ a w k f b c e g. e ∙ ap (λ j. wmPlace (asPlace j)) (own-answers p is os is′ os′ a w k f) ∙ sym g;
   rule = λ p is os end f a e. rw e (rule-followed p is os end f);
+}
+
+pub k3 : K3
+k3 = record {
+  asks = asks-pairs knownKind;
+  wide-asks = asks-pairs widerKind;
+  hands-back = hands-back First;
+  wide-hands-back = hands-back Wider;
+  joins = joins-pairs First;
+  wide-joins = joins-pairs Wider;
 }

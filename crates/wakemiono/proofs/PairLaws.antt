@@ -22,7 +22,7 @@ use Rattle.format.specs.declared.Whose.{Whose}
 use Rattle.format.specs.declared.Whose.the-variants.{Separate, Own}
 use Rattle.format.proofs.PairAnswer as pair-type
 use Rattle.format.proofs.Whose as whose-type
-use Rattle.wakemiono.specs.Pairs.{wmWhose, wmPairNone, wmPairFound, wmPairRefused, wmPair, wmJoin, WmJoins}
+use Rattle.wakemiono.specs.Pairs.{wmWhose, wmPairRefused, wmPair, wmJoin, WmJoins}
 use Rattle.wakemiono.specs.declared.beside.WmPairAnswer.{WmPairAnswer}
 
 -- whose it is

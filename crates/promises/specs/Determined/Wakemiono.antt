@@ -2,13 +2,16 @@
 use Prim.Native.Nat.{ℕ}
 use mathlib.Core.List.{List}
 use mathlib.Core.Path.{sym, _∙_}
-use Rattle.format.specs.Determined.{Determines, Determines1, Determines2, Determines3, Determines4, Determines5, DeterminesBoth2, DeterminesBoth4, DeterminesThree3, equal-determined}
+use Rattle.format.specs.Determined.{Determines, Determines1, Determines2, Determines3, Determines4, Determines5, DeterminesBoth2, DeterminesBoth3, DeterminesBoth4, DeterminesThree3, equal-determined}
 use Rattle.format.specs.Markers.{Markers}
+use Rattle.format.specs.Pairs.{Paired}
 use Rattle.format.specs.Reading.{Judged}
 use Rattle.wakemiono.proofs.Same.{wm-writes-same}
 use Rattle.wakemiono.specs.Boundary.{WmWrites, WmMakes}
-use Rattle.wakemiono.specs.Calls.{wm-walk, wm-section, wm-custom, wm-names-judge, wm-name, wm-metadata-judge, wm-metadata, wm-hints-judge, wm-hint, wm-name-in, wm-metadata-in, wm-hint-in, wm-names-canonical, wm-metadata-canonical, wm-hints-canonical, wm-names-is-canonical, wm-metadata-is-canonical, wm-hints-is-canonical, wm-function-names-write, wm-wide-names-judge, wm-wide-name, wm-wide-name-in, wm-wide-names-canonical, wm-wide-names-is-canonical, wm-old-hints-judge, wm-old-hint, wm-old-hint-in, wm-old-hints-canonical, wm-old-hints-is-canonical, wm-why-function, wm-why-local, wm-markers, wm-quick-function-name}
+use Rattle.wakemiono.specs.Calls.{wm-walk, wm-section, wm-custom, wm-names-judge, wm-name, wm-metadata-judge, wm-metadata, wm-hints-judge, wm-hint, wm-name-in, wm-metadata-in, wm-hint-in, wm-names-canonical, wm-metadata-canonical, wm-hints-canonical, wm-names-is-canonical, wm-metadata-is-canonical, wm-hints-is-canonical, wm-function-names-write, wm-wide-names-judge, wm-wide-name, wm-wide-name-in, wm-wide-names-canonical, wm-wide-names-is-canonical, wm-old-hints-judge, wm-old-hint, wm-old-hint-in, wm-old-hints-canonical, wm-old-hints-is-canonical, wm-why-function, wm-why-local, wm-markers, wm-quick-function-name, wm-pair, wm-wide-pair, wm-pair-join, wm-wide-pair-join}
+use Rattle.wakemiono.specs.Pairs.{WmJoins}
 use Rattle.wakemiono.specs.declared.WmAnswer.{WmAnswer}
+use Rattle.wakemiono.specs.declared.beside.WmPairAnswer.{WmPairAnswer}
 
 -- One answer and one end state alone meet the promise of a write
 pub wm-writes-determined : (wanted : Judged (List ℕ)) (old : List ℕ) → Determines (λ (r : WmAnswer × List ℕ). WmWrites wanted old (r .1) (r .0))
@@ -21,6 +24,13 @@ wm-makes-determined wanted is os a b p q =
     let two = p .indices ∙ sym (q .indices) in
     let three = p .offsets ∙ sym (q .offsets) in
     λ i. (one i, two i, three i)
+
+-- and of a join
+wm-joins-determined : (wanted : Paired (Judged (List ℕ))) (old : List ℕ) → Determines (λ (r : WmPairAnswer × List ℕ). WmJoins wanted old (r .1) (r .0))
+wm-joins-determined wanted old a b p q =
+    let one = p .says ∙ sym (q .says) in
+    let two = p .leaves ∙ sym (q .leaves) in
+    λ i. (one i, two i)
 
 pub record Wakemiono : Type 0 where
   wm-walk : Determines1 wm-walk
@@ -56,6 +66,10 @@ pub record Wakemiono : Type 0 where
   wm-why-local : Determines3 wm-why-local
   wm-markers : DeterminesThree3 wm-markers
   wm-quick-function-name : Determines5 wm-quick-function-name
+  wm-pair : Determines3 wm-pair
+  wm-wide-pair : Determines3 wm-wide-pair
+  wm-pair-join : DeterminesBoth3 wm-pair-join
+  wm-wide-pair-join : DeterminesBoth3 wm-wide-pair-join
 
 pub determined : Wakemiono
 determined =
@@ -93,4 +107,8 @@ determined =
       wm-why-local = λ function local payload. equal-determined _;
       wm-markers = λ payload indices offsets. wm-makes-determined _ _ _;
       wm-quick-function-name = λ payload indices offsets end function. equal-determined _;
+      wm-pair = λ q separate own. equal-determined _;
+      wm-wide-pair = λ q separate own. equal-determined _;
+      wm-pair-join = λ separate own old. wm-joins-determined _ _;
+      wm-wide-pair-join = λ separate own old. wm-joins-determined _ _;
     }

@@ -12,6 +12,7 @@ use Rattle.format.specs.Outputs.{fitting, writeAnswer, outputAfter}
 use Rattle.format.specs.Reading.{Judged, accepted, refused}
 use Rattle.wakemiono.specs.Boundary.{wmFound, wmRefused, WmWrites}
 use Rattle.wakemiono.specs.declared.WmAnswer.{WmAnswer}
+use Rattle.promises.specs.Demands.{Leaves}
 
 pub record Wrote (wanted : Judged (List ℕ)) (old new : List ℕ) (a : WmAnswer) : Type 0 where
   pub bytes : List ℕ
@@ -75,6 +76,14 @@ module _ {old new : List ℕ} {a : WmAnswer} where
       rw is (omega (arith, length-append bytes (drop (length bytes) old), length-drop (length bytes) old, leb-true (length bytes) (length old) t)))
       (λ t. let is : new ≡ old = w .leaves ∙ rw t in ap length is)
   wrote-as-long (refused n at) w = ap length (w .leaves)
+
+pub wrote-leaves : (wanted : Judged (List ℕ)) (old new : List ℕ) (a : WmAnswer) → WmWrites wanted old new a → Leaves old new a
+wrote-leaves wanted old new a w = record {
+  refused-unchanged = wrote-nothing wanted w;
+  others-unchanged = λ k. wrote-others (wrote wanted w k);
+  inside = wrote-room wanted w;
+  as-long = wrote-as-long wanted w;
+}
 
 -- a refusal of what is wanted is answered as it is
 pub wrote-refused : {wanted : Judged (List ℕ)} {old new : List ℕ} {a : WmAnswer} {n at : ℕ} → WmWrites wanted old new a → wanted ≡ refused n at → a ≡ wmRefused n at

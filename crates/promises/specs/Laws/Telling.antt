@@ -36,7 +36,7 @@ number-told s c next v told h i n =
     )
 
 -- yes is 1, and no is 0
-yes-one : (b : Bool) → (wmYes b ≡ 1) ↔ (b ≡ true)
+pub yes-one : (b : Bool) → (wmYes b ≡ 1) ↔ (b ≡ true)
 yes-one true = (λ _. refl, λ _. refl)
 yes-one false = (λ e. absurd (omega arith), λ e. absurd (let z : _≡_ {A = ℕ} 0 1 = cc in omega arith))
 
@@ -53,7 +53,7 @@ byJudged (accepted v) f g = f v refl
 byJudged (refused n at) f g = g n at refl
 
 -- what is its own rewriting
-own : (r : Judged (List ℕ)) (p : List ℕ) → (isItsRewriting r p ≡ true) ↔ (r ≡ accepted p)
+pub own : (r : Judged (List ℕ)) (p : List ℕ) → (isItsRewriting r p ≡ true) ↔ (r ≡ accepted p)
 unfolding isItsRewriting
 own (accepted w) p = (λ e. ap accepted (same-true w p e), λ e. rw (accepted-is e) (same-self p))
 own (refused n at) p = (λ e. absurd (let z : _≡_ {A = ℕ} 0 1 = cc in omega arith), λ e. absurd (not-accepted e))
