@@ -57,6 +57,9 @@ DeterminesBoth4 {A} promise = (a : A) → DeterminesBoth3 (promise a)
 abbrev pub DeterminesBoth5 : {A B C D E Other Result : Type 0} → (A → B → C → D → E → Other → Result → Type 0) → Type 0
 DeterminesBoth5 {A} promise = (a : A) → DeterminesBoth4 (promise a)
 
+abbrev pub DeterminesBoth6 : {A B C D E F Other Result : Type 0} → (A → B → C → D → E → F → Other → Result → Type 0) → Type 0
+DeterminesBoth6 {A} promise = (a : A) → DeterminesBoth5 (promise a)
+
 -- And where three things come back: two lists after the call, and the answer last
 abbrev pub DeterminesThree : {Other Another Result : Type 0} → (Other → Another → Result → Type 0) → Type 0
 DeterminesThree {Other} {Another} {Result} promise = Determines (λ (back : Result × Other × Another). promise (back .1) (back .2) (back .0))

@@ -1,10 +1,18 @@
 -- The two payloads: each judged whole, then joined.
-use Prim.Native.Nat.{ℕ}
+use Prim.Native.Nat.{ℕ, _+_, _-_, _<_}
+use mathlib.Core.Bool.{Bool, true, false}
 use mathlib.Core.List.{List}
 use mathlib.Core.Path.{_≡_, refl}
+use native.Mathlib.Omega.{arith}
 use borrow.Author.Needs.{needs}
+use borrow.Author.Tests.{leb-true}
 use denote.Enum.Declared.{tagOf}
-use Rattle.format.specs.Joined.{writeJoined, joinNames, JoinWrites}
+use lib.Dec.{leb}
+use lib.ListN.{length}
+use Rattle.format.specs.Joined.{joinedContents, writeJoined, joinNames, JoinWrites}
+use Rattle.format.specs.Numbers.{limit32}
+use Rattle.format.specs.Laws.Joined.{contents-length}
+use Rattle.format.specs.Laws.JoiningAll.{short-fits}
 use Rattle.format.specs.Names.{Kind, Content, payload, judgeNames}
 use Rattle.format.specs.Parts.{Part}
 use Rattle.format.specs.Reading.{accepted, verdict, Accepted as IsAccepted}
@@ -14,7 +22,7 @@ use Rattle.format.specs.Laws.Outcomes.{judged}
 use Rattle.format.specs.Laws.PairAnswers.{join-refused}
 use Rattle.format.specs.Laws.Pairs.{separate-exactly, own-exactly}
 use Rattle.format.specs.declared.JoinWritten.{JoinWritten}
-use Rattle.format.specs.declared.JoinWritten.the-variants.{PayloadRefused}
+use Rattle.format.specs.declared.JoinWritten.the-variants.{Length as Joined, PayloadRefused}
 use Rattle.format.specs.declared.Refusal.{Refusal}
 use Rattle.format.specs.declared.Verdict.{Verdict}
 use Rattle.format.specs.declared.Whose.the-variants.{Separate, Own}
@@ -24,7 +32,9 @@ use Rattle.reading.specs.Cursors.{overAll}
 use Rattle.reading.specs.declared.Cursor.{Cursor}
 use Rattle.reading.proofs.Laws.{left-all, over-inside}
 use Rattle.writing.proofs.Laws.{wrote-length}
-use Rattle.joining.specs.Subsections.{PayloadStands, Payloads, Joins}
+use Rattle.joining.specs.Roomy.{Roomy}
+use Rattle.joining.specs.Subsections.{PayloadStands, Payloads, FitsJoined, PutsJoined, Joins}
+use Rattle.joining.proofs.SubsectionPuts.{both-put}
 
 -- one of them, accepted
 module _ (kindOf : ℕ → Kind) (s : List ℕ) where
@@ -69,4 +79,28 @@ both-joined {kindOf} {s} {o} over over′ j =
     let e′ = whole-judged kindOf o over′ (j .both .second-stands) in
     rw (e, e′) (j .writes)
 
-pub ruleset joins-beside = (own-refused, is-accepted, whole-known, both-known, both-joined, wrote-length, needs)
+-- an output that is long enough anyhow
+module _ {first second room : ℕ} where
+  pub not-roomy : Roomy first second room false
+  not-roomy = record { enough = λ e. absurd (let z : _≡_ {A = ℕ} 0 1 = cc in omega arith) }
+
+  pub roomy-if : first < limit32 → second < limit32 - first → Roomy first second room (leb (first + second) room)
+  roomy-if g h = record { enough = λ e. record { small = omega (arith, g, h); room-for-both = leb-true (first + second) room e } }
+
+pub ruleset rooms = (not-roomy, roomy-if, needs)
+
+module _ {kindOf : ℕ → Kind} {s o : List ℕ} {c d : Cursor} (a : IsAccepted (judgeNames kindOf 0) s) (b : IsAccepted (judgeNames kindOf 0) o) (over : c ≡ overAll s) (over′ : d ≡ overAll o) where
+  pub roomy-fits : {out : List ℕ} {r : Bool} → Roomy (length s) (length o) (length out) r → r ≡ true → FitsJoined kindOf s c o d out
+  roomy-fits w e =
+      let h = w .enough e in
+      let short = contents-length kindOf a b in
+      record {
+        both = record { ours = a .value; theirs = b .value; first-stands = rw over (stands-whole kindOf s a); second-stands = rw over′ (stands-whole kindOf o b) };
+        fit = short-fits (joinedContents (a .value) (b .value)) (omega (arith, short, h .small));
+        room = omega (arith, short, h .room-for-both);
+      }
+
+pub roomy-put : {kindOf : ℕ → Kind} {s o : List ℕ} {c d : Cursor} → c ≡ overAll s → d ≡ overAll o → {old new : List ℕ} {end : ℕ} → PutsJoined kindOf s c o d old new end → JoinWrites (joinNames kindOf s o) old new (Joined end)
+roomy-put over over′ p = both-joined over over′ (both-put p)
+
+pub ruleset joins-beside = (roomy-fits, roomy-put, own-refused, is-accepted, whole-known, both-known, both-joined, wrote-length, needs)

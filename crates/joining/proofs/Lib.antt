@@ -1,5 +1,6 @@
 pub mod SideLaws
 pub mod StepLaws
+pub mod AheadLaws
 pub mod WayLaws
 pub mod MapLaws
 pub mod HeldLaws

@@ -72,7 +72,7 @@ module _ {s : List ℕ} {left : Rows} {o : List ℕ} {right : Rows} {x y : RowSt
       ours : Parted sized theFirst s left o right i (partOf s part) (behindAt left next) right → RowNext s left o right (Row Separate i part l right)
       ours d =
           let t = a-row p e in
-          rw is (record { steps = record { parted = d; in-part = t .in-part; small = part-fits (t .splits .value); fewer = omega (arith, t .splits .some-left) } })
+          rw is (record { steps = record { parted = d; in-part = t .in-part; small = part-fits (t .splits .value); fewer = omega (arith, t .splits .some-left); same-left = λ n. absurd (omega (arith, n, t .splits .some-left)); same-right = λ _. refl } })
 
       pub ours-alone : tagOf row-type.the-type y ≡ 0 → RowNext s left o right (Row Separate i part l right)
       ours-alone h = ours (left-alone w theFirst (a-row p e .splits) (no-row y q h))
@@ -84,7 +84,7 @@ module _ {s : List ℕ} {left : Rows} {o : List ℕ} {right : Rows} {x y : RowSt
       theirs : Parted sized theFirst s left o right j (partOf o other) left (behindAt right after) → RowNext s left o right (Row Own j other left r)
       theirs d =
           let t = a-row q f in
-          rw is (record { steps = record { parted = d; in-part = t .in-part; small = part-fits (t .splits .value); fewer = omega (arith, t .splits .some-left) } })
+          rw is (record { steps = record { parted = d; in-part = t .in-part; small = part-fits (t .splits .value); fewer = omega (arith, t .splits .some-left); same-left = λ _. refl; same-right = λ n. absurd (omega (arith, n, t .splits .some-left)) } })
 
       pub theirs-alone : tagOf row-type.the-type x ≡ 0 → RowNext s left o right (Row Own j other left r)
       theirs-alone h = theirs (right-alone w theFirst (a-row q f .splits) (no-row x p h))
@@ -97,9 +97,7 @@ module _ {s : List ℕ} {left : Rows} {o : List ℕ} {right : Rows} {x y : RowSt
     of-both g h is is′ =
         let t = a-row p e in
         let u = a-row q f in
-        rw (is, is′) (record { steps = record { parted = both-first theFirst (t .splits) (u .splits) (omega arith); in-part = t .in-part; small = part-fits (t .splits .value); fewer = omega (arith, t .splits .some-left, u .splits .some-left) } })
-
-pub ruleset next-rows = (left-known, right-known, rows-end, ours-alone, ours-first, theirs-alone, theirs-first, of-both, row-left, needs)
+        rw (is, is′) (record { steps = record { parted = both-first theFirst (t .splits) (u .splits) (omega arith); in-part = t .in-part; small = part-fits (t .splits .value); fewer = omega (arith, t .splits .some-left, u .splits .some-left); same-left = λ n. absurd (omega (arith, n, t .splits .some-left)); same-right = λ n. absurd (omega (arith, n, u .splits .some-left)) } })
 
 -- Groups
 module _ {s : List ℕ} {left : Rows} {o : List ℕ} {right : Rows} {x y : GroupStep} (p : GroupSteps s left x) (q : GroupSteps o right y) where

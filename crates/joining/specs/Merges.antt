@@ -1,17 +1,17 @@
 -- How long two tables are as one, in its fewest bytes, and what is written of it. Assumes nothing.
 use Prim.Native.Nat.{ℕ, _+_, _≤_, _<_}
-use mathlib.Core.List.{List}
+use mathlib.Core.List.{List, _++_}
 use mathlib.Core.Path.{_≡_}
 use lib.ListN.{length}
 use Rattle.copying.specs.Bytes.{rowsOf, groupOf, oneIfSome, keptGroups, groupsOf}
 use Rattle.copying.specs.Standing.{FitsPart}
 use Rattle.format.specs.Canonical.{writePart}
 use Rattle.format.specs.Joined.{merged, theFirst}
-use Rattle.format.specs.Numbers.{limit32}
+use Rattle.format.specs.Numbers.{shortest, limit32}
 use Rattle.format.specs.Parts.{Part, sized}
 use Rattle.format.specs.Tables.{Table, size, rows, table}
 use Rattle.format.specs.declared.Whose.{Whose}
-use Rattle.reading.specs.Cursors.{left as leftOf}
+use Rattle.reading.specs.Cursors.{Inside, left as leftOf}
 use Rattle.reading.specs.Standing.{Stands}
 use Rattle.reading.specs.declared.Cursor.{Cursor}
 use Rattle.tables.specs.declared.Held.{Held}
@@ -19,6 +19,8 @@ use Rattle.tables.specs.declared.stepping.Rows.{Rows}
 use Rattle.writing.specs.Wrote.{Wrote}
 use Rattle.joining.specs.Sides.{HeldMaps, Sides, Short, Room, PutsBoth, twoParts}
 use Rattle.joining.specs.Steps.{bytesOf, passedBy}
+use Rattle.joining.specs.Ahead.{ReadAhead}
+use Rattle.joining.specs.declared.rows.Ahead.{Ahead}
 use Rattle.joining.specs.declared.maps.Merged.{Merged}
 use Rattle.joining.specs.declared.groups.MergedGroups.{MergedGroups}
 use Rattle.joining.specs.declared.groups.OneGroup.{OneGroup}
@@ -43,12 +45,33 @@ module _ (s : List ℕ) (left : Rows) (o : List ℕ) (right : Rows) where
   abbrev pub PutsMaps : (old new : List ℕ) (at next : ℕ) → Type 0
   PutsMaps old new at next = PutsBoth sized theFirst rowsOf s left o right old new at next
 
+-- the first row of each read ahead
+module _ (s : List ℕ) (left : Ahead) (o : List ℕ) (right : Ahead) where
+  pub record ShortAhead : Type 0 where
+    pub first : ReadAhead s left
+    pub second : ReadAhead o right
+    pub maps : ShortMaps s (left .rows) o (right .rows)
+
+  pub record RoomAhead (out : List ℕ) (at : ℕ) : Type 0 where
+    pub first : ReadAhead s left
+    pub second : ReadAhead o right
+    pub maps : RoomForMaps s (left .rows) o (right .rows) out at
+
 -- a row's text, of one of the payloads
 pub record FitsText (whose : Whose) (s o : List ℕ) (part : Cursor) (out : List ℕ) (at : ℕ) : Type 0 where
   pub fits : FitsPart (bytesOf whose s o) part out at
 
 pub record PutsText (whose : Whose) (s o : List ℕ) (part : Cursor) (old new : List ℕ) (at next : ℕ) : Type 0 where
   pub wrote : Wrote old new at next (writePart (leftOf (bytesOf whose s o) part))
+
+-- and the row, with its index before it
+pub record FitsRow (index : ℕ) (whose : Whose) (s o : List ℕ) (part : Cursor) (out : List ℕ) (at : ℕ) : Type 0 where
+  pub inside : Inside (bytesOf whose s o) part
+  pub small : length (leftOf (bytesOf whose s o) part) < limit32
+  pub room : at + (length (shortest index) + length (writePart (leftOf (bytesOf whose s o) part))) ≤ length out
+
+pub record PutsRow (index : ℕ) (whose : Whose) (s o : List ℕ) (part : Cursor) (old new : List ℕ) (at next : ℕ) : Type 0 where
+  pub wrote : Wrote old new at next (shortest index ++ writePart (leftOf (bytesOf whose s o) part))
 
 -- Groups
 module _ (s : List ℕ) (left : Rows) (o : List ℕ) (right : Rows) where

@@ -34,6 +34,9 @@ module _ (s : List ℕ) (left : Rows) (o : List ℕ) (right : Rows) where
     pub in-part : Inside (bytesOf whose s o) part
     pub small : length (leftOf (bytesOf whose s o) part) < limit32
     pub fewer : left′ .more + right′ .more < left .more + right .more
+    -- the rows of a side are the same, or fewer
+    pub same-left : left′ .more ≡ left .more → left′ ≡ left
+    pub same-right : right′ .more ≡ right .more → right′ ≡ right
 
   -- it ends where no row is to come on either side, and nowhere else
   abbrev pub rowNext : NextRow → Type 0

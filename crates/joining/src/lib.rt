@@ -7,7 +7,11 @@ mod subsections;
 
 ghost use Rattle.format.specs.Names.{kindIn, judgeNames};
 ghost use Rattle.format.specs.Reading.{Accepted};
+ghost use Rattle.joining.specs.Roomy.{Roomy};
 ghost use Rattle.joining.specs.Promises.{joining-join};
+use crate::subsections::TOO_LARGE;
+use crate::subsections::put_both;
+use crate::subsections::put_joined;
 use format::Edition;
 use format::JoinWritten;
 use format::Verdict;
@@ -16,7 +20,20 @@ use format::refusal_of;
 use names::judging::judge;
 use reading::Cursor;
 
-// The own payload is judged beside the separate one, which was accepted; then what both come to is measured, and only then is anything stored.
+// Whether an output is as long as both payloads, which have fewer bytes together than a subsection may have. Both as one are never longer, so that nothing has to be measured then.
+fn is_roomy(first: usize, second: usize, room: usize) -> bool
+    ensures { λ r. ⌜ Roomy first second room r ⌝ }
+{
+    if TOO_LARGE <= first {
+        return false;
+    }
+    if TOO_LARGE - first <= second {
+        return false;
+    }
+    first + second <= room
+}
+
+// The own payload is judged beside the separate one, which was accepted; then what both come to is measured, unless there is room for it anyhow, and only then is anything stored.
 fn join_beside(separate: &[u8], own: &[u8], edition: Edition, out: &mut [u8]) -> JoinWritten
     requires { ⌜ Accepted (judgeNames (kindIn edition) 0) (now separate) ⌝ }
     ensures { λ r. ⌜ joining-join (now (separate .entry)) (now (own .entry)) edition (now (out .entry)) (now (out .exit)) r ⌝ }
@@ -27,7 +44,11 @@ fn join_beside(separate: &[u8], own: &[u8], edition: Edition, out: &mut [u8]) ->
     };
     let first = Cursor::over(separate);
     let second = Cursor::over(own);
-    subsections::put_both(separate, first, own, second, edition, out)
+    if is_roomy(separate.len(), own.len(), out.len()) {
+        let end = put_joined(out, separate, first, own, second, edition);
+        return JoinWritten::Length(end);
+    }
+    put_both(separate, first, own, second, edition, out)
 }
 
 // Both are judged whole, the separate one first.

@@ -3,7 +3,8 @@ ghost use mathlib.Core.Path.{_≡_};
 ghost use Rattle.format.specs.Parts.{sized};
 ghost use Rattle.format.specs.Tables.{table};
 ghost use Rattle.joining.specs.Sides.{HeldCount, HeldRows, Sides};
-ghost use Rattle.joining.specs.Steps.{behindTaken, Taken, RowNext, GroupNext};
+ghost use Rattle.joining.specs.Ahead.{KnownRows, Reads, Goes, Ready, NextOf};
+ghost use Rattle.joining.specs.Steps.{behindTaken, Taken, GroupNext};
 use format::Whose;
 use reading::Cursor;
 use tables::Held;
@@ -14,6 +15,12 @@ use tables::stepping::behind;
 use tables::stepping::group_step;
 use tables::stepping::row_step;
 use tables::stepping::rows_here;
+
+// The rows of a map that are to come, and the first of them, which is read ahead: of two maps only one row is taken at a time, and the other need not be read again.
+pub struct Ahead {
+    pub rows: Rows,
+    pub step: RowStep,
+}
 
 // What comes next of two maps: whose row it is, its index and its text, and the rows that are to come of each.
 pub enum NextRow {
@@ -54,38 +61,55 @@ pub fn behind_taken(left: Rows, taken: Held, next: Cursor) -> Rows
     }
 }
 
-// The next row of two maps. Where both have it, it is the separate payload's.
-pub fn next_row(left: Rows, s: &[u8], right: Rows, o: &[u8]) -> NextRow
-    requires { ⌜ Sides sized (now s) left (now o) right ⌝ }
-    ensures { λ r. ⌜ RowNext (now (s .entry)) left (now (o .entry)) right r ⌝ }
+// Reads the first of some rows ahead.
+pub fn read_ahead(rows: Rows, s: &[u8]) -> Ahead
+    requires { ⌜ KnownRows (now s) rows ⌝ }
+    ensures { λ r. ⌜ Reads (now (s .entry)) rows r ⌝ }
 {
-    match row_step(left, s) {
-        RowStep::End => match row_step(right, o) {
+    let step = row_step(rows, s);
+    Ahead { rows, step }
+}
+
+// Goes on to rows that are to come now; where none was taken, what was read ahead is not read again.
+pub fn onward(before: Ahead, rows: Rows, s: &[u8]) -> Ahead
+    requires { ⌜ Goes (now s) before rows ⌝ }
+    ensures { λ r. ⌜ Reads (now (s .entry)) rows r ⌝ }
+{
+    let left = before.rows;
+    if rows.more == left.more {
+        return before;
+    }
+    read_ahead(rows, s)
+}
+
+// The next row of two maps. Where both have it, it is the separate payload's.
+pub fn next_row(left: Ahead, right: Ahead) -> NextRow
+    requires { ⌜ Ready left ⌝ }
+    requires { ⌜ Ready right ⌝ }
+    ensures { λ r. ⌜ NextOf left right r ⌝ }
+{
+    let ours = left.rows;
+    let theirs = right.rows;
+    let first = left.step;
+    let second = right.step;
+    match first {
+        RowStep::End => match second {
             RowStep::End => NextRow::End,
-            RowStep::Row(j, other, after) => NextRow::Row(
-                Whose::Own,
-                j,
-                other,
-                left,
-                behind(right, after),
-            ),
+            RowStep::Row(j, other, after) => {
+                NextRow::Row(Whose::Own, j, other, ours, behind(theirs, after))
+            }
         },
-        RowStep::Row(i, part, next) => match row_step(right, o) {
-            RowStep::End => NextRow::Row(Whose::Separate, i, part, behind(left, next), right),
+        RowStep::Row(i, part, next) => match second {
+            RowStep::End => NextRow::Row(Whose::Separate, i, part, behind(ours, next), theirs),
             RowStep::Row(j, other, after) => {
                 if i < j {
-                    return NextRow::Row(Whose::Separate, i, part, behind(left, next), right);
+                    return NextRow::Row(Whose::Separate, i, part, behind(ours, next), theirs);
                 }
                 if j < i {
-                    return NextRow::Row(Whose::Own, j, other, left, behind(right, after));
+                    return NextRow::Row(Whose::Own, j, other, ours, behind(theirs, after));
                 }
-                NextRow::Row(
-                    Whose::Separate,
-                    i,
-                    part,
-                    behind(left, next),
-                    behind(right, after),
-                )
+                let onward = behind(theirs, after);
+                NextRow::Row(Whose::Separate, i, part, behind(ours, next), onward)
             }
         },
     }

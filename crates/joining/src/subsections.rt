@@ -21,7 +21,7 @@ use writing::put_number;
 const ID_LENGTH: usize = 1;
 
 // Contents of so many bytes or more have no size number.
-const TOO_LARGE: usize = 1 << 32;
+pub const TOO_LARGE: usize = 1 << 32;
 
 // What comes next of a payload: a subsection's id, where its contents lie, and the cursor behind it.
 pub enum NextFrame {
@@ -180,7 +180,14 @@ fn put_subsection(
 }
 
 // Both as one, from the output's front on.
-fn put_joined(out: &mut [u8], s: &[u8], c: Cursor, o: &[u8], d: Cursor, edition: Edition) -> usize
+pub fn put_joined(
+    out: &mut [u8],
+    s: &[u8],
+    c: Cursor,
+    o: &[u8],
+    d: Cursor,
+    edition: Edition,
+) -> usize
     requires { ⌜ FitsJoined (kindIn edition) (now s) c (now o) d (now out) ⌝ }
     ensures { λ r. ⌜ PutsJoined (kindIn edition) (now (s .entry)) c (now (o .entry)) d (now (out .entry)) (now (out .exit)) r ⌝ }
 {

@@ -1,9 +1,6 @@
 -- Each promise of the crate `pairs` determines what comes back.
-use Rattle.format.specs.Determined.{Determines4, DeterminesBoth5, pair-answer-determined, part-determined}
+use Rattle.format.specs.Determined.{Determines4, DeterminesBoth6, pair-answer-determined, part-determined}
 use Rattle.pairs.specs.Promises.{pairs-ask, pairs-ask-bytes}
-
-abbrev pub DeterminesBoth6 : {A B C D E F Other Result : Type 0} → (A → B → C → D → E → F → Other → Result → Type 0) → Type 0
-DeterminesBoth6 {A} promise = (a : A) → DeterminesBoth5 (promise a)
 
 pub record Pairs : Type 0 where
   pairs-ask : Determines4 pairs-ask

@@ -1,52 +1,18 @@
-use Prim.Native.Nat.{_+_}
-use Rattle.joining.proofs.MapLaws.{MeasuringMaps, measuring-maps}
+use Rattle.joining.proofs.MapLaws.{measuring-ahead}
 use Rattle.joining.proofs.maps.merged_length.Statement.{statement}
 use Rattle.joining.proofs.maps.merged_length.Tie as tie
 
-abbrev Inv-loop : tie.InvT-loop
-Inv-loop s o ours₀ theirs₀ count₀ length₀ ours theirs count length = MeasuringMaps s ours₀ o theirs₀ ours theirs count length
+read-ahead-requires : tie.Need-read-ahead-requires
+read-ahead-requires c κs = search measuring-ahead
 
-abbrev μ-loop : tie.MeasureT-loop
-μ-loop s o ours₀ theirs₀ count₀ length₀ ours theirs count length = ours .more + theirs .more
+read-ahead-requires-2 : tie.Need-read-ahead-requires-2
+read-ahead-requires-2 c κs = search measuring-ahead
 
-loop-holds : tie.Need-loop-holds Inv-loop μ-loop
-loop-holds c = search measuring-maps
+ahead-length-requires : tie.Need-ahead-length-requires
+ahead-length-requires c κs = search measuring-ahead
 
-next-row-requires : tie.Need-next-row-requires Inv-loop μ-loop
-next-row-requires c κs = search measuring-maps
-
-enum-told : tie.Need-enum-told Inv-loop μ-loop
-enum-told c = search measuring-maps
-
-returns : tie.Need-returns Inv-loop μ-loop
-returns c = search measuring-maps
-
-enum-known-index : tie.Need-enum-known-index Inv-loop μ-loop
-enum-known-index c = search measuring-maps
-
-number-length-requires : tie.Need-number-length-requires Inv-loop μ-loop
-number-length-requires c κs = search measuring-maps
-
-sub-sized-length : tie.Need-sub-sized-length Inv-loop μ-loop
-sub-sized-length c = search measuring-maps
-
-sized-length-requires : tie.Need-sized-length-requires Inv-loop μ-loop
-sized-length-requires c κs = search measuring-maps
-
-add-length : tie.Need-add-length Inv-loop μ-loop
-add-length c = search measuring-maps
-
-add-length-2 : tie.Need-add-length-2 Inv-loop μ-loop
-add-length-2 c = search measuring-maps
-
-add-count : tie.Need-add-count Inv-loop μ-loop
-add-count c = search measuring-maps
-
-loop-less : tie.Need-loop-less Inv-loop μ-loop
-loop-less c = search measuring-maps
-
-loop-again : tie.Need-loop-again Inv-loop μ-loop
-loop-again c = search measuring-maps
+returns : tie.Need-returns
+returns c = search measuring-ahead
 
 pub merged-length-spec : {M : Type 1} → statement M
-merged-length-spec = tie.close (tie.spec Inv-loop μ-loop loop-holds next-row-requires enum-told returns enum-known-index number-length-requires sub-sized-length sized-length-requires add-length add-length-2 add-count loop-less loop-again)
+merged-length-spec = tie.close (tie.spec read-ahead-requires read-ahead-requires-2 ahead-length-requires returns)
