@@ -1,7 +1,7 @@
 -- Refusal numbers: what each is given for. Where its offset points is said where it is given. Assumes nothing.
 use Prim.Native.Nat.{ℕ}
 use Rattle.format.specs.declared.Reason.{Reason}
-use Rattle.format.specs.declared.Reason.the-variants.{NoPreamble, PastItsPart, NumberTooLarge, NotText, SectionUnknown, SectionOrder, SectionTwice, SectionTooLate, SubsectionOrder, LeftOver, NotAbove, NotHint, OutputTooShort, ListsDisagree, SubsectionTooLarge, InputTooLarge, NotZero, NotMarkers}
+use Rattle.format.specs.declared.Reason.the-variants.{NoPreamble, PastItsPart, NumberTooLarge, NotText, SectionUnknown, SectionOrder, SectionTwice, SectionTooLate, SubsectionOrder, LeftOver, NotAbove, NotHint, OutputTooShort, ListsDisagree, SubsectionTooLarge, InputTooLarge, NotZero, AfterFinish, NotMarkers, TotalTooLarge}
 
 abbrev pub numberOf : Reason → ℕ
 -- preamble missing or different
@@ -38,5 +38,9 @@ numberOf SubsectionTooLarge = 15
 numberOf InputTooLarge = 16
 -- the byte behind a function index of the older hints not zero
 numberOf NotZero = 17
+-- a part of an upload or its finish after the finish
+numberOf AfterFinish = 18
 -- markers of unequal counts, with an end outside the payload, not rising, or not below the end
 numberOf NotMarkers = 22
+-- a part that takes the total above 18,446,744,073,709,551,615 bytes
+numberOf TotalTooLarge = 28

@@ -91,7 +91,7 @@ pub const FIELD_NAMES: u8 = 10;
 
 pub const TAG_NAMES: u8 = 11;
 
-// Why an input is refused, in the order of the numbers: 1 to 17, and 22 (K8).
+// Why an input is refused, in the order of the numbers: 1 to 18, 22 (K8) and 28 (K5).
 pub enum Reason {
     NoPreamble,
     PastItsPart,
@@ -110,7 +110,9 @@ pub enum Reason {
     SubsectionTooLarge,
     InputTooLarge,
     NotZero,
+    AfterFinish,
     NotMarkers,
+    TotalTooLarge,
 }
 
 pub struct Refusal {
@@ -218,7 +220,9 @@ impl Reason {
             Reason::SubsectionTooLarge => 15,
             Reason::InputTooLarge => 16,
             Reason::NotZero => 17,
+            Reason::AfterFinish => 18,
             Reason::NotMarkers => 22,
+            Reason::TotalTooLarge => 28,
         }
     }
 }

@@ -1,7 +1,8 @@
 -- Refusal numbers tell reasons apart.
-use Prim.Native.Nat.{ℕ, pred}
+use Prim.Native.Nat.{ℕ, pred, _<_}
 use mathlib.Core.List.{List, [], _∷_}
 use mathlib.Core.Path.{_≡_, refl, sym, ap, _∙_}
+use native.Mathlib.Omega.{arith}
 use lib.ListN.{getD}
 use Rattle.format.specs.Refusals.{numberOf}
 use Rattle.format.specs.Reading.{Outcome, stop, Judged, refused}
@@ -11,14 +12,14 @@ use Rattle.format.specs.declared.Refusal.{Refusal}
 use Rattle.format.specs.declared.Verdict.{Verdict}
 use Rattle.format.specs.declared.Verdict.the-variants.{Accepted, Refused}
 use Rattle.format.specs.declared.Reason.{Reason}
-use Rattle.format.specs.declared.Reason.the-variants.{NoPreamble, PastItsPart, NumberTooLarge, NotText, SectionUnknown, SectionOrder, SectionTwice, SectionTooLate, SubsectionOrder, LeftOver, NotAbove, NotHint, OutputTooShort, ListsDisagree, SubsectionTooLarge, InputTooLarge, NotZero, NotMarkers}
+use Rattle.format.specs.declared.Reason.the-variants.{NoPreamble, PastItsPart, NumberTooLarge, NotText, SectionUnknown, SectionOrder, SectionTwice, SectionTooLate, SubsectionOrder, LeftOver, NotAbove, NotHint, OutputTooShort, ListsDisagree, SubsectionTooLarge, InputTooLarge, NotZero, AfterFinish, NotMarkers, TotalTooLarge}
 
 -- for numbers that are not given
 notGiven : Reason
 notGiven = NoPreamble
 
 reasons : List Reason
-reasons = NoPreamble ∷ PastItsPart ∷ NumberTooLarge ∷ NotText ∷ SectionUnknown ∷ SectionOrder ∷ SectionTwice ∷ SectionTooLate ∷ SubsectionOrder ∷ LeftOver ∷ NotAbove ∷ NotHint ∷ OutputTooShort ∷ ListsDisagree ∷ SubsectionTooLarge ∷ InputTooLarge ∷ NotZero ∷ notGiven ∷ notGiven ∷ notGiven ∷ notGiven ∷ NotMarkers ∷ []
+reasons = NoPreamble ∷ PastItsPart ∷ NumberTooLarge ∷ NotText ∷ SectionUnknown ∷ SectionOrder ∷ SectionTwice ∷ SectionTooLate ∷ SubsectionOrder ∷ LeftOver ∷ NotAbove ∷ NotHint ∷ OutputTooShort ∷ ListsDisagree ∷ SubsectionTooLarge ∷ InputTooLarge ∷ NotZero ∷ AfterFinish ∷ notGiven ∷ notGiven ∷ notGiven ∷ NotMarkers ∷ notGiven ∷ notGiven ∷ notGiven ∷ notGiven ∷ notGiven ∷ TotalTooLarge ∷ []
 
 -- the reason with a number, counted from 1
 numbered : ℕ → Reason
@@ -43,7 +44,32 @@ numbered-is ListsDisagree = refl
 numbered-is SubsectionTooLarge = refl
 numbered-is InputTooLarge = refl
 numbered-is NotZero = refl
+numbered-is AfterFinish = refl
 numbered-is NotMarkers = refl
+numbered-is TotalTooLarge = refl
+
+-- a refusal's number is a byte
+pub number-small : (r : Reason) → numberOf r < 256
+number-small NoPreamble = omega arith
+number-small PastItsPart = omega arith
+number-small NumberTooLarge = omega arith
+number-small NotText = omega arith
+number-small SectionUnknown = omega arith
+number-small SectionOrder = omega arith
+number-small SectionTwice = omega arith
+number-small SectionTooLate = omega arith
+number-small SubsectionOrder = omega arith
+number-small LeftOver = omega arith
+number-small NotAbove = omega arith
+number-small NotHint = omega arith
+number-small OutputTooShort = omega arith
+number-small ListsDisagree = omega arith
+number-small SubsectionTooLarge = omega arith
+number-small InputTooLarge = omega arith
+number-small NotZero = omega arith
+number-small AfterFinish = omega arith
+number-small NotMarkers = omega arith
+number-small TotalTooLarge = omega arith
 
 pub told-apart : (r s : Reason) → numberOf r ≡ numberOf s → r ≡ s
 told-apart r s e = sym (numbered-is r) ∙ ap numbered e ∙ numbered-is s

@@ -100,7 +100,7 @@ section-shorter : (seen : Seen) (o id : ℕ) (bs : List ℕ) {s : Section} {o₁
 section-shorter seen o id bs e = inSection seen o id bs e λ o₂ r₂ _ _ e₁ _. omega (arith, sized-codec .sound (suc o) bs e₁ .shorter)
 
 -- more than enough is as good as enough
-sections-enough : (most most′ : ℕ) (seen : Seen) (o : ℕ) (bs : List ℕ) → length bs ≤ most → length bs ≤ most′ → sections most seen o bs ≡ sections most′ seen o bs
+pub sections-enough : (most most′ : ℕ) (seen : Seen) (o : ℕ) (bs : List ℕ) → length bs ≤ most → length bs ≤ most′ → sections most seen o bs ≡ sections most′ seen o bs
 unfolding sections
 sections-enough zero zero seen o bs h h′ = refl
 sections-enough zero (suc most′) seen o [] h h′ = refl
@@ -120,7 +120,7 @@ step-section seen o id bs e =
     inTurn (section seen o id (suc o) bs) _ e λ s o₁ r₁ e₁ e₂.
     rw (some-is (got-value e₂), got-next e₂, got-rest e₂) at e₁
 
-step-goes-on : (seen : Seen) (o : ℕ) (bs : List ℕ) {s : Section} {o₁ : ℕ} {r₁ : List ℕ} → step seen o bs ≡ got (some s) o₁ r₁ → judge (sections (length bs) seen o bs) ≡ mapJudged (λ more. s ∷ more) (judge (sections (length r₁) (seeing seen s) o₁ r₁))
+pub step-goes-on : (seen : Seen) (o : ℕ) (bs : List ℕ) {s : Section} {o₁ : ℕ} {r₁ : List ℕ} → step seen o bs ≡ got (some s) o₁ r₁ → judge (sections (length bs) seen o bs) ≡ mapJudged (λ more. s ∷ more) (judge (sections (length r₁) (seeing seen s) o₁ r₁))
 unfolding step sections
 step-goes-on seen o [] e = absurd (not-some (got-value e))
 step-goes-on seen o (id ∷ bs) {s} {o₁} {r₁} e =
@@ -128,7 +128,7 @@ step-goes-on seen o (id ∷ bs) {s} {o₁} {r₁} e =
     let l = section-shorter seen o id bs e₁ in
     rw e₁ (judge-row s (sections (length bs) (seeing seen s) o₁ r₁) ∙ ap (λ r. mapJudged (λ more. s ∷ more) (judge r)) (sections-enough (length bs) (length r₁) (seeing seen s) o₁ r₁ l (omega arith)))
 
-step-refuses : (seen : Seen) (o : ℕ) (bs : List ℕ) {n at : ℕ} → step seen o bs ≡ stop n at → judge (sections (length bs) seen o bs) ≡ refused n at
+pub step-refuses : (seen : Seen) (o : ℕ) (bs : List ℕ) {n at : ℕ} → step seen o bs ≡ stop n at → judge (sections (length bs) seen o bs) ≡ refused n at
 unfolding step sections
 step-refuses seen o [] e = absurd (not-got (sym e))
 step-refuses seen o (id ∷ bs) e =
