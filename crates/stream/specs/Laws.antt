@@ -1,0 +1,11 @@
+pub mod Window
+pub mod Counting
+pub mod Texts
+pub mod Matching
+pub mod Naming
+pub mod Contents
+pub mod Customs
+pub mod Resuming
+pub mod Rows
+pub mod Sections
+pub mod Resumed

@@ -1,0 +1,1 @@
+// K5: a module as it arrives.
