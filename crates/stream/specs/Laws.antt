@@ -9,3 +9,6 @@ pub mod Resuming
 pub mod Rows
 pub mod Sections
 pub mod Resumed
+pub mod Fields
+pub mod Fits
+pub mod Calls

@@ -4,4 +4,8 @@ pub mod Naming
 pub mod Contents
 pub mod Stream
 pub mod Walked
+pub mod Fields
+pub mod Fits
+pub mod Calls
 pub mod Laws
+pub mod Promises

@@ -1,1 +1,129 @@
-// K5: a module as it arrives.
+// K5: a module as it arrives, in parts that are cut anywhere. All work is by value: a state goes in, and the state behind it comes out.
+ghost use Rattle.stream.specs.Promises.{stream-begin};
+use format::Verdict;
+
+// Where a payload lies, counted from the module's first byte: 0 and 0 where there is none.
+#[repr(C)]
+pub struct Spot {
+    pub offset: u64,
+    pub length: u64,
+}
+
+// How many bytes of each tracked name have been met.
+#[repr(C)]
+pub struct Met {
+    pub name: u8,
+    pub hints: u8,
+    pub older: u8,
+}
+
+// What is known between two parts: numbers alone, 120 bytes, with nothing between them. What a phase has no use for is 0, so
+// that the same bytes leave the same state however they were cut.
+#[repr(C)]
+pub struct Stream {
+    // how many bytes have come
+    pub total: u64,
+    // of the sections behind: how many, and where the payloads of the tracked ones lie
+    pub count: u64,
+    pub name: Spot,
+    pub hints: Spot,
+    pub older: Spot,
+    // of the section that is read: where its id stands; where the number of its name's bytes stands; where the name's text or
+    // the payload begins, or what a refusal gives as its offset
+    pub at: u64,
+    pub begins: u64,
+    pub text: u64,
+    // how many bytes its contents and its name still have
+    pub left: u32,
+    pub rest: u32,
+    // of a number: what its bytes add up to; of a character: the least code point of its form, and its own so far
+    pub low: u32,
+    pub least: u32,
+    pub point: u32,
+    pub phase: u8,
+    pub refusal: u8,
+    // of the sections behind: what the walk's rules know of them
+    pub rank: u8,
+    pub code: u8,
+    pub there: u8,
+    // of the section that is read: its id; how many bytes of a number have come; how many a character still wants; how far
+    // each name was met; its row in the walk's table, counted from 1, and 0 without one
+    pub id: u8,
+    pub come: u8,
+    pub wanted: u8,
+    pub met: Met,
+    pub row: u8,
+}
+
+// What a state is in the middle of.
+pub const STARTING: u8 = 0;
+
+const NOWHERE: Spot = Spot {
+    offset: 0,
+    length: 0,
+};
+
+const NONE_MET: Met = Met {
+    name: 0,
+    hints: 0,
+    older: 0,
+};
+
+// A stream of which nothing has come.
+pub fn begin() -> Stream
+    ensures { λ r. ⌜ stream-begin r ⌝ }
+{
+    Stream {
+        total: 0,
+        count: 0,
+        name: NOWHERE,
+        hints: NOWHERE,
+        older: NOWHERE,
+        at: 0,
+        begins: 0,
+        text: 0,
+        left: 0,
+        rest: 0,
+        low: 0,
+        least: 0,
+        point: 0,
+        phase: STARTING,
+        refusal: 0,
+        rank: 0,
+        code: 0,
+        there: 0,
+        id: 0,
+        come: 0,
+        wanted: 0,
+        met: NONE_MET,
+        row: 0,
+    }
+}
+
+// What a part leaves, and whether it was taken.
+pub struct Taken {
+    pub stream: Stream,
+    pub verdict: Verdict,
+}
+
+// Where a payload lies, if there is one: 1 and its place, or three zeros.
+pub struct Told {
+    pub there: u64,
+    pub offset: u64,
+    pub length: u64,
+}
+
+// What the finish says: a refusal's number and offset, or no number, the count of sections and the places.
+pub struct Ending {
+    pub refusal: u32,
+    pub offset: u64,
+    pub count: u64,
+    pub name: Told,
+    pub hints: Told,
+    pub older: Told,
+}
+
+pub struct Ended {
+    pub stream: Stream,
+    pub ending: Ending,
+}
