@@ -115,6 +115,14 @@ textFrom f = record { wanted = f .wanted; least = f .least; code = f .point }
 abbrev pub namesFrom : Stream → Names
 namesFrom f = record { name = f .met .name; hints = f .met .hints; older = f .met .older }
 
+-- in the middle of a custom section's contents
+unfoldable pub contentsFrom : Stream → Contents
+contentsFrom f =
+    cond (eqb (f .phase) 5) (sizing (f .begins) (numberFrom f))
+    (cond (eqb (f .phase) 6) (naming (f .begins) (f .text) (f .rest) (textFrom f) (namesFrom f))
+    (cond (eqb (f .phase) 7) (paying (rowFrom (f .row)) (f .text))
+    (failing (f .refusal) (f .text))))
+
 unfoldable pub phaseFrom : Stream → Phase
 phaseFrom f =
     cond (eqb (f .phase) 0) starting
@@ -122,10 +130,7 @@ phaseFrom f =
     (cond (eqb (f .phase) 2) (settled (refused (f .refusal) (f .text)))
     (cond (eqb (f .phase) 3) (measuring (doneFrom f) (f .id) (f .at) (numberFrom f))
     (cond (eqb (f .phase) 4) (skipping (doneFrom f) (f .at) (f .left))
-    (cond (eqb (f .phase) 5) (inCustom (doneFrom f) (f .at) (f .left) (sizing (f .begins) (numberFrom f)))
-    (cond (eqb (f .phase) 6) (inCustom (doneFrom f) (f .at) (f .left) (naming (f .begins) (f .text) (f .rest) (textFrom f) (namesFrom f)))
-    (cond (eqb (f .phase) 7) (inCustom (doneFrom f) (f .at) (f .left) (paying (rowFrom (f .row)) (f .text)))
-    (inCustom (doneFrom f) (f .at) (f .left) (failing (f .refusal) (f .text))))))))))
+    (inCustom (doneFrom f) (f .at) (f .left) (contentsFrom f))))))
 
 unfoldable pub stateFrom : Stream → State
 stateFrom f = record { total = f .total; phase = phaseFrom f }

@@ -7,5 +7,6 @@ pub mod Walked
 pub mod Fields
 pub mod Fits
 pub mod Calls
+pub mod Phases
 pub mod Laws
 pub mod Promises

@@ -2,6 +2,10 @@
 ghost use Rattle.stream.specs.Promises.{stream-begin};
 use format::Verdict;
 
+mod naming;
+mod numbers;
+mod texts;
+
 // Where a payload lies, counted from the module's first byte: 0 and 0 where there is none.
 #[repr(C)]
 pub struct Spot {

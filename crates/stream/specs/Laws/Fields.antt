@@ -8,7 +8,7 @@ use Rattle.format.specs.Reading.{accepted, refused}
 use Rattle.walk.specs.Sections.{bit}
 use Rattle.stream.specs.Contents.{Contents, sizing, naming, paying, failing}
 use Rattle.stream.specs.Stream.{Summary, Done, Phase, starting, settled, measuring, skipping, inCustom, State}
-use Rattle.stream.specs.Fields.{flag, spotOf, rowsThere, rowNumber, inPhase, held, placeFrom, rowFrom, doneFrom, phaseFrom, stateFrom}
+use Rattle.stream.specs.Fields.{flag, spotOf, rowsThere, rowNumber, inPhase, held, placeFrom, rowFrom, doneFrom, contentsFrom, phaseFrom, stateFrom}
 use Rattle.format.specs.declared.Place.{Place}
 
 code-back : (b : Bool) → eqb (flag b) 1 ≡ b
@@ -43,7 +43,7 @@ unfolding again told
 done-back d = λ i. record { rank = d .rank; code = code-back (d .code) i; told = told-back (d .told .count) (d .told .name) (d .told .hints) (d .told .older) i }
 
 contents-back : (o : ℕ) (d : Done) (at left : ℕ) (c : Contents) → phaseFrom (inPhase o (inCustom d at left c)) ≡ inCustom d at left c
-unfolding phaseFrom again told
+unfolding phaseFrom contentsFrom again told
 contents-back o d at left (sizing begins n) = ap (λ (d : Done). inCustom d at left (sizing begins n)) (done-back d)
 contents-back o d at left (naming begins text rest t m) = ap (λ (d : Done). inCustom d at left (naming begins text rest t m)) (done-back d)
 contents-back o d at left (paying row payload) = λ i. inCustom (done-back d i) at left (paying (row-back row i) payload)
