@@ -1,11 +1,17 @@
 -- What the types of the code mean. Assumes nothing.
-use Prim.Native.Nat.{ℕ, suc}
+use Prim.Native.Nat.{ℕ, suc, _<_}
 use mathlib.Core.Bool.{true}
 use mathlib.Core.Path.{_≡_}
+use lib.Dec.{eqb}
+use Rattle.format.specs.Reading.{refused}
+use Rattle.walk.specs.declared.rules.Seen.{Seen}
 use Rattle.stream.specs.Counting.{Number, Counted, whole, partly, over}
 use Rattle.stream.specs.Texts.{Text}
 use Rattle.stream.specs.Naming.{Names}
-use Rattle.stream.specs.Fits.{numberFits, textFits}
+use Rattle.stream.specs.Stream.{settled, custom, enter, step}
+use Rattle.stream.specs.Fields.{doneFrom, contentsFrom, stateFrom}
+use Rattle.stream.specs.Fits.{numberFits, textFits, contentsFit, fits}
+use Rattle.stream.specs.declared.Stream.{Stream}
 use Rattle.stream.specs.declared.Met.{Met}
 use Rattle.stream.specs.declared.numbers.Counted.{Counted as CountedSo}
 use Rattle.stream.specs.declared.numbers.Counted.the-variants.{Whole, Partly, Over}
@@ -31,3 +37,32 @@ pub record Spellable (t : TextSo) : Type 0 where
 
 abbrev pub metOf : Met → Names
 metOf m = record { name = m .name; hints = m .hints; older = m .older }
+
+-- WHAT A STEP OF THE CODE SAYS, in terms of the state that a struct is
+
+pub record Fit (f : Stream) : Type 0 where
+  pub fits : fits (stateFrom f) ≡ true
+
+-- a byte was read
+pub record Steps (f : Stream) (b : ℕ) (r : Stream) : Type 0 where
+  pub means : stateFrom r ≡ step (stateFrom f) b
+
+-- all is refused from here on
+pub record Refuses (f : Stream) (number offset : ℕ) (r : Stream) : Type 0 where
+  pub means : stateFrom r ≡ record { total = f .total; phase = settled (refused number offset) }
+
+-- a section's size is known
+pub record Enters (f : Stream) (n : ℕ) (r : Stream) : Type 0 where
+  pub means : stateFrom r ≡ record { total = f .total; phase = enter (doneFrom f) (f .id) (f .at) n (f .total) }
+
+-- a custom section's contents are over, or go on; before that they are contents that the code can count with
+pub record Closing (f : Stream) : Type 0 where
+  pub inside : 4 < f .phase
+  pub behind : f .count < f .total
+  pub fits : contentsFit (contentsFrom f) (f .total) ≡ true
+
+pub record Closes (f r : Stream) : Type 0 where
+  pub means : stateFrom r ≡ record { total = f .total; phase = custom (doneFrom f) (f .at) (f .left) (contentsFrom f) (f .total) }
+
+abbrev pub seenSo : Stream → Seen
+seenSo f = record { rank = f .rank; code = eqb (f .code) 1; there = f .there }

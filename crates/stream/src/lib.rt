@@ -4,6 +4,7 @@ use format::Verdict;
 
 mod naming;
 mod numbers;
+mod sections;
 mod texts;
 
 // Where a payload lies, counted from the module's first byte: 0 and 0 where there is none.
@@ -59,8 +60,28 @@ pub struct Stream {
     pub row: u8,
 }
 
-// What a state is in the middle of.
-pub const STARTING: u8 = 0;
+// What a state is in the middle of: the preamble; between two sections; refused, whatever comes; a section's size; the
+// contents of one that is not custom; of a custom one the number of its name's bytes, its name, its payload, or what is left
+// behind a fault; or the finish was asked for.
+const STARTING: u8 = 0;
+
+const BETWEEN: u8 = 1;
+
+const REFUSED: u8 = 2;
+
+const MEASURING: u8 = 3;
+
+const SKIPPING: u8 = 4;
+
+const SIZING: u8 = 5;
+
+const NAMING: u8 = 6;
+
+const PAYING: u8 = 7;
+
+const FAILING: u8 = 8;
+
+const OVER: u8 = 9;
 
 const NOWHERE: Spot = Spot {
     offset: 0,
