@@ -11,27 +11,33 @@ use denote.Enum.Declared.{tagOf}
 use lib.Dec.{ltb, leb, eqb}
 use lib.ListN.{length, drop, getD}
 use lib.Seq.{drop-cons}
-use Rattle.format.specs.Options.{isSome}
+use Rattle.format.specs.Options.{isSome, orElse}
 use Rattle.format.specs.Refusals.{numberOf}
 use Rattle.format.specs.Reading.{got, Judged, accepted, refused}
-use Rattle.format.specs.Walk.{preamble, idRules, nameRules}
+use Rattle.format.specs.Walk.{preamble, isCustom, isCode, rank, idRules, nameRules}
 use Rattle.format.specs.Laws.Refusals.{number-small}
 use Rattle.format.specs.declared.Place.{Place}
 use Rattle.format.specs.declared.Reason.{Reason}
 use Rattle.format.specs.declared.Reason.the-variants.{NoPreamble}
-use Rattle.walk.specs.Sections.{bit, seenOf, ruling, IdRuled}
+use Rattle.walk.specs.Sections.{bit, seenOf, ruling, IdRuled, Sees}
+use Rattle.walk.specs.declared.rules.Called.the-variants.{Row, Other}
 use Rattle.walk.specs.declared.rules.Ruling.{Ruling}
 use Rattle.walk.specs.declared.rules.Ruling.the-variants.{Fine, Against}
 use Rattle.walk.specs.declared.rules.Seen.{Seen}
 use Rattle.walk.proofs.rules.Ruling as ruling-type
-use Rattle.stream.specs.Counting.{Number, fresh}
-use Rattle.stream.specs.Stream.{Done, nothingDone, thereIn, seenIn, Phase, starting, settled, measuring, admit, opening, start, startByte, byte, State, step}
+use Rattle.stream.specs.Counting.{Number, fresh, counted}
+use Rattle.stream.specs.Contents.{Contents, sizing, contentEnds}
+use Rattle.stream.specs.Stream.{Done, nothingDone, thereIn, seenIn, plainDone, customDone, Phase, starting, settled, measuring, skipping, inCustom, skip, custom, enter, measured, admit, opening, start, startByte, byte, State, step}
 use Rattle.stream.specs.Calls.{most}
-use Rattle.stream.specs.Fields.{flag, placeFrom, doneFrom, numberFrom, stateFrom}
-use Rattle.stream.specs.Phases.{Fit, Steps, Refuses, seenSo}
+use Rattle.stream.specs.Fields.{flag, placeFrom, doneFrom, numberFrom, contentsFrom, stateFrom}
+use Rattle.stream.specs.Phases.{numberOf as numberSo, Countable, countedOf, Fit, Steps, Refuses, Enters, Closing, Closes, seenSo}
+use Rattle.stream.specs.declared.numbers.Counted.{Counted}
+use Rattle.stream.specs.declared.numbers.Counted.the-variants.{Whole, Partly, Over}
 use Rattle.stream.specs.declared.Spot.{Spot}
 use Rattle.stream.specs.declared.Stream.{Stream}
-use Rattle.stream.proofs.States.{at, at-same, as-starting, as-between, as-refused, as-measuring, starting-below}
+use Rattle.stream.proofs.numbers.Counted as counted-type
+use Rattle.stream.proofs.Leaves.{come-most}
+use Rattle.stream.proofs.States.{at, at-same, as-starting, as-between, as-refused, as-measuring, as-skipping, as-custom, as-sizing, starting-below, measuring-count, measuring-at, measuring-number}
 
 pub refuses : (f r : Stream) (number offset : ℕ) → r .phase ≡ 2 → r .total ≡ f .total → r .refusal ≡ number → r .text ≡ offset → Refuses f number offset r
 refuses f r number offset p t n o = record { means = as-refused r p ∙ at-same t (λ i. settled (refused (n i) (o i))) }
@@ -141,3 +147,131 @@ module _ (f : Stream) (b : ℕ) {seen : Seen} {v : Ruling} (k : (f .phase ≡ 1)
   opens {r} e p t d i a n = record { means = as-measuring r p ∙ at-same (t ∙ next) (λ j. measuring (d j) (i j) (a j) (n j)) ∙ sym (opened (as-fine v e)) }
 
 pub ruleset openings = (opens-not, opens, needs)
+
+-- A SIZE
+
+-- a section that is not custom leaves the places as they are
+no-row : (p : Option Place) → orElse p none ≡ p
+no-row none = refl
+no-row (some q) = refl
+
+plain-so : (f : Stream) (id : ℕ) {seen after : Seen} → seen ≡ seenSo f → Sees seen id Other after
+    → plainDone (doneFrom f) id ≡ record { rank = after .rank; code = after .code; told = record { count = suc (f .count); name = doneFrom f .told .name; hints = doneFrom f .told .hints; older = doneFrom f .told .older } }
+plain-so f id e q = λ i. record {
+  rank = sym (q .rank-is ∙ ap (λ x. cond (isCustom id) (x .rank) (rank id)) e) i;
+  code = sym (q .code-is ∙ ap (λ x. x .code || isCode id) e) i;
+  told = record {
+    count = suc (f .count);
+    name = no-row (doneFrom f .told .name) i;
+    hints = no-row (doneFrom f .told .hints) i;
+    older = no-row (doneFrom f .told .older) i;
+  };
+}
+
+flag-back : (b : Bool) → eqb (flag b) 1 ≡ b
+flag-back true = refl
+flag-back false = refl
+
+-- the three places of a struct
+pub record Places : Type 0 where
+  pub name : Option Place
+  pub hints : Option Place
+  pub older : Option Place
+
+abbrev pub placesOf : Stream → Places
+placesOf f = record { name = doneFrom f .told .name; hints = doneFrom f .told .hints; older = doneFrom f .told .older }
+
+enter-plain : (d : Done) (id at n o : ℕ) → (id ≡ 0 → ⊥) → enter d id at n o ≡ skip (plainDone d id) at n
+unfolding enter
+enter-plain d zero at n o h = absurd (h refl)
+enter-plain d (suc id) at n o h = refl
+
+skip-on : (d : Done) (at n : ℕ) → (n ≡ 0 → ⊥) → skip d at n ≡ skipping d at n
+unfolding skip
+skip-on d at zero h = absurd (h refl)
+skip-on d at (suc n) h = refl
+
+custom-on : (d : Done) (at n : ℕ) (c : Contents) (o : ℕ) → (n ≡ 0 → ⊥) → custom d at n c o ≡ inCustom d at n c
+unfolding custom
+custom-on d at zero c o h = absurd (h refl)
+custom-on d at (suc n) c o h = refl
+
+module _ (f : Stream) (n : ℕ) where
+  pub enters-none : {r : Stream} → f .id ≡ 0 → n ≡ 0 → Refuses f 2 (f .total) r → Enters f n r
+  unfolding enter custom customDone contentEnds
+  enters-none i z q = record { means = q .means ∙ at-same refl (rw (i, z)) }
+
+  pub enters-custom : {r : Stream} → f .id ≡ 0 → (n ≡ 0 → ⊥) → r .phase ≡ 5 → r .total ≡ f .total → doneFrom r ≡ doneFrom f → r .at ≡ f .at → r .left ≡ n → r .begins ≡ f .total → numberFrom r ≡ fresh → Enters f n r
+  unfolding enter
+  enters-custom {r} i z p t d a l o m = record {
+    means =
+        as-custom r (omega arith) ∙ at-same t ((λ j. inCustom (d j) (a j) (l j) (contentsFrom r)) ∙ ap (inCustom (doneFrom f) (f .at) n) (as-sizing r p ∙ (λ j. sizing (o j) (m j))))
+        ∙ sym (at-same refl (rw i (custom-on (doneFrom f) (f .at) n (sizing (f .total) fresh) (f .total) z)));
+  }
+
+  module _ {seen after : Seen} (s : seen ≡ seenSo f) (q : Sees seen (f .id) Other after) where
+    module _ (r : Stream) (z : f .id ≡ 0 → ⊥) (t : r .total ≡ f .total) (c : r .code ≡ flag (after .code)) (e : (r .rank ≡ after .rank) × (r .count ≡ f .count + 1) × (placesOf r ≡ placesOf f)) where
+      -- what is known behind it
+      behind : doneFrom r ≡ plainDone (doneFrom f) (f .id)
+      behind =
+          let up : f .count + 1 ≡ suc (f .count) = omega arith in
+          (λ i. record {
+            rank = e .0 i;
+            code = (ap (λ x. eqb x 1) c ∙ flag-back (after .code)) i;
+            told = record { count = (e .1 ∙ up) i; name = e .2 i .name; hints = e .2 i .hints; older = e .2 i .older };
+          })
+          ∙ sym (plain-so f (f .id) s q)
+
+      pub enters-empty : n ≡ 0 → r .phase ≡ 1 → Enters f n r
+      unfolding skip
+      enters-empty m p = record { means = as-between r p ∙ at-same t (ap (λ d. settled (accepted d)) behind ∙ sym (enter-plain (doneFrom f) (f .id) (f .at) n (f .total) z ∙ rw m)) }
+
+      pub enters-plain : (n ≡ 0 → ⊥) → r .phase ≡ 4 → r .at ≡ f .at → r .left ≡ n → Enters f n r
+      enters-plain m p a l = record { means = as-skipping r p ∙ at-same t ((λ j. skipping (behind j) (a j) (l j)) ∙ sym (enter-plain (doneFrom f) (f .id) (f .at) n (f .total) z ∙ skip-on (plainDone (doneFrom f) (f .id)) (f .at) n m)) }
+
+pub ruleset entries = (enters-none, enters-custom, enters-empty, enters-plain, needs)
+
+-- a byte of a size
+as-over : (x : Counted) → tagOf counted-type.the-type x ≡ 2 → x ≡ Over
+as-over (Whole n) h = absurd (omega arith)
+as-over (Partly n) h = absurd (omega arith)
+as-over Over h = refl
+
+module _ {f : Stream} (k : Fit f × (f .phase ≡ 3) × (f .total < most)) where
+  pub size-number : Countable (f .come) (f .low)
+  size-number = measuring-number (k .0) (k .1)
+
+  pub size-behind : f .count < f .total + 1
+  size-behind = let h = measuring-count (k .0) (k .1) in omega arith
+
+  pub size-at : f .at + 1 < limit64
+  size-at = let h = measuring-at (k .0) (k .1) in let l = k .2 in omega arith
+
+  pub size-come : f .come + 1 < 256
+  size-come = let h = come-most size-number in omega arith
+
+  module _ (b : ℕ) (x : Counted) (q : countedOf (f .come) x ≡ counted (numberSo (f .come) (f .low)) b) where
+    measured-so : step (stateFrom f) b ≡ at (suc (f .total)) (measured (doneFrom f) (f .id) (f .at) (countedOf (f .come) x) (suc (f .total)))
+    unfolding byte
+    measured-so = step-so f b (as-measuring f (k .1)) ∙ ap (λ c. at (suc (f .total)) (measured (doneFrom f) (f .id) (f .at) c (suc (f .total)))) (sym q)
+
+    up : f .total + 1 ≡ suc (f .total)
+    up = omega arith
+
+    pub size-whole : {n : ℕ} {g r : Stream} → x ≡ Whole n → g .total ≡ f .total + 1 → doneFrom g ≡ doneFrom f → g .id ≡ f .id → g .at ≡ f .at → Enters g n r → Steps f b r
+    unfolding measured
+    size-whole {n} e t d i a u = record { means = u .means ∙ (λ j. at ((t ∙ up) j) (enter (d j) (i j) (a j) n ((t ∙ up) j))) ∙ sym (measured-so ∙ rw e) }
+
+    pub size-partly : {low : ℕ} {r : Stream} → x ≡ Partly low → r .phase ≡ 3 → r .total ≡ f .total + 1 → doneFrom r ≡ doneFrom f → r .id ≡ f .id → r .at ≡ f .at → r .come ≡ f .come + 1 → r .low ≡ low → Steps f b r
+    unfolding measured
+    size-partly {low} {r} e p t d i a c l =
+        let up′ : f .come + 1 ≡ suc (f .come) = omega arith in
+        record { means = as-measuring r p ∙ at-same (t ∙ up) (λ j. measuring (d j) (i j) (a j) (record { come = (c ∙ up′) j; low = l j })) ∙ sym (measured-so ∙ rw e) }
+
+    pub size-over : {g r : Stream} → tagOf counted-type.the-type x ≡ 2 → g .total ≡ f .total + 1 → Refuses g 3 (f .at + 1) r → Steps f b r
+    unfolding measured
+    size-over {g} {r} e t u =
+        let up′ : f .at + 1 ≡ suc (f .at) = omega arith in
+        record { means = u .means ∙ at-same (t ∙ up) (ap (λ a. settled (refused 3 a)) up′) ∙ sym (measured-so ∙ rw (as-over x e)) }
+
+pub ruleset sizes = (size-number, size-behind, size-at, size-come, size-whole, size-partly, size-over, needs)

@@ -9,12 +9,22 @@ ghost use Rattle.stream.specs.Fields;
 ghost use Rattle.stream.specs.Phases.{Fit, Steps, Refuses, Enters, Closing, Closes, seenSo};
 use crate::BETWEEN;
 use crate::MEASURING;
+use crate::PAYING;
 use crate::REFUSED;
+use crate::SIZING;
+use crate::SKIPPING;
+use crate::Spot;
 use crate::Stream;
+use crate::numbers::Counted;
+use crate::numbers::count_byte;
 use format::Reason;
+use walk::rules::CUSTOM;
+use walk::rules::Called;
 use walk::rules::Ruling;
 use walk::rules::Seen;
 use walk::rules::judge_id;
+use walk::rules::judge_name;
+use walk::rules::see;
 
 const PREAMBLE_LENGTH: usize = 8;
 
@@ -102,5 +112,53 @@ pub fn opening_byte(s: Stream, b: u8) -> Stream
             next.low = 0;
             next
         }
+    }
+}
+
+// A section whose size is known: its contents begin here.
+fn enter(s: Stream, n: u32) -> Stream
+    requires { ⌜ s .count < s .total ⌝ }
+    ensures { λ r. ⌜ Enters s n r ⌝ }
+{
+    let mut next = s;
+    if s.id == CUSTOM {
+        if n == 0 {
+            return refuse(s, PAST_ITS_PART, s.total);
+        }
+        next.phase = SIZING;
+        next.left = n;
+        next.begins = s.total;
+        next.come = 0;
+        next.low = 0;
+        return next;
+    }
+    let seen = see(seen_by(s), s.id, Called::Other);
+    next.count = s.count + 1;
+    next.rank = seen.rank;
+    next.code = flag(seen.code);
+    if n == 0 {
+        next.phase = BETWEEN;
+        return next;
+    }
+    next.phase = SKIPPING;
+    next.left = n;
+    next
+}
+
+// A byte of a section's size.
+pub fn measuring_byte(s: Stream, b: u8) -> Stream
+    requires { ⌜ Fit s × (s .phase ≡ 3) × (s .total < most) ⌝ }
+    ensures { λ r. ⌜ Steps s b r ⌝ }
+{
+    let mut next = s;
+    next.total = s.total + 1;
+    match count_byte(s.come, s.low, b) {
+        Counted::Whole(n) => enter(next, n),
+        Counted::Partly(low) => {
+            next.come = s.come + 1;
+            next.low = low;
+            next
+        }
+        Counted::Over => refuse(next, NUMBER_TOO_LARGE, s.at + 1),
     }
 }

@@ -1,9 +1,9 @@
 use Rattle.stream.proofs.SectionLaws.{starts}
-use Rattle.stream.proofs.sections.starting_byte.Statement.{statement}
-use Rattle.stream.proofs.sections.starting_byte.Tie as tie
 use Rattle.stream.proofs.sections.starting_byte.Reads as reads
 use Rattle.stream.proofs.sections.starting_byte.Lts as lts
 use Rattle.stream.proofs.sections.refuse.Reads as refuse-reads
+use Rattle.stream.proofs.sections.starting_byte.Statement.{statement}
+use Rattle.stream.proofs.sections.starting_byte.Tie as tie
 
 add-next : tie.Need-add-next
 add-next c = search starts
@@ -27,6 +27,4 @@ returns-3 : tie.Need-returns-3
 returns-3 c = search starts
 
 pub starting-byte-spec : {M : Type 1} → statement M
-starting-byte-spec =
-    tie.close
-    (tie.spec add-next array-read-if1 refuse-requires returns add-if2 returns-2 returns-3)
+starting-byte-spec = tie.close (tie.spec add-next array-read-if1 refuse-requires returns add-if2 returns-2 returns-3)
