@@ -1,3 +1,4 @@
 pub mod Leaves
 pub mod States
 pub mod SectionLaws
+pub mod ContentLaws

@@ -114,7 +114,7 @@ pub ruleset starts = (preamble-adds, refuses, number-fits, flag-yes, flag-no, pr
 
 -- AN ID
 
-some-so : (here : Bool) (p : Spot) → isSome (placeFrom here p) ≡ here
+pub some-so : (here : Bool) (p : Spot) → isSome (placeFrom here p) ≡ here
 some-so true p = refl
 some-so false p = refl
 
@@ -123,7 +123,7 @@ id-same : (f : Stream) (o b : ℕ) → idRules (seenIn (doneFrom f)) o b 0 [] �
 unfolding idRules
 id-same f o b = rw (some-so (bit (f .there) 0) (f .name))
 
-as-fine : (v : Ruling) → tagOf ruling-type.the-type v ≡ 0 → v ≡ Fine
+pub as-fine : (v : Ruling) → tagOf ruling-type.the-type v ≡ 0 → v ≡ Fine
 as-fine Fine h = refl
 as-fine (Against why) h = absurd (omega arith)
 
@@ -168,7 +168,7 @@ plain-so f id e q = λ i. record {
   };
 }
 
-flag-back : (b : Bool) → eqb (flag b) 1 ≡ b
+pub flag-back : (b : Bool) → eqb (flag b) 1 ≡ b
 flag-back true = refl
 flag-back false = refl
 
@@ -191,7 +191,7 @@ unfolding skip
 skip-on d at zero h = absurd (h refl)
 skip-on d at (suc n) h = refl
 
-custom-on : (d : Done) (at n : ℕ) (c : Contents) (o : ℕ) → (n ≡ 0 → ⊥) → custom d at n c o ≡ inCustom d at n c
+pub custom-on : (d : Done) (at n : ℕ) (c : Contents) (o : ℕ) → (n ≡ 0 → ⊥) → custom d at n c o ≡ inCustom d at n c
 unfolding custom
 custom-on d at zero c o h = absurd (h refl)
 custom-on d at (suc n) c o h = refl

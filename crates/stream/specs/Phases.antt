@@ -1,16 +1,20 @@
 -- What the types of the code mean. Assumes nothing.
-use Prim.Native.Nat.{ℕ, suc, _<_}
-use mathlib.Core.Bool.{true}
+use Prim.Native.Nat.{ℕ, suc, _-_, _<_}
+use mathlib.Core.Bool.{true, cond}
 use mathlib.Core.Path.{_≡_}
 use lib.Dec.{eqb}
 use Rattle.format.specs.Reading.{refused}
+use Rattle.walk.specs.Sections.{rowCalled, InTable}
+use Rattle.walk.specs.declared.rules.Called.{Called}
 use Rattle.walk.specs.declared.rules.Seen.{Seen}
+use Rattle.stream.specs.Contents.{Contents}
 use Rattle.stream.specs.Counting.{Number, Counted, whole, partly, over}
 use Rattle.stream.specs.Texts.{Text}
 use Rattle.stream.specs.Naming.{Names}
 use Rattle.stream.specs.Stream.{settled, custom, enter, step}
-use Rattle.stream.specs.Fields.{doneFrom, contentsFrom, stateFrom}
+use Rattle.stream.specs.Fields.{rowFrom, doneFrom, contentsFrom, stateFrom}
 use Rattle.stream.specs.Fits.{numberFits, textFits, contentsFit, fits}
+use Rattle.stream.specs.declared.Spot.{Spot}
 use Rattle.stream.specs.declared.Stream.{Stream}
 use Rattle.stream.specs.declared.Met.{Met}
 use Rattle.stream.specs.declared.numbers.Counted.{Counted as CountedSo}
@@ -63,6 +67,30 @@ pub record Closing (f : Stream) : Type 0 where
 
 pub record Closes (f r : Stream) : Type 0 where
   pub means : stateFrom r ≡ record { total = f .total; phase = custom (doneFrom f) (f .at) (f .left) (contentsFrom f) (f .total) }
+
+-- the contents of a custom section are these, and all else is as it was
+pub record Contains (f : Stream) (c : Contents) (r : Stream) : Type 0 where
+  pub inside : 4 < r .phase
+  pub total : r .total ≡ f .total
+  pub done : doneFrom r ≡ doneFrom f
+  pub at : r .at ≡ f .at
+  pub left : r .left ≡ f .left
+  pub contents : contentsFrom r ≡ c
+
+-- a row counted from 1
+pub record CallsRow (row : ℕ) (called : Called) : Type 0 where
+  pub row-is : rowCalled called ≡ rowFrom row
+  pub known : InTable called
+
+-- the payload's place was put into its row
+abbrev pub payloadSpot : Stream → Spot
+payloadSpot f = record { offset = f .text; length = f .total - f .text }
+
+pub record Placed (f r : Stream) : Type 0 where
+  pub total : r .total ≡ f .total
+  pub name : r .name ≡ cond (eqb (f .row) 1) (payloadSpot f) (f .name)
+  pub hints : r .hints ≡ cond (eqb (f .row) 2) (payloadSpot f) (f .hints)
+  pub older : r .older ≡ cond (eqb (f .row) 3) (payloadSpot f) (f .older)
 
 abbrev pub seenSo : Stream → Seen
 seenSo f = record { rank = f .rank; code = eqb (f .code) 1; there = f .there }

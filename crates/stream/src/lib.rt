@@ -2,6 +2,7 @@
 ghost use Rattle.stream.specs.Promises.{stream-begin};
 use format::Verdict;
 
+mod contents;
 mod naming;
 mod numbers;
 mod sections;

@@ -19,11 +19,11 @@ const HINT_LENGTH: u8 = 25;
 const OLDER_LENGTH: u8 = 11;
 
 // The rows of the walk's table, counted from 1.
-const NAME_ROW: u8 = 1;
+pub const NAME_ROW: u8 = 1;
 
-const HINT_ROW: u8 = 2;
+pub const HINT_ROW: u8 = 2;
 
-const OLDER_ROW: u8 = 3;
+pub const OLDER_ROW: u8 = 3;
 
 // How many bytes of a name have been met with one byte more; one more than it has once it can be no longer that name.
 fn match_byte(name: &[u8], met: u8, b: u8) -> u8

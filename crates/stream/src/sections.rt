@@ -1,19 +1,15 @@
 // From section to section, a byte at a time.
-ghost use mathlib.Core.Bool.{Bool, cond};
 ghost use mathlib.Core.Path.{_≡_};
-ghost use Prim.Native.Nat.{_≤_, _<_};
+ghost use Prim.Native.Nat.{_<_};
 ghost use Rattle.format.specs.Refusals;
-ghost use Rattle.walk.specs.Sections.{rowCalled, InTable};
 ghost use Rattle.stream.specs.Calls.{most};
 ghost use Rattle.stream.specs.Fields;
-ghost use Rattle.stream.specs.Phases.{Fit, Steps, Refuses, Enters, Closing, Closes, seenSo};
+ghost use Rattle.stream.specs.Phases.{Fit, Steps, Refuses, Enters, seenSo};
 use crate::BETWEEN;
 use crate::MEASURING;
-use crate::PAYING;
 use crate::REFUSED;
 use crate::SIZING;
 use crate::SKIPPING;
-use crate::Spot;
 use crate::Stream;
 use crate::numbers::Counted;
 use crate::numbers::count_byte;
@@ -23,7 +19,6 @@ use walk::rules::Called;
 use walk::rules::Ruling;
 use walk::rules::Seen;
 use walk::rules::judge_id;
-use walk::rules::judge_name;
 use walk::rules::see;
 
 const PREAMBLE_LENGTH: usize = 8;
@@ -33,9 +28,9 @@ const PREAMBLE: [u8; PREAMBLE_LENGTH] = [0x00, 0x61, 0x73, 0x6D, 0x01, 0x00, 0x0
 // The numbers of the refusals that a reader of bytes gives.
 const NO_PREAMBLE: u8 = 1;
 
-const PAST_ITS_PART: u8 = 2;
+pub const PAST_ITS_PART: u8 = 2;
 
-const NUMBER_TOO_LARGE: u8 = 3;
+pub const NUMBER_TOO_LARGE: u8 = 3;
 
 pub fn refuse(s: Stream, number: u8, offset: u64) -> Stream
     ensures { λ r. ⌜ Refuses s number offset r ⌝ }
@@ -47,13 +42,13 @@ pub fn refuse(s: Stream, number: u8, offset: u64) -> Stream
     next
 }
 
-fn number_of(reason: Reason) -> u8
+pub fn number_of(reason: Reason) -> u8
     ensures { λ r. ⌜ r ≡ Refusals.numberOf reason ⌝ }
 {
     reason.number() as u8
 }
 
-fn flag(b: bool) -> u8
+pub fn flag(b: bool) -> u8
     ensures { λ r. ⌜ r ≡ Fields.flag b ⌝ }
 {
     if b {
@@ -63,7 +58,7 @@ fn flag(b: bool) -> u8
 }
 
 // What the walk's rules know of the sections behind.
-fn seen_by(s: Stream) -> Seen
+pub fn seen_by(s: Stream) -> Seen
     ensures { λ r. ⌜ r ≡ seenSo s ⌝ }
 {
     Seen {

@@ -103,7 +103,7 @@ sized-fits begins (whole n) o f = name-fits begins o n noneWanted noneMet o refl
 sized-fits begins (partly n) o f = f
 sized-fits begins over o f = refl
 
-content-fits : (c : Contents) (o b : ℕ) → contentsFit c o ≡ true → contentsFit (content c o b) (suc o) ≡ true
+pub content-fits : (c : Contents) (o b : ℕ) → contentsFit c o ≡ true → contentsFit (content c o b) (suc o) ≡ true
 unfolding content
 content-fits (sizing begins n) o b f = sized-fits begins (counted n b) (suc o) (counted-fits n b f)
 content-fits (naming begins text zero t m) o b f = named-fits text t m o (suc o) (omega arith)
