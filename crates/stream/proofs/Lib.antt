@@ -2,3 +2,4 @@ pub mod Leaves
 pub mod States
 pub mod SectionLaws
 pub mod ContentLaws
+pub mod NameLaws

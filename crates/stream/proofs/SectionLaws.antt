@@ -52,7 +52,7 @@ pub flag-no : {b : Bool} → b ≡ false → 0 ≡ flag b
 flag-no e = rw e
 
 -- a step by a byte, said of the phase
-step-so : (f : Stream) {p : Phase} (b : ℕ) → stateFrom f ≡ at (f .total) p → step (stateFrom f) b ≡ at (suc (f .total)) (byte p (f .total) b)
+pub step-so : (f : Stream) {p : Phase} (b : ℕ) → stateFrom f ≡ at (f .total) p → step (stateFrom f) b ≡ at (suc (f .total)) (byte p (f .total) b)
 unfolding step
 step-so f b e = ap (λ (s : State). step s b) e
 
@@ -232,7 +232,7 @@ module _ (f : Stream) (n : ℕ) where
 pub ruleset entries = (enters-none, enters-custom, enters-empty, enters-plain, needs)
 
 -- a byte of a size
-as-over : (x : Counted) → tagOf counted-type.the-type x ≡ 2 → x ≡ Over
+pub as-over : (x : Counted) → tagOf counted-type.the-type x ≡ 2 → x ≡ Over
 as-over (Whole n) h = absurd (omega arith)
 as-over (Partly n) h = absurd (omega arith)
 as-over Over h = refl

@@ -1,17 +1,20 @@
 -- What the types of the code mean. Assumes nothing.
-use Prim.Native.Nat.{ℕ, suc, _-_, _<_}
-use mathlib.Core.Bool.{true, cond}
+use Prim.Native.Nat.{ℕ, suc, _-_, _≤_, _<_}
+use mathlib.Core.Bool.{Bool, true, cond}
 use mathlib.Core.Path.{_≡_}
 use lib.Dec.{eqb}
+use Rattle.format.specs.Refusals as Refusals
 use Rattle.format.specs.Reading.{refused}
+use Rattle.format.specs.declared.Reason.the-variants.{NotText}
 use Rattle.walk.specs.Sections.{rowCalled, InTable}
 use Rattle.walk.specs.declared.rules.Called.{Called}
 use Rattle.walk.specs.declared.rules.Seen.{Seen}
-use Rattle.stream.specs.Contents.{Contents}
+use Rattle.stream.specs.Contents.{Contents, paying, failing, name}
 use Rattle.stream.specs.Counting.{Number, Counted, whole, partly, over}
-use Rattle.stream.specs.Texts.{Text}
-use Rattle.stream.specs.Naming.{Names}
+use Rattle.stream.specs.Texts.{Text, noneWanted}
+use Rattle.stream.specs.Naming.{Names, noneMet}
 use Rattle.stream.specs.Stream.{settled, custom, enter, step}
+use Rattle.stream.specs.Calls.{most}
 use Rattle.stream.specs.Fields.{rowFrom, doneFrom, contentsFrom, stateFrom}
 use Rattle.stream.specs.Fits.{numberFits, textFits, contentsFit, fits}
 use Rattle.stream.specs.declared.Spot.{Spot}
@@ -76,6 +79,28 @@ pub record Contains (f : Stream) (c : Contents) (r : Stream) : Type 0 where
   pub at : r .at ≡ f .at
   pub left : r .left ≡ f .left
   pub contents : contentsFrom r ≡ c
+
+-- the number of a name's bytes is known; the name is whole
+pub record NameBegins (f : Stream) (n : ℕ) (r : Stream) : Type 0 where
+  pub contains : Contains f (name (f .begins) (f .total) n noneWanted noneMet (f .total)) r
+
+pub record NameSized (f : Stream) (n : ℕ) (r : Stream) : Type 0 where
+  pub means : stateFrom r ≡ record { total = f .total; phase = custom (doneFrom f) (f .at) (f .left) (name (f .begins) (f .total) n noneWanted noneMet (f .total)) (f .total) }
+
+pub record NameEnds (f : Stream) (valid : Bool) (row : ℕ) (r : Stream) : Type 0 where
+  pub contains : Contains f (cond valid (paying (rowFrom row) (f .total)) (failing (Refusals.numberOf NotText) (f .text))) r
+
+-- a byte of a name was read
+pub record Spelling (f : Stream) (t : Text) (m : Names) : Type 0 where
+  pub phase : f .phase ≡ 6
+  pub room : f .total < most
+  pub left : 0 < f .left
+  pub rest : 0 < f .rest
+  pub count : f .count ≤ f .total
+  pub fits : textFits t ≡ true
+
+pub record Spells (f : Stream) (t : Text) (m : Names) (r : Stream) : Type 0 where
+  pub means : stateFrom r ≡ record { total = suc (f .total); phase = custom (doneFrom f) (f .at) (f .left - 1) (name (f .begins) (f .text) (f .rest - 1) t m (suc (f .total))) (suc (f .total)) }
 
 -- a row counted from 1
 pub record CallsRow (row : ℕ) (called : Called) : Type 0 where

@@ -1,20 +1,33 @@
 // The contents of a custom section: the number of its name's bytes, the name, the payload.
 ghost use mathlib.Core.Bool.{cond};
 ghost use mathlib.Core.Path.{_≡_};
-ghost use Prim.Native.Nat.{_≤_};
-ghost use Rattle.stream.specs.Phases.{Closing, Closes, CallsRow, Placed};
+ghost use Prim.Native.Nat.{_≤_, _<_};
+ghost use Rattle.stream.specs.Calls.{most};
+ghost use Rattle.stream.specs.Phases.{Fit, Steps, Closing, Closes, NameBegins, NameSized, NameEnds, CallsRow, Placed, Spelling, Spells, textOf, metOf};
 use crate::BETWEEN;
+use crate::FAILING;
+use crate::Met;
+use crate::NAMING;
+use crate::NONE_MET;
 use crate::PAYING;
 use crate::Spot;
 use crate::Stream;
 use crate::naming::HINT_ROW;
 use crate::naming::NAME_ROW;
 use crate::naming::OLDER_ROW;
+use crate::naming::meet;
+use crate::naming::row_met;
+use crate::numbers::Counted;
+use crate::numbers::count_byte;
+use crate::sections::NOT_TEXT;
+use crate::sections::NUMBER_TOO_LARGE;
 use crate::sections::PAST_ITS_PART;
 use crate::sections::flag;
 use crate::sections::number_of;
 use crate::sections::refuse;
 use crate::sections::seen_by;
+use crate::texts::Text;
+use crate::texts::text_byte;
 use walk::rules::CUSTOM;
 use walk::rules::Called;
 use walk::rules::Ruling;
@@ -100,4 +113,107 @@ fn close(s: Stream) -> Stream
         return end_payload(s);
     }
     refuse(s, s.refusal, s.text)
+}
+
+// The name is whole: what is left is the payload, or its text is none.
+fn named(s: Stream, valid: bool, row: u8) -> Stream
+    ensures { λ r. ⌜ NameEnds s valid row r ⌝ }
+{
+    let mut next = s;
+    if valid {
+        next.phase = PAYING;
+        next.row = row;
+        next.text = s.total;
+        return next;
+    }
+    next.phase = FAILING;
+    next.refusal = NOT_TEXT;
+    next
+}
+
+// The name has so many bytes, and its text begins here.
+fn name_begins(s: Stream, n: u32) -> Stream
+    ensures { λ r. ⌜ NameBegins s n r ⌝ }
+{
+    let mut next = s;
+    if n == 0 {
+        next.phase = PAYING;
+        next.row = 0;
+        next.text = s.total;
+        return next;
+    }
+    next.phase = NAMING;
+    next.text = s.total;
+    next.rest = n;
+    next.wanted = 0;
+    next.least = 0;
+    next.point = 0;
+    let met = NONE_MET;
+    next.met = met;
+    next
+}
+
+// The same, where the section may end with the number.
+fn name_sized(s: Stream, n: u32) -> Stream
+    requires { ⌜ s .count < s .total ⌝ }
+    ensures { λ r. ⌜ NameSized s n r ⌝ }
+{
+    close(name_begins(s, n))
+}
+
+// A byte of the number of a name's bytes.
+pub fn sizing_byte(s: Stream, b: u8) -> Stream
+    requires { ⌜ Fit s × (s .phase ≡ 5) × (s .total < most) ⌝ }
+    ensures { λ r. ⌜ Steps s b r ⌝ }
+{
+    let mut next = s;
+    next.total = s.total + 1;
+    next.left = s.left - 1;
+    match count_byte(s.come, s.low, b) {
+        Counted::Whole(n) => name_sized(next, n),
+        Counted::Partly(low) => {
+            next.come = s.come + 1;
+            next.low = low;
+            close(next)
+        }
+        Counted::Over => {
+            next.phase = FAILING;
+            next.refusal = NUMBER_TOO_LARGE;
+            next.text = s.begins;
+            close(next)
+        }
+    }
+}
+
+// The name with one byte more, behind which its text and the tracked names stand so.
+fn spell(s: Stream, text: Text, met: Met) -> Stream
+    requires { ⌜ Spelling s (textOf text) (metOf met) ⌝ }
+    ensures { λ r. ⌜ Spells s (textOf text) (metOf met) r ⌝ }
+{
+    let mut next = s;
+    next.total = s.total + 1;
+    next.left = s.left - 1;
+    if s.rest == 1 {
+        return close(named(next, text.wanted == 0, row_met(met)));
+    }
+    next.rest = s.rest - 1;
+    next.wanted = text.wanted;
+    next.least = text.least;
+    next.point = text.point;
+    next.met = met;
+    close(next)
+}
+
+// A byte of a name.
+pub fn naming_byte(s: Stream, b: u8) -> Stream
+    requires { ⌜ Fit s × (s .phase ≡ 6) × (s .total < most) ⌝ }
+    ensures { λ r. ⌜ Steps s b r ⌝ }
+{
+    let text = Text {
+        wanted: s.wanted,
+        least: s.least,
+        point: s.point,
+    };
+    let met = s.met;
+    spell(s, text_byte(text, b), meet(met, b))
 }

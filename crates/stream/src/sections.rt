@@ -32,6 +32,8 @@ pub const PAST_ITS_PART: u8 = 2;
 
 pub const NUMBER_TOO_LARGE: u8 = 3;
 
+pub const NOT_TEXT: u8 = 4;
+
 pub fn refuse(s: Stream, number: u8, offset: u64) -> Stream
     ensures { λ r. ⌜ Refuses s number offset r ⌝ }
 {

@@ -15,7 +15,7 @@ code-back : (b : Bool) → eqb (flag b) 1 ≡ b
 code-back true = refl
 code-back false = refl
 
-row-back : (row : Option ℕ) → rowFrom (rowNumber row) ≡ row
+pub row-back : (row : Option ℕ) → rowFrom (rowNumber row) ≡ row
 row-back none = refl
 row-back (some row) = refl
 

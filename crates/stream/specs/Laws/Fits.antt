@@ -28,12 +28,12 @@ both p q = rw (p, q)
 number-fits : {come low : ℕ} → come ≤ mostFollowing → low < weight come → numberFits (record { come = come; low = low }) ≡ true
 number-fits {come} {low} h k = both (le-leb come mostFollowing h) (lt-ltb low (weight come) k)
 
-abbrev countedFits : Counted → Bool
+abbrev pub countedFits : Counted → Bool
 countedFits (whole n) = true
 countedFits (partly n) = numberFits n
 countedFits over = true
 
-counted-fits : (n : Number) (b : ℕ) → numberFits n ≡ true → countedFits (counted n b) ≡ true
+pub counted-fits : (n : Number) (b : ℕ) → numberFits n ≡ true → countedFits (counted n b) ≡ true
 unfolding counted weight
 counted-fits n b f =
     onBoth (leb (n .come) mostFollowing) (ltb (n .low) (weight (n .come))) f λ h k.
@@ -73,7 +73,7 @@ unfolding wantedByte
 wanted-fits zero least code b f = first-fits b
 wanted-fits (suc more) least code b f = byTest (isLater b) (λ t. rw t (wanting-fits more least code b f)) (λ t. rw t)
 
-text-fits : (t : Text) (b : ℕ) → textFits t ≡ true → textFits (textByte t b) ≡ true
+pub text-fits : (t : Text) (b : ℕ) → textFits t ≡ true → textFits (textByte t b) ≡ true
 unfolding textByte
 text-fits t b f = wanted-fits (t .wanted) (t .least) (t .code) b f
 
@@ -92,7 +92,7 @@ named-fits : (text : ℕ) (t : Text) (m : Names) (o o′ : ℕ) → o ≤ o′ �
 unfolding named
 named-fits text t m o o′ h = byTest (textEnds t) (λ p. rw p (both (le-leb o o′ h) (met-fits m))) (λ p. rw p)
 
-name-fits : (begins text left : ℕ) (t : Text) (m : Names) (o : ℕ) → textFits t ≡ true → contentsFit (name begins text left t m o) o ≡ true
+pub name-fits : (begins text left : ℕ) (t : Text) (m : Names) (o : ℕ) → textFits t ≡ true → contentsFit (name begins text left t m o) o ≡ true
 unfolding name
 name-fits begins text zero t m o f = named-fits text t m o o (omega arith)
 name-fits begins text (suc left) t m o f = both (lt-ltb 0 (suc left) (omega arith)) f
