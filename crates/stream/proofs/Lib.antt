@@ -3,3 +3,4 @@ pub mod States
 pub mod SectionLaws
 pub mod ContentLaws
 pub mod NameLaws
+pub mod FeedLaws

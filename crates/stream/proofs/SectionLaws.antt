@@ -186,7 +186,7 @@ unfolding enter
 enter-plain d zero at n o h = absurd (h refl)
 enter-plain d (suc id) at n o h = refl
 
-skip-on : (d : Done) (at n : ℕ) → (n ≡ 0 → ⊥) → skip d at n ≡ skipping d at n
+pub skip-on : (d : Done) (at n : ℕ) → (n ≡ 0 → ⊥) → skip d at n ≡ skipping d at n
 unfolding skip
 skip-on d at zero h = absurd (h refl)
 skip-on d at (suc n) h = refl

@@ -12,3 +12,4 @@ pub mod Resumed
 pub mod Fields
 pub mod Fits
 pub mod Calls
+pub mod Bulk

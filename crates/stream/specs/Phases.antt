@@ -1,8 +1,11 @@
 -- What the types of the code mean. Assumes nothing.
-use Prim.Native.Nat.{ℕ, suc, _-_, _≤_, _<_}
+use Prim.Native.Nat.{ℕ, suc, _+_, _-_, _≤_, _<_}
 use mathlib.Core.Bool.{Bool, true, cond}
+use mathlib.Core.List.{List}
 use mathlib.Core.Path.{_≡_}
 use lib.Dec.{eqb}
+use lib.ListN.{length}
+use lib.Seq.{slice}
 use Rattle.format.specs.Refusals as Refusals
 use Rattle.format.specs.Reading.{refused}
 use Rattle.format.specs.declared.Reason.the-variants.{NotText}
@@ -13,12 +16,13 @@ use Rattle.stream.specs.Contents.{Contents, paying, failing, name}
 use Rattle.stream.specs.Counting.{Number, Counted, whole, partly, over}
 use Rattle.stream.specs.Texts.{Text, noneWanted}
 use Rattle.stream.specs.Naming.{Names, noneMet}
-use Rattle.stream.specs.Stream.{settled, custom, enter, step}
+use Rattle.stream.specs.Stream.{settled, custom, enter, step, steps}
 use Rattle.stream.specs.Calls.{most}
 use Rattle.stream.specs.Fields.{rowFrom, doneFrom, contentsFrom, stateFrom}
 use Rattle.stream.specs.Fits.{numberFits, textFits, contentsFit, fits}
 use Rattle.stream.specs.declared.Spot.{Spot}
 use Rattle.stream.specs.declared.Stream.{Stream}
+use Rattle.stream.specs.declared.feeding.Moved.{Moved}
 use Rattle.stream.specs.declared.Met.{Met}
 use Rattle.stream.specs.declared.numbers.Counted.{Counted as CountedSo}
 use Rattle.stream.specs.declared.numbers.Counted.the-variants.{Whole, Partly, Over}
@@ -119,3 +123,40 @@ pub record Placed (f r : Stream) : Type 0 where
 
 abbrev pub seenSo : Stream → Seen
 seenSo f = record { rank = f .rank; code = eqb (f .code) 1; there = f .there }
+
+-- so many bytes of a payload, or behind a fault, are here
+pub record Passing (f : Stream) (n : ℕ) : Type 0 where
+  pub fit : Fit f
+  pub phase : 6 < f .phase
+  pub some : 0 < n
+  pub inside : n ≤ f .left
+  pub room : f .total + n ≤ most
+
+-- so many bytes were read, whatever they were
+pub record Passes (f : Stream) (n : ℕ) (r : Stream) : Type 0 where
+  pub means : (bs : List ℕ) → length bs ≡ n → stateFrom r ≡ steps (stateFrom f) bs
+
+-- the lesser of what is here and what is left
+pub record Reaches (here left r : ℕ) : Type 0 where
+  pub inside : r ≤ left
+  pub lent : r ≤ here
+  pub moves : 0 < here → 0 < left → 0 < r
+
+-- a part is read up to an offset
+pub record Ready (f : Stream) (part : List ℕ) (i : ℕ) : Type 0 where
+  pub fit : Fit f
+  pub here : i < length part
+  pub room : f .total + (length part - i) ≤ most
+
+pub record Moves (f : Stream) (part : List ℕ) (i : ℕ) (r : Moved) : Type 0 where
+  pub moves : i < r .at
+  pub within : r .at ≤ length part
+  pub means : stateFrom (r .stream) ≡ steps (stateFrom f) (slice i (r .at) part)
+
+-- all of it was read
+pub record Feeds (f : Stream) (part : List ℕ) (r : Stream) : Type 0 where
+  pub means : stateFrom r ≡ steps (stateFrom f) part
+
+-- a name that the part has whole was read
+pub record NameWhole (f : Stream) (part : List ℕ) (i : ℕ) (r : Stream) : Type 0 where
+  pub means : stateFrom r ≡ steps (stateFrom f) (slice i (i + f .rest) part)

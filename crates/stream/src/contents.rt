@@ -99,7 +99,7 @@ fn end_payload(s: Stream) -> Stream
 }
 
 // The contents go on, or the section is over.
-fn close(s: Stream) -> Stream
+pub fn close(s: Stream) -> Stream
     requires { ⌜ Closing s ⌝ }
     ensures { λ r. ⌜ Closes s r ⌝ }
 {
@@ -116,7 +116,7 @@ fn close(s: Stream) -> Stream
 }
 
 // The name is whole: what is left is the payload, or its text is none.
-fn named(s: Stream, valid: bool, row: u8) -> Stream
+pub fn named(s: Stream, valid: bool, row: u8) -> Stream
     ensures { λ r. ⌜ NameEnds s valid row r ⌝ }
 {
     let mut next = s;

@@ -3,6 +3,7 @@ ghost use Rattle.stream.specs.Promises.{stream-begin};
 use format::Verdict;
 
 mod contents;
+mod feeding;
 mod naming;
 mod numbers;
 mod sections;

@@ -1,0 +1,118 @@
+-- A part, from its first byte to its last: one law for each way through the code.
+use Prim.Native.Nat.{ℕ, zero, suc, _+_, _-_, _≤_, _<_}
+use mathlib.Core.Bool.{Bool, true, false, cond, _&&_}
+use mathlib.Core.List.{List, [], _∷_}
+use mathlib.Core.Option.{Option, none, some}
+use mathlib.Core.Path.{_≡_, refl, sym, ap, _∙_}
+use native.Mathlib.Omega.{arith}
+use borrow.Author.Needs.{needs}
+use borrow.Author.Tests.{le-leb, leb-true, eqb-true, eqb-false}
+use lib.Dec.{ltb, leb, eqb}
+use lib.ListN.{length, getD, take, drop}
+use lib.Seq.{slice, slice-cons, slice-empty, length-slice}
+use Rattle.format.specs.Reading.{accepted}
+use Rattle.format.specs.Laws.Outcomes.{onBoth, byTest}
+use Rattle.stream.specs.Contents.{Contents, paying, failing, content}
+use Rattle.stream.specs.Stream.{Done, settled, skipping, inCustom, skip, custom, State, step, steps}
+use Rattle.stream.specs.Calls.{most}
+use Rattle.stream.specs.Fields.{rowFrom, doneFrom, contentsFrom, stateFrom}
+use Rattle.stream.specs.Fits.{rowFits, contentsFit, fits}
+use Rattle.stream.specs.Phases.{Fit, Steps, Closing, Closes, Passing, Passes, Reaches, Ready, Moves, Feeds}
+use Rattle.stream.specs.Laws.Bulk.{standing, skip-many, contents-many, paying-stays, failing-stays, refused-many, steps-between}
+use Rattle.stream.specs.Laws.Fits.{both, steps-fit, steps-total}
+use Rattle.stream.specs.declared.Stream.{Stream}
+use Rattle.stream.specs.declared.feeding.Moved.{Moved}
+use Rattle.stream.proofs.States.{at, at-same, as-between, as-refused, as-skipping, as-custom, as-paying, as-failing, skipping-left, custom-count, custom-left, custom-contents}
+use Rattle.stream.proofs.SectionLaws.{limit64, skip-on, custom-on}
+
+pub reaches-here : {here left : ℕ} → here < left → Reaches here left here
+reaches-here h = record { inside = omega arith; lent = omega arith; moves = λ a b. a }
+
+pub reaches-left : {here left : ℕ} → left ≤ here → Reaches here left left
+reaches-left h = record { inside = omega arith; lent = h; moves = λ a b. b }
+
+pub ruleset reaching = (reaches-here, reaches-left, needs)
+
+-- CONTENTS THAT NOBODY READS
+
+module _ (f : Stream) (n : ℕ) (k : (f .phase ≡ 4) × (0 < n) × (n ≤ f .left) × (f .total + n ≤ most)) where
+  skipped : (bs : List ℕ) → length bs ≡ n → steps (stateFrom f) bs ≡ standing (f .total + n) (skip (doneFrom f) (f .at) (f .left - n))
+  skipped bs e =
+      let h = k .1 in let l = k .2 in
+      ap (λ (s : State). steps s bs) (as-skipping f (k .0) ∙ at-same refl (sym (skip-on (doneFrom f) (f .at) (f .left) (λ z. omega arith))))
+      ∙ skip-many (doneFrom f) (f .at) (f .left) (f .total) bs (omega arith)
+      ∙ ap (λ x. standing (f .total + x) (skip (doneFrom f) (f .at) (f .left - x))) e
+
+  pub skips-all : {r : Stream} → n ≡ f .left → (r .phase ≡ 1) × (r .total ≡ f .total + n) × (doneFrom r ≡ doneFrom f) → Passes f n r
+  unfolding skip
+  skips-all {r} e (p, t, d) =
+      let z : f .left - n ≡ 0 = omega arith in
+      record { means = λ bs l. as-between r p ∙ at-same t (ap (λ x. settled (accepted x)) d) ∙ sym (skipped bs l ∙ ap (λ x. standing (f .total + n) (skip (doneFrom f) (f .at) x)) z) }
+
+  pub skips-on : {r : Stream} → (n ≡ f .left → ⊥) → (r .phase ≡ f .phase) × (r .total ≡ f .total + n) × (doneFrom r ≡ doneFrom f) × (r .at ≡ f .at) × (r .left ≡ f .left - n) → Passes f n r
+  skips-on {r} e (p, t, d, a, l) =
+      let h = k .2 in
+      record { means = λ bs q. as-skipping r (p ∙ k .0) ∙ at-same t ((λ j. skipping (d j) (a j) (l j)) ∙ sym (skip-on (doneFrom f) (f .at) (f .left - n) (λ z. e (omega arith)))) ∙ sym (skipped bs q) }
+
+pub ruleset skips = (skips-all, skips-on, needs)
+
+-- A PAYLOAD, OR WHAT IS BEHIND A FAULT
+
+module _ {f : Stream} {n : ℕ} (k : Passing f n) where
+  inside : 4 < f .phase
+  inside = let p = k .phase in omega arith
+
+  -- no byte changes it
+  unread : (o b : ℕ) → content (contentsFrom f) o b ≡ contentsFrom f
+  unread o b =
+      byTest (eqb (f .phase) 7)
+      (λ t. let q = as-paying f (eqb-true (f .phase) 7 t) in ap (λ c. content c o b) q ∙ paying-stays (rowFrom (f .row)) (f .text) o b ∙ sym q)
+      (λ t. let p = k .phase in let m = eqb-false (f .phase) 7 t in let q = as-failing f (omega arith) in ap (λ c. content c o b) q ∙ failing-stays (f .refusal) (f .text) o b ∙ sym q)
+
+  passed : (bs : List ℕ) → length bs ≡ n → steps (stateFrom f) bs ≡ standing (f .total + n) (custom (doneFrom f) (f .at) (f .left - n) (contentsFrom f) (f .total + n))
+  passed bs e =
+      let h = k .some in let l = k .inside in
+      ap (λ (s : State). steps s bs) (as-custom f inside ∙ at-same refl (sym (custom-on (doneFrom f) (f .at) (f .left) (contentsFrom f) (f .total) (λ z. omega arith))))
+      ∙ contents-many (contentsFrom f) unread (doneFrom f) (f .at) (f .left) (f .total) bs (omega arith)
+      ∙ ap (λ x. standing (f .total + x) (custom (doneFrom f) (f .at) (f .left - x) (contentsFrom f) (f .total + x))) e
+
+  module _ (h : Stream) (w : (h .phase ≡ f .phase) × (h .total ≡ f .total + n) × (doneFrom h ≡ doneFrom f) × (h .at ≡ f .at) × (h .left ≡ f .left - n) × (h .row ≡ f .row) × (h .refusal ≡ f .refusal) × (h .text ≡ f .text)) where
+    unchanged : contentsFrom h ≡ contentsFrom f
+    unchanged =
+        byTest (eqb (f .phase) 7)
+        (λ t. let e = eqb-true (f .phase) 7 t in as-paying h (w .0 ∙ e) ∙ (λ j. paying (rowFrom (w .5 j)) (w .7 j)) ∙ sym (as-paying f e))
+        (λ t. let p = k .phase in let m = eqb-false (f .phase) 7 t in let q = w .0 in as-failing h (omega arith) ∙ (λ j. failing (w .6 j) (w .7 j)) ∙ sym (as-failing f (omega arith)))
+
+    still-fits : contentsFit (contentsFrom f) (f .total + n) ≡ true
+    still-fits =
+        byTest (eqb (f .phase) 7)
+        (λ t. let q = as-paying f (eqb-true (f .phase) 7 t) in
+        onBoth (leb (f .text) (f .total)) (rowFits (rowFrom (f .row))) (sym (ap (λ c. contentsFit c (f .total)) q) ∙ custom-contents (k .fit) inside)
+        λ l r. ap (λ c. contentsFit c (f .total + n)) q ∙ both (le-leb (f .text) (f .total + n) (let m = leb-true (f .text) (f .total) l in omega arith)) r)
+        (λ t. let p = k .phase in let m = eqb-false (f .phase) 7 t in ap (λ c. contentsFit c (f .total + n)) (as-failing f (omega arith)))
+
+    pub pass-closing : Closing h
+    pass-closing =
+        let e : h .count ≡ f .count = ap (λ d. d .told .count) (w .2) in
+        let c = custom-count (k .fit) inside in
+        let t = w .1 in let p = w .0 in let i = inside in let z = k .some in
+        record { inside = omega arith; behind = omega arith; fits = (λ j. contentsFit (unchanged j) (w .1 j)) ∙ still-fits }
+
+    pub passes : {r : Stream} → Closes h r → Passes f n r
+    passes u = record { means = λ bs l. u .means ∙ at-same (w .1) (λ j. custom (w .2 j) (w .3 j) (w .4 j) (unchanged j) (w .1 j)) ∙ sym (passed bs l) }
+
+pub ruleset passing = (pass-closing, passes, needs)
+
+-- WHERE EACH BYTE COUNTS
+
+pub only-starting : (p : ℕ) → p < 7 → (p ≡ 2 → ⊥) → (p ≡ 4 → ⊥) → (p ≡ 3 → ⊥) → (p ≡ 1 → ⊥) → (p ≡ 5 → ⊥) → (p ≡ 6 → ⊥) → p ≡ 0
+only-starting zero h a b c d e f = refl
+only-starting (suc zero) h a b c d e f = absurd (d refl)
+only-starting (suc (suc zero)) h a b c d e f = absurd (a refl)
+only-starting (suc (suc (suc zero))) h a b c d e f = absurd (c refl)
+only-starting (suc (suc (suc (suc zero)))) h a b c d e f = absurd (b refl)
+only-starting (suc (suc (suc (suc (suc zero))))) h a b c d e f = absurd (e refl)
+only-starting (suc (suc (suc (suc (suc (suc zero)))))) h a b c d e f = absurd (f refl)
+only-starting (suc (suc (suc (suc (suc (suc (suc p))))))) h a b c d e f = absurd (omega arith)
+
+pub ruleset ones = (only-starting, needs)
