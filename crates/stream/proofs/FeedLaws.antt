@@ -10,14 +10,23 @@ use borrow.Author.Tests.{le-leb, leb-true, eqb-true, eqb-false}
 use lib.Dec.{ltb, leb, eqb}
 use lib.ListN.{length, getD, take, drop}
 use lib.Seq.{slice, slice-cons, slice-empty, length-slice}
+use denote.Enum.Declared.{tagOf}
+use Rattle.format.specs.Bytes.{same}
 use Rattle.format.specs.Reading.{accepted}
+use Rattle.format.specs.Text.{utf8}
+use Rattle.format.specs.Walk.{tracked, rowFrom}
 use Rattle.format.specs.Laws.Outcomes.{onBoth, byTest}
+use Rattle.walk.specs.Sections.{rowCalled, InTable, Calls}
+use Rattle.walk.specs.declared.rules.Called.{Called}
+use Rattle.walk.specs.declared.rules.Called.the-variants.{Row, Other}
+use Rattle.walk.proofs.RowLaws.{row-below}
+use Rattle.walk.proofs.rules.Called as called-type
 use Rattle.stream.specs.Contents.{Contents, paying, failing, content}
 use Rattle.stream.specs.Stream.{Done, settled, skipping, inCustom, skip, custom, State, step, steps}
 use Rattle.stream.specs.Calls.{most}
-use Rattle.stream.specs.Fields.{rowFrom, doneFrom, contentsFrom, stateFrom}
+use Rattle.stream.specs.Fields.{rowNumber, rowFrom as rowOf, doneFrom, contentsFrom, stateFrom}
 use Rattle.stream.specs.Fits.{rowFits, contentsFit, fits}
-use Rattle.stream.specs.Phases.{Fit, Steps, Closing, Closes, Passing, Passes, Reaches, Ready, Moves, Feeds}
+use Rattle.stream.specs.Phases.{Fit, Steps, Closing, Closes, Passing, Passes, Reaches, Ready, Moves, Feeds, wholeHere, WholeName, NameWhole, NameJudged}
 use Rattle.stream.specs.Laws.Bulk.{standing, skip-many, contents-many, paying-stays, failing-stays, refused-many, steps-between}
 use Rattle.stream.specs.Laws.Fits.{both, steps-fit, steps-total}
 use Rattle.stream.specs.declared.Stream.{Stream}
@@ -66,7 +75,7 @@ module _ {f : Stream} {n : ℕ} (k : Passing f n) where
   unread : (o b : ℕ) → content (contentsFrom f) o b ≡ contentsFrom f
   unread o b =
       byTest (eqb (f .phase) 7)
-      (λ t. let q = as-paying f (eqb-true (f .phase) 7 t) in ap (λ c. content c o b) q ∙ paying-stays (rowFrom (f .row)) (f .text) o b ∙ sym q)
+      (λ t. let q = as-paying f (eqb-true (f .phase) 7 t) in ap (λ c. content c o b) q ∙ paying-stays (rowOf (f .row)) (f .text) o b ∙ sym q)
       (λ t. let p = k .phase in let m = eqb-false (f .phase) 7 t in let q = as-failing f (omega arith) in ap (λ c. content c o b) q ∙ failing-stays (f .refusal) (f .text) o b ∙ sym q)
 
   passed : (bs : List ℕ) → length bs ≡ n → steps (stateFrom f) bs ≡ standing (f .total + n) (custom (doneFrom f) (f .at) (f .left - n) (contentsFrom f) (f .total + n))
@@ -80,14 +89,14 @@ module _ {f : Stream} {n : ℕ} (k : Passing f n) where
     unchanged : contentsFrom h ≡ contentsFrom f
     unchanged =
         byTest (eqb (f .phase) 7)
-        (λ t. let e = eqb-true (f .phase) 7 t in as-paying h (w .0 ∙ e) ∙ (λ j. paying (rowFrom (w .5 j)) (w .7 j)) ∙ sym (as-paying f e))
+        (λ t. let e = eqb-true (f .phase) 7 t in as-paying h (w .0 ∙ e) ∙ (λ j. paying (rowOf (w .5 j)) (w .7 j)) ∙ sym (as-paying f e))
         (λ t. let p = k .phase in let m = eqb-false (f .phase) 7 t in let q = w .0 in as-failing h (omega arith) ∙ (λ j. failing (w .6 j) (w .7 j)) ∙ sym (as-failing f (omega arith)))
 
     still-fits : contentsFit (contentsFrom f) (f .total + n) ≡ true
     still-fits =
         byTest (eqb (f .phase) 7)
         (λ t. let q = as-paying f (eqb-true (f .phase) 7 t) in
-        onBoth (leb (f .text) (f .total)) (rowFits (rowFrom (f .row))) (sym (ap (λ c. contentsFit c (f .total)) q) ∙ custom-contents (k .fit) inside)
+        onBoth (leb (f .text) (f .total)) (rowFits (rowOf (f .row))) (sym (ap (λ c. contentsFit c (f .total)) q) ∙ custom-contents (k .fit) inside)
         λ l r. ap (λ c. contentsFit c (f .total + n)) q ∙ both (le-leb (f .text) (f .total + n) (let m = leb-true (f .text) (f .total) l in omega arith)) r)
         (λ t. let p = k .phase in let m = eqb-false (f .phase) 7 t in ap (λ c. contentsFit c (f .total + n)) (as-failing f (omega arith)))
 
@@ -105,14 +114,37 @@ pub ruleset passing = (pass-closing, passes, needs)
 
 -- WHERE EACH BYTE COUNTS
 
-pub only-starting : (p : ℕ) → p < 7 → (p ≡ 2 → ⊥) → (p ≡ 4 → ⊥) → (p ≡ 3 → ⊥) → (p ≡ 1 → ⊥) → (p ≡ 5 → ⊥) → (p ≡ 6 → ⊥) → p ≡ 0
-only-starting zero h a b c d e f = refl
-only-starting (suc zero) h a b c d e f = absurd (d refl)
-only-starting (suc (suc zero)) h a b c d e f = absurd (a refl)
-only-starting (suc (suc (suc zero))) h a b c d e f = absurd (c refl)
-only-starting (suc (suc (suc (suc zero)))) h a b c d e f = absurd (b refl)
-only-starting (suc (suc (suc (suc (suc zero))))) h a b c d e f = absurd (e refl)
-only-starting (suc (suc (suc (suc (suc (suc zero)))))) h a b c d e f = absurd (f refl)
-only-starting (suc (suc (suc (suc (suc (suc (suc p))))))) h a b c d e f = absurd (omega arith)
+pub only-starting : (p : ℕ) → p < 6 → (p ≡ 2 → ⊥) → (p ≡ 4 → ⊥) → (p ≡ 3 → ⊥) → (p ≡ 1 → ⊥) → (p ≡ 5 → ⊥) → p ≡ 0
+only-starting zero h a b c d e = refl
+only-starting (suc zero) h a b c d e = absurd (d refl)
+only-starting (suc (suc zero)) h a b c d e = absurd (a refl)
+only-starting (suc (suc (suc zero))) h a b c d e = absurd (c refl)
+only-starting (suc (suc (suc (suc zero)))) h a b c d e = absurd (b refl)
+only-starting (suc (suc (suc (suc (suc zero))))) h a b c d e = absurd (e refl)
+only-starting (suc (suc (suc (suc (suc (suc p)))))) h a b c d e = absurd (omega arith)
 
 pub ruleset ones = (only-starting, needs)
+
+-- A NAME THAT THE PART HAS WHOLE
+
+pub row-none : (x : Called) → tagOf called-type.the-type x ≡ 1 → 0 ≡ rowNumber (rowCalled x)
+row-none (Row row) e = absurd (omega arith)
+row-none Other e = refl
+
+pub row-some : {x : Called} {row : ℕ} → x ≡ Row row → row + 1 ≡ rowNumber (rowCalled x)
+row-some {row = row} e = let one : row + 1 ≡ suc row = omega arith in rw (e, one)
+
+pub row-adds : {x : Called} {row : ℕ} → InTable x → x ≡ Row row → row + 1 < 256
+row-adds {row = row} h e = let t : row < length tracked = rw e at h in omega arith
+
+pub found-known : (bs : List ℕ) {x : Called} → Calls bs x → InTable x
+found-known bs {x} q = known x (q .row-is)
+  where
+    known : (x : Called) → rowFrom 0 tracked (λ x. same x bs) ≡ rowCalled x → InTable x
+    known (Row row) e = row-below 0 tracked (λ x. same x bs) e
+    known Other e = tt
+
+pub judged-whole : {bs : List ℕ} {valid : Bool} {row : ℕ} {x : Called} → valid ≡ utf8 bs → Calls bs x → row ≡ rowNumber (rowCalled x) → NameJudged bs (record { valid = valid; row = row })
+judged-whole v q e = record { valid = v; row = e ∙ ap rowNumber (sym (q .row-is)) }
+
+pub ruleset judging = (row-none, row-some, row-adds, found-known, judged-whole, needs)

@@ -1,13 +1,17 @@
 -- What the types of the code mean. Assumes nothing.
 use Prim.Native.Nat.{ℕ, suc, _+_, _-_, _≤_, _<_}
-use mathlib.Core.Bool.{Bool, true, cond}
+use mathlib.Core.Bool.{Bool, true, cond, _&&_}
 use mathlib.Core.List.{List}
 use mathlib.Core.Path.{_≡_}
-use lib.Dec.{eqb}
+use lib.Dec.{leb, eqb}
 use lib.ListN.{length}
 use lib.Seq.{slice}
+use Rattle.format.specs.Bytes.{same}
 use Rattle.format.specs.Refusals as Refusals
 use Rattle.format.specs.Reading.{refused}
+use Rattle.format.specs.Text.{utf8}
+use Rattle.format.specs.Walk as Walk
+use Rattle.format.specs.Walk.{tracked}
 use Rattle.format.specs.declared.Reason.the-variants.{NotText}
 use Rattle.walk.specs.Sections.{rowCalled, InTable}
 use Rattle.walk.specs.declared.rules.Called.{Called}
@@ -18,10 +22,11 @@ use Rattle.stream.specs.Texts.{Text, noneWanted}
 use Rattle.stream.specs.Naming.{Names, noneMet}
 use Rattle.stream.specs.Stream.{settled, custom, enter, step, steps}
 use Rattle.stream.specs.Calls.{most}
-use Rattle.stream.specs.Fields.{rowFrom, doneFrom, contentsFrom, stateFrom}
+use Rattle.stream.specs.Fields.{rowNumber, rowFrom, doneFrom, contentsFrom, stateFrom}
 use Rattle.stream.specs.Fits.{numberFits, textFits, contentsFit, fits}
 use Rattle.stream.specs.declared.Spot.{Spot}
 use Rattle.stream.specs.declared.Stream.{Stream}
+use Rattle.stream.specs.declared.feeding.JudgedName.{JudgedName}
 use Rattle.stream.specs.declared.feeding.Moved.{Moved}
 use Rattle.stream.specs.declared.Met.{Met}
 use Rattle.stream.specs.declared.numbers.Counted.{Counted as CountedSo}
@@ -157,6 +162,19 @@ pub record Moves (f : Stream) (part : List ℕ) (i : ℕ) (r : Moved) : Type 0 w
 pub record Feeds (f : Stream) (part : List ℕ) (r : Stream) : Type 0 where
   pub means : stateFrom r ≡ steps (stateFrom f) part
 
--- a name that the part has whole was read
+-- A name that the part has whole: nothing of it has come yet, and its section has it whole too
+abbrev pub wholeHere : Stream → (here : ℕ) → Bool
+wholeHere f here = eqb (f .wanted) 0 && (eqb (f .met .name) 0 && (eqb (f .met .hints) 0 && (eqb (f .met .older) 0 && (leb (f .rest) (f .left) && leb (f .rest) here))))
+
+pub record WholeName (f : Stream) (part : List ℕ) (i : ℕ) : Type 0 where
+  pub ready : Ready f part i
+  pub phase : f .phase ≡ 6
+  pub whole : wholeHere f (length part - i) ≡ true
+
 pub record NameWhole (f : Stream) (part : List ℕ) (i : ℕ) (r : Stream) : Type 0 where
   pub means : stateFrom r ≡ steps (stateFrom f) (slice i (i + f .rest) part)
+
+-- what a name comes to by the walk's rules
+pub record NameJudged (bs : List ℕ) (r : JudgedName) : Type 0 where
+  pub valid : r .valid ≡ utf8 bs
+  pub row : r .row ≡ rowNumber (Walk.rowFrom 0 tracked (λ x. same x bs))

@@ -20,17 +20,11 @@ sizing-byte-requires c κs = search ones
 returns-3 : tie.Need-returns-3
 returns-3 c = search ones
 
-naming-byte-requires : tie.Need-naming-byte-requires
-naming-byte-requires c κs = search ones
+starting-byte-requires : tie.Need-starting-byte-requires
+starting-byte-requires c κs = search ones
 
 returns-4 : tie.Need-returns-4
 returns-4 c = search ones
 
-starting-byte-requires : tie.Need-starting-byte-requires
-starting-byte-requires c κs = search ones
-
-returns-5 : tie.Need-returns-5
-returns-5 c = search ones
-
 pub one-spec : {M : Type 1} → statement M
-one-spec = tie.close (tie.spec measuring-byte-requires returns opening-byte-requires returns-2 sizing-byte-requires returns-3 naming-byte-requires returns-4 starting-byte-requires returns-5)
+one-spec = tie.close (tie.spec measuring-byte-requires returns opening-byte-requires returns-2 sizing-byte-requires returns-3 starting-byte-requires returns-4)
