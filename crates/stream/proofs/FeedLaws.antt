@@ -6,7 +6,7 @@ use mathlib.Core.Option.{Option, none, some}
 use mathlib.Core.Path.{_≡_, refl, sym, ap, _∙_}
 use native.Mathlib.Omega.{arith}
 use borrow.Author.Needs.{needs}
-use borrow.Author.Tests.{le-leb, leb-true, eqb-true, eqb-false}
+use borrow.Author.Tests.{le-leb, leb-true, lt-ltb, ltb-true, eqb-true, eqb-false}
 use lib.Dec.{ltb, leb, eqb}
 use lib.ListN.{length, getD, take, drop}
 use lib.Seq.{slice, slice-cons, slice-empty, length-slice}
@@ -21,18 +21,24 @@ use Rattle.walk.specs.declared.rules.Called.{Called}
 use Rattle.walk.specs.declared.rules.Called.the-variants.{Row, Other}
 use Rattle.walk.proofs.RowLaws.{row-below}
 use Rattle.walk.proofs.rules.Called as called-type
-use Rattle.stream.specs.Contents.{Contents, paying, failing, content}
+use Rattle.stream.specs.Naming.{noneMet}
+use Rattle.stream.specs.Contents.{Contents, paying, failing, name, content}
 use Rattle.stream.specs.Stream.{Done, settled, skipping, inCustom, skip, custom, State, step, steps}
 use Rattle.stream.specs.Calls.{most}
-use Rattle.stream.specs.Fields.{rowNumber, rowFrom as rowOf, doneFrom, contentsFrom, stateFrom}
+use Rattle.stream.specs.Fields.{rowNumber, rowFrom as rowOf, doneFrom, textFrom, namesFrom, contentsFrom, stateFrom}
 use Rattle.stream.specs.Fits.{rowFits, contentsFit, fits}
-use Rattle.stream.specs.Phases.{Fit, Steps, Closing, Closes, Passing, Passes, Reaches, Ready, Moves, Feeds, wholeHere, WholeName, NameWhole, NameJudged}
-use Rattle.stream.specs.Laws.Bulk.{standing, skip-many, contents-many, paying-stays, failing-stays, refused-many, steps-between}
+use Rattle.stream.specs.Phases.{Fit, Steps, Closing, Closes, NameEnds, Passing, Passes, Reaches, Ready, Moves, Feeds, wholeHere, WholeName, NameWhole, NameJudged}
+use Rattle.stream.specs.Laws.Bulk.{standing, judgedName, name-many, skip-many, contents-many, paying-stays, failing-stays, refused-many, steps-between}
+use Rattle.stream.specs.Laws.Texts.{isText, restIsText}
+use Rattle.stream.specs.Laws.Naming.{rowNamed, meeting, meeting-first}
+use Rattle.stream.specs.Laws.Fields.{row-back}
 use Rattle.stream.specs.Laws.Fits.{both, steps-fit, steps-total}
 use Rattle.stream.specs.declared.Stream.{Stream}
+use Rattle.stream.specs.declared.feeding.JudgedName.{JudgedName}
 use Rattle.stream.specs.declared.feeding.Moved.{Moved}
-use Rattle.stream.proofs.States.{at, at-same, as-between, as-refused, as-skipping, as-custom, as-paying, as-failing, skipping-left, custom-count, custom-left, custom-contents}
+use Rattle.stream.proofs.States.{at, at-same, as-between, as-refused, as-skipping, as-custom, as-naming, as-paying, as-failing, skipping-left, custom-count, custom-left, custom-contents}
 use Rattle.stream.proofs.SectionLaws.{limit64, skip-on, custom-on}
+use Rattle.stream.proofs.NameLaws.{name-on}
 
 pub reaches-here : {here left : ℕ} → here < left → Reaches here left here
 reaches-here h = record { inside = omega arith; lent = omega arith; moves = λ a b. a }
@@ -148,3 +154,77 @@ pub judged-whole : {bs : List ℕ} {valid : Bool} {row : ℕ} {x : Called} → v
 judged-whole v q e = record { valid = v; row = e ∙ ap rowNumber (sym (q .row-is)) }
 
 pub ruleset judging = (row-none, row-some, row-adds, found-known, judged-whole, needs)
+
+module _ {f : Stream} {part : List ℕ} {i : ℕ} (k : WholeName f part i) where
+  -- the six tests
+  tests {ℓ} : {C : Type ℓ} → (f .wanted ≡ 0 → namesFrom f ≡ noneMet → f .rest ≤ f .left → f .rest ≤ length part - i → C) → C
+  tests g =
+      onBoth (eqb (f .wanted) 0) _ (k .whole) λ a e₁. onBoth (eqb (f .met .name) 0) _ e₁ λ b e₂. onBoth (eqb (f .met .hints) 0) _ e₂ λ c e₃. onBoth (eqb (f .met .older) 0) _ e₃ λ d e₄. onBoth (leb (f .rest) (f .left)) _ e₄ λ l h.
+      g (eqb-true (f .wanted) 0 a) (λ j. record { name = eqb-true (f .met .name) 0 b j; hints = eqb-true (f .met .hints) 0 c j; older = eqb-true (f .met .older) 0 d j }) (leb-true (f .rest) (f .left) l) (leb-true (f .rest) (length part - i) h)
+
+  pub whole-end : i + f .rest ≤ length part
+  whole-end = let h = k .ready .here in tests λ _ _ _ l. omega arith
+
+  pub whole-left : f .rest ≤ f .left
+  whole-left = tests λ _ _ l _. l
+
+  pub whole-total : f .total + f .rest ≤ most
+  whole-total = let h = k .ready .room in tests λ _ _ _ l. omega arith
+
+  pub whole-adds : f .total + f .rest < limit64
+  whole-adds = let h = whole-total in omega arith
+
+  inside-it : 4 < f .phase
+  inside-it = let p = k .phase in omega arith
+
+  abbrev bytes : List ℕ
+  bytes = slice i (i + f .rest) part
+
+  bytes-long : length bytes ≡ f .rest
+  bytes-long = let l = length-slice i (i + f .rest) part whole-end in omega arith
+
+  some-rest : 0 < f .rest
+  some-rest = onBoth (ltb 0 (f .rest)) _ (sym (ap (λ c. contentsFit c (f .total)) (as-naming f (k .phase))) ∙ custom-contents (k .ready .fit) inside-it) λ l _. ltb-true 0 (f .rest) l
+
+  -- text and row as the walk has them
+  as-text : isText (textFrom f) bytes ≡ utf8 bytes
+  unfolding isText restIsText
+  as-text = tests λ z _ _ _. rw z
+
+  as-row : meeting (namesFrom f) bytes ≡ rowNamed bytes
+  as-row = tests λ _ m _ _. ap (λ n. meeting n bytes) m ∙ sym (meeting-first bytes)
+
+  whole-steps : steps (stateFrom f) bytes ≡ standing (f .total + f .rest) (custom (doneFrom f) (f .at) (f .left - f .rest) (cond (utf8 bytes) (paying (rowNamed bytes) (f .total + f .rest)) (failing 4 (f .text))) (f .total + f .rest))
+  whole-steps =
+      let r = some-rest in let l = whole-left in
+      let first : contentsFrom f ≡ name (f .begins) (f .text) (length bytes) (textFrom f) (namesFrom f) (f .total) = as-naming f (k .phase) ∙ name-on f (f .begins) (f .text) (f .rest) (textFrom f) (namesFrom f) (f .total) (λ z. omega arith) ∙ ap (λ n. name (f .begins) (f .text) n (textFrom f) (namesFrom f) (f .total)) (sym bytes-long) in
+      ap (λ (s : State). steps s bytes) (as-custom f inside-it ∙ at-same refl (sym (custom-on (doneFrom f) (f .at) (f .left) (contentsFrom f) (f .total) (λ z. omega arith)) ∙ ap (λ c. custom (doneFrom f) (f .at) (f .left) c (f .total)) first))
+      ∙ name-many (f .begins) (f .text) (doneFrom f) (f .at) (f .left) (f .total) (textFrom f) (namesFrom f) bytes (let n = bytes-long in omega arith)
+      ∙ ap (λ n. standing (f .total + n) (custom (doneFrom f) (f .at) (f .left - n) (judgedName (f .text) (textFrom f) (namesFrom f) bytes (f .total + n)) (f .total + n))) bytes-long
+      ∙ (λ j. standing (f .total + f .rest) (custom (doneFrom f) (f .at) (f .left - f .rest) (cond (as-text j) (paying (as-row j) (f .total + f .rest)) (failing 4 (f .text))) (f .total + f .rest)))
+
+  module _ (g : Stream) {h : Stream} {y : JudgedName} (q : NameJudged bytes y) (c : NameEnds g (y .valid) (y .row) h) (w : (g .total ≡ f .total + f .rest) × (g .left ≡ f .left - f .rest) × (g .text ≡ f .text) × (doneFrom g ≡ doneFrom f) × (g .at ≡ f .at)) where
+    contents-so : contentsFrom h ≡ cond (utf8 bytes) (paying (rowNamed bytes) (f .total + f .rest)) (failing 4 (f .text))
+    contents-so = c .contains .contents ∙ (λ j. cond (q .valid j) (paying ((ap rowOf (q .row) ∙ row-back (rowNamed bytes)) j) (w .0 j)) (failing 4 (w .2 j)))
+
+    row-fits : (x : Option ℕ) → rowNamed bytes ≡ x → rowFits x ≡ true
+    row-fits none e = refl
+    row-fits (some row) e = lt-ltb row (length tracked) (row-below 0 tracked (λ x. same x bytes) e)
+
+    fit-so : contentsFit (cond (utf8 bytes) (paying (rowNamed bytes) (f .total + f .rest)) (failing 4 (f .text))) (f .total + f .rest) ≡ true
+    fit-so = byTest (utf8 bytes) (λ t. rw t (both (le-leb (f .total + f .rest) (f .total + f .rest) (omega arith)) (row-fits (rowNamed bytes) refl))) (λ t. rw t)
+
+    pub whole-closing : Closing h
+    whole-closing =
+        let d = c .contains in
+        let e : h .count ≡ f .count = ap (λ x. x .told .count) (d .done ∙ w .3) in
+        let n = custom-count (k .ready .fit) inside-it in
+        let t = d .total in let u = w .0 in let r = some-rest in
+        record { inside = d .inside; behind = omega arith; fits = (λ j. contentsFit (contents-so j) ((d .total ∙ w .0) j)) ∙ fit-so }
+
+    pub whole-means : {r : Stream} → Closes h r → NameWhole f part i r
+    whole-means u =
+        let d = c .contains in
+        record { means = u .means ∙ at-same (d .total ∙ w .0) (λ j. custom ((d .done ∙ w .3) j) ((d .at ∙ w .4) j) ((d .left ∙ w .1) j) (contents-so j) ((d .total ∙ w .0) j)) ∙ sym whole-steps }
+
+pub ruleset wholes = (whole-end, whole-left, whole-adds, whole-closing, whole-means, needs)

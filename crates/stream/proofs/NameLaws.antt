@@ -54,7 +54,7 @@ module _ (f : Stream) where
   begins-empty {n} {r} e (p, w, x, t, d, a, l) =
       record { contains = record { inside = omega arith; total = t; done = d; at = a; left = l; contents = as-paying r p ∙ (λ i. paying (rowFrom (w i)) (x i)) ∙ none-named ∙ ap (λ n. name (f .begins) (f .total) n noneWanted noneMet (f .total)) (sym e) } }
 
-  name-on : (begins text n : ℕ) (t : Text) (m : Names) (o : ℕ) → (n ≡ 0 → ⊥) → naming begins text n t m ≡ name begins text n t m o
+  pub name-on : (begins text n : ℕ) (t : Text) (m : Names) (o : ℕ) → (n ≡ 0 → ⊥) → naming begins text n t m ≡ name begins text n t m o
   unfolding name
   name-on begins text zero t m o h = absurd (h refl)
   name-on begins text (suc n) t m o h = refl
