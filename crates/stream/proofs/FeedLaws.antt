@@ -8,11 +8,11 @@ use native.Mathlib.Omega.{arith}
 use borrow.Author.Needs.{needs}
 use borrow.Author.Tests.{le-leb, leb-true, lt-ltb, ltb-true, eqb-true, eqb-false}
 use lib.Dec.{ltb, leb, eqb}
-use lib.ListN.{length, getD, take, drop}
+use lib.ListN.{length, getD, drop, drop-of-length-le}
 use lib.Seq.{slice, slice-cons, slice-empty, length-slice}
 use denote.Enum.Declared.{tagOf}
 use Rattle.format.specs.Bytes.{same}
-use Rattle.format.specs.Reading.{accepted}
+use Rattle.format.specs.Reading.{accepted, refused}
 use Rattle.format.specs.Text.{utf8}
 use Rattle.format.specs.Walk.{tracked, rowFrom}
 use Rattle.format.specs.Laws.Outcomes.{onBoth, byTest}
@@ -27,7 +27,7 @@ use Rattle.stream.specs.Stream.{Done, settled, skipping, inCustom, skip,
 use Rattle.stream.specs.Calls.{most}
 use Rattle.stream.specs.Fields.{rowNumber, rowFrom as rowOf, doneFrom, textFrom, namesFrom, contentsFrom, stateFrom}
 use Rattle.stream.specs.Fits.{rowFits, contentsFit, fits}
-use Rattle.stream.specs.Phases.{Fit, Steps, Closing, Closes, NameEnds, Passing, Passes, Reaches, Ready, Moves, Feeds, wholeHere, WholeName, NameWhole, NameJudged}
+use Rattle.stream.specs.Phases.{Fit, Steps, Closing, Closes, NameEnds, Passing, Passes, Reaches, Ready, Moves, Feeding, Feeds, wholeHere, WholeName, NameJudged}
 use Rattle.stream.specs.Laws.Bulk.{standing, judgedName, name-many, skip-many, contents-many, paying-stays, failing-stays, refused-many, steps-between}
 use Rattle.stream.specs.Laws.Texts.{isText, restIsText}
 use Rattle.stream.specs.Laws.Naming.{rowNamed, meeting, meeting-first}
@@ -222,9 +222,117 @@ module _ {f : Stream} {part : List ℕ} {i : ℕ} (k : WholeName f part i) where
         let t = d .total in let u = w .0 in let r = some-rest in
         record { inside = d .inside; behind = omega arith; fits = (λ j. contentsFit (contents-so j) ((d .total ∙ w .0) j)) ∙ fit-so }
 
-    pub whole-means : {r : Stream} → Closes h r → NameWhole f part i r
+    pub whole-means : {r : Stream} → Closes h r → Moves f part i (record { stream = r; at = i + f .rest })
     whole-means u =
         let d = c .contains in
-        record { means = u .means ∙ at-same (d .total ∙ w .0) (λ j. custom ((d .done ∙ w .3) j) ((d .at ∙ w .4) j) ((d .left ∙ w .1) j) (contents-so j) ((d .total ∙ w .0) j)) ∙ sym whole-steps }
+        let n = some-rest in
+        record { moves = omega arith; within = whole-end; means = u .means ∙ at-same (d .total ∙ w .0) (λ j. custom ((d .done ∙ w .3) j) ((d .at ∙ w .4) j) ((d .left ∙ w .1) j) (contents-so j) ((d .total ∙ w .0) j)) ∙ sym whole-steps }
 
 pub ruleset wholes = (whole-end, whole-left, whole-adds, whole-closing, whole-means, needs)
+
+-- AS FAR AS ONE STEP GOES
+
+module _ {f : Stream} {part : List ℕ} {i : ℕ} (k : Ready f part i) where
+  pub here-adds : f .total + (length part - i) < limit64
+  here-adds = let r = k .room in omega arith
+
+  pub one-end : i + 1 ≤ length part
+  one-end = let h = k .here in omega arith
+
+  pub one-room : f .total < most
+  one-room = let r = k .room in let h = k .here in omega arith
+
+  many : {n : ℕ} (x : Stream) → 0 < n → n ≤ length part - i → Passes f n x → Moves f part i (record { stream = x; at = i + n })
+  many {n} x s l p =
+      let h = k .here in
+      record { moves = omega arith; within = omega arith; means = p .means (slice i (i + n) part) (let e = length-slice i (i + n) part (omega arith) in omega arith) }
+
+  pub moves-one : {x : Stream} → Steps f (getD part i 0) x → Moves f part i (record { stream = x; at = i + 1 })
+  unfolding steps
+  moves-one p =
+      let h = k .here in
+      let up : i + 1 ≡ suc i = omega arith in
+      record {
+        moves = omega arith;
+        within = omega arith;
+        means = p .means ∙ sym (ap (steps (stateFrom f)) (ap (λ j. slice i j part) up ∙ slice-cons i (suc i) part 0 (omega arith) (omega arith) ∙ ap (λ l. getD part i 0 ∷ l) (slice-empty (suc i) part)));
+      }
+
+  module _ {n : ℕ} (r : Reaches (length part - i) (f .left) n) where
+    pub reach-end : i + n ≤ length part
+    reach-end = let l = r .lent in let h = k .here in omega arith
+
+    pub reach-room : f .total + n ≤ most
+    reach-room = let l = r .lent in let m = k .room in omega arith
+
+    pub skip-some : f .phase ≡ 4 → 0 < n
+    skip-some p = r .moves (let h = k .here in omega arith) (skipping-left (k .fit) p)
+
+    pub moves-skipped : {x : Stream} → f .phase ≡ 4 → Passes f n x → Moves f part i (record { stream = x; at = i + n })
+    moves-skipped {x} p q = many x (skip-some p) (r .lent) q
+
+    pub pass-ready : 6 < f .phase → Passing f n
+    pass-ready p = record { fit = k .fit; phase = p; some = r .moves (let h = k .here in omega arith) (custom-left (k .fit) (omega arith)); inside = r .inside; room = reach-room }
+
+    pub moves-passed : {x : Stream} → 6 < f .phase → Passes f n x → Moves f part i (record { stream = x; at = i + n })
+    moves-passed {x} p q = many x (pass-ready p .some) (r .lent) q
+
+  pub moves-refused : {x : Stream} → f .phase ≡ 2 → (x .phase ≡ f .phase) × (x .total ≡ f .total + (length part - i)) × (x .refusal ≡ f .refusal) × (x .text ≡ f .text) → Moves f part i (record { stream = x; at = length part })
+  moves-refused {x} p (q, t, n, o) =
+      let h = k .here in
+      let long = length-slice i (length part) part (omega arith) in
+      record {
+        moves = h;
+        within = omega arith;
+        means =
+            as-refused x (q ∙ p) ∙ at-same t (λ j. settled (refused (n j) (o j)))
+            ∙ sym (ap (λ (s : State). steps s (slice i (length part) part)) (as-refused f p) ∙ refused-many (f .refusal) (f .text) (f .total) (slice i (length part) part) ∙ ap (λ n. standing (f .total + n) (settled (refused (f .refusal) (f .text)))) long);
+      }
+
+  module _ {whole : Bool} (p : f .phase ≡ 6) (e : whole ≡ wholeHere f (length part - i)) (t : whole ≡ true) where
+    pub name-whole : WholeName f part i
+    name-whole = record { ready = k; phase = p; whole = sym e ∙ t }
+
+pub ruleset moving = (here-adds, one-room, moves-one, reach-end, reach-room, skip-some, moves-skipped, pass-ready, moves-passed, moves-refused, name-whole, one-end, needs)
+
+-- FROM STEP TO STEP
+
+pub record Turn (f : Stream) (part : List ℕ) (now : Stream) (i : ℕ) : Type 0 where
+  pub within : i ≤ length part
+  pub fit : Fit now
+  pub total : now .total ≡ f .total + i
+  pub same : steps (stateFrom f) part ≡ steps (stateFrom now) (drop i part)
+
+pub turn-first : {f : Stream} {part : List ℕ} → Feeding f part → Turn f part f 0
+turn-first k = record { within = omega arith; fit = k .fit; total = omega arith; same = refl }
+
+total-from : (f : Stream) → stateFrom f .total ≡ f .total
+unfolding stateFrom
+total-from f = refl
+
+module _ {f : Stream} {part : List ℕ} {now : Stream} {i : ℕ} (t : Turn f part now i) where
+  pub turn-ready : Feeding f part → i < length part → Ready now part i
+  turn-ready k h = let r = k .room in let e = t .total in let w = t .within in record { fit = t .fit; here = h; room = omega arith }
+
+  module _ {r : Moved} (m : Moves now part i r) where
+    pub turn-on : Turn f part (r .stream) (r .at)
+    turn-on =
+        let h = m .moves in let w = m .within in
+        let long = length-slice i (r .at) part (m .within) in
+        let e : r .stream .total ≡ now .total + length (slice i (r .at) part) = sym (total-from (r .stream)) ∙ ap (λ s. s .total) (m .means) ∙ steps-total (stateFrom now) (slice i (r .at) part) ∙ ap (λ n. n + length (slice i (r .at) part)) (total-from now) in
+        let u = t .total in
+        record {
+          within = m .within;
+          fit = record { fits = ap fits (m .means) ∙ steps-fit (stateFrom now) (slice i (r .at) part) (t .fit .fits) };
+          total = omega arith;
+          same = t .same ∙ steps-between (stateFrom now) i (r .at) part (omega arith) ∙ ap (λ s. steps s (drop (r .at) part)) (sym (m .means));
+        }
+
+    pub turn-less : length part - r .at < length part - i
+    turn-less = let h = m .moves in let w = m .within in omega arith
+
+  pub turn-end : length part ≤ i → Feeds f part now
+  unfolding steps
+  turn-end h = record { means = sym (t .same ∙ ap (steps (stateFrom now)) (drop-of-length-le part h)) }
+
+pub ruleset turns = (turn-first, turn-ready, turn-on, turn-less, turn-end, needs)

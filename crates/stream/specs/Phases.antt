@@ -158,7 +158,11 @@ pub record Moves (f : Stream) (part : List ℕ) (i : ℕ) (r : Moved) : Type 0 w
   pub within : r .at ≤ length part
   pub means : stateFrom (r .stream) ≡ steps (stateFrom f) (slice i (r .at) part)
 
--- all of it was read
+-- all of it is to be read, and was
+pub record Feeding (f : Stream) (part : List ℕ) : Type 0 where
+  pub fit : Fit f
+  pub room : f .total + length part ≤ most
+
 pub record Feeds (f : Stream) (part : List ℕ) (r : Stream) : Type 0 where
   pub means : stateFrom r ≡ steps (stateFrom f) part
 
@@ -170,9 +174,6 @@ pub record WholeName (f : Stream) (part : List ℕ) (i : ℕ) : Type 0 where
   pub ready : Ready f part i
   pub phase : f .phase ≡ 6
   pub whole : wholeHere f (length part - i) ≡ true
-
-pub record NameWhole (f : Stream) (part : List ℕ) (i : ℕ) (r : Stream) : Type 0 where
-  pub means : stateFrom r ≡ steps (stateFrom f) (slice i (i + f .rest) part)
 
 -- what a name comes to by the walk's rules
 pub record NameJudged (bs : List ℕ) (r : JudgedName) : Type 0 where

@@ -6,13 +6,18 @@ ghost use lib.Seq.{slice};
 ghost use Rattle.walk.specs.Sections.{rowCalled, InTable};
 ghost use Rattle.stream.specs.Calls.{most};
 ghost use Rattle.stream.specs.Fields.{rowNumber};
-ghost use Rattle.stream.specs.Phases.{Fit, Steps, Passing, Passes, Reaches, Ready, Moves, Feeds, wholeHere, WholeName, NameWhole, NameJudged};
+ghost use Rattle.stream.specs.Phases.{Fit, Steps, Passing, Passes, Reaches, Ready, Moves, Feeding, Feeds, wholeHere, WholeName, NameJudged};
 use crate::BETWEEN;
 use crate::MEASURING;
+use crate::NAMING;
+use crate::PAYING;
+use crate::REFUSED;
 use crate::SIZING;
+use crate::SKIPPING;
 use crate::Stream;
 use crate::contents::close;
 use crate::contents::named;
+use crate::contents::naming_byte;
 use crate::contents::sizing_byte;
 use crate::sections::measuring_byte;
 use crate::sections::opening_byte;
@@ -119,14 +124,111 @@ fn is_whole(s: Stream, here: usize) -> bool
 }
 
 // Such a name is judged at once.
-fn whole_name(s: Stream, part: &[u8], i: usize) -> Stream
+fn whole_name(s: Stream, part: &[u8], i: usize) -> Moved
     requires { ⌜ WholeName s (now part) i ⌝ }
-    ensures { λ r. ⌜ NameWhole s (now (part .entry)) i r ⌝ }
+    ensures { λ r. ⌜ Moves s (now (part .entry)) i r ⌝ }
 {
     let to = i + s.rest as usize;
     let judged = judge_whole(part, i, to);
     let mut next = s;
     next.total = s.total + s.rest as u64;
     next.left = s.left - s.rest;
-    close(named(next, judged.valid, judged.row))
+    let stream = close(named(next, judged.valid, judged.row));
+    Moved { stream, at: to }
+}
+
+// From where a state stands in the part, as far as one step goes: over contents that nobody reads,
+fn skip_on(s: Stream, part: &[u8], i: usize) -> Moved
+    requires { ⌜ Ready s (now part) i × (s .phase ≡ 4) ⌝ }
+    ensures { λ r. ⌜ Moves s (now (part .entry)) i r ⌝ }
+{
+    let n = reach(part.len() - i, s.left);
+    let stream = skip(s, n);
+    Moved {
+        stream,
+        at: i + n as usize,
+    }
+}
+
+// over a payload, or what is behind a fault in a section,
+fn pass_on(s: Stream, part: &[u8], i: usize) -> Moved
+    requires { ⌜ Ready s (now part) i × (6 < s .phase) ⌝ }
+    ensures { λ r. ⌜ Moves s (now (part .entry)) i r ⌝ }
+{
+    let n = reach(part.len() - i, s.left);
+    let stream = pass(s, n);
+    Moved {
+        stream,
+        at: i + n as usize,
+    }
+}
+
+// over all that follows a refusal,
+fn count_on(s: Stream, part: &[u8], i: usize) -> Moved
+    requires { ⌜ Ready s (now part) i × (s .phase ≡ 2) ⌝ }
+    ensures { λ r. ⌜ Moves s (now (part .entry)) i r ⌝ }
+{
+    let here = part.len() - i;
+    let mut stream = s;
+    stream.total = s.total + here as u64;
+    Moved {
+        stream,
+        at: part.len(),
+    }
+}
+
+// over a name, or a byte of it,
+fn name_on(s: Stream, part: &[u8], i: usize) -> Moved
+    requires { ⌜ Ready s (now part) i × (s .phase ≡ 6) ⌝ }
+    ensures { λ r. ⌜ Moves s (now (part .entry)) i r ⌝ }
+{
+    if is_whole(s, part.len() - i) {
+        return whole_name(s, part, i);
+    }
+    let stream = naming_byte(s, part[i]);
+    Moved { stream, at: i + 1 }
+}
+
+// or over a byte that counts.
+fn byte_on(s: Stream, part: &[u8], i: usize) -> Moved
+    requires { ⌜ Ready s (now part) i × (s .phase < 6) × (s .phase ≡ 2 → ⊥) × (s .phase ≡ 4 → ⊥) ⌝ }
+    ensures { λ r. ⌜ Moves s (now (part .entry)) i r ⌝ }
+{
+    let stream = one(s, part[i]);
+    Moved { stream, at: i + 1 }
+}
+
+fn go(s: Stream, part: &[u8], i: usize) -> Moved
+    requires { ⌜ Ready s (now part) i ⌝ }
+    ensures { λ r. ⌜ Moves s (now (part .entry)) i r ⌝ }
+{
+    if s.phase == SKIPPING {
+        return skip_on(s, part, i);
+    }
+    if PAYING <= s.phase {
+        return pass_on(s, part, i);
+    }
+    if s.phase == NAMING {
+        return name_on(s, part, i);
+    }
+    if s.phase == REFUSED {
+        return count_on(s, part, i);
+    }
+    byte_on(s, part, i)
+}
+
+// All of a part.
+pub fn feed(s: Stream, part: &[u8]) -> Stream
+    requires { ⌜ Feeding s (now part) ⌝ }
+    ensures { λ r. ⌜ Feeds s (now (part .entry)) r ⌝ }
+{
+    let mut current = s;
+    let mut i = 0;
+    while i < part.len() {
+        let moved = go(current, part, i);
+        let stream = moved.stream;
+        current = stream;
+        i = moved.at;
+    }
+    current
 }
