@@ -4,3 +4,4 @@ pub mod SectionLaws
 pub mod ContentLaws
 pub mod NameLaws
 pub mod FeedLaws
+pub mod HoldLaws

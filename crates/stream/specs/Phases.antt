@@ -17,12 +17,12 @@ use Rattle.walk.specs.Sections.{rowCalled, InTable}
 use Rattle.walk.specs.declared.rules.Called.{Called}
 use Rattle.walk.specs.declared.rules.Seen.{Seen}
 use Rattle.stream.specs.Contents.{Contents, paying, failing, name}
-use Rattle.stream.specs.Counting.{Number, Counted, whole, partly, over}
+use Rattle.stream.specs.Counting.{Number, fresh, Counted, whole, partly, over}
 use Rattle.stream.specs.Texts.{Text, noneWanted}
 use Rattle.stream.specs.Naming.{Names, noneMet}
-use Rattle.stream.specs.Stream.{settled, custom, enter, step, steps}
+use Rattle.stream.specs.Stream.{nothingDone, settled, custom, enter, step, steps}
 use Rattle.stream.specs.Calls.{most}
-use Rattle.stream.specs.Fields.{rowNumber, rowFrom, doneFrom, contentsFrom, stateFrom}
+use Rattle.stream.specs.Fields.{fields, rowNumber, rowFrom, doneFrom, contentsFrom, stateFrom}
 use Rattle.stream.specs.Fits.{numberFits, textFits, contentsFit, fits}
 use Rattle.stream.specs.declared.Spot.{Spot}
 use Rattle.stream.specs.declared.Stream.{Stream}
@@ -179,3 +179,10 @@ pub record WholeName (f : Stream) (part : List ℕ) (i : ℕ) : Type 0 where
 pub record NameJudged (bs : List ℕ) (r : JudgedName) : Type 0 where
   pub valid : r .valid ≡ utf8 bs
   pub row : r .row ≡ rowNumber (Walk.rowFrom 0 tracked (λ x. same x bs))
+
+-- THE STATE AS A CALLER HOLDS IT
+abbrev pub blankAt : (total phase : ℕ) → Stream
+blankAt total phase = fields total phase nothingDone 0 0 0 fresh 0 0 0 noneWanted noneMet 0 0
+
+abbrev pub behindOf : Stream → Stream
+behindOf f = fields (f .total) 1 (doneFrom f) 0 0 0 fresh 0 0 0 noneWanted noneMet 0 0

@@ -1,0 +1,181 @@
+-- The state as a caller holds it: one law for each way through the code.
+use Prim.Native.Nat.{ℕ, zero, suc, _+_, _*_, _/_, _%_, _≤_, _<_}
+use mathlib.Core.Bool.{Bool, true, false, cond, not, _&&_}
+use mathlib.Core.Path.{_≡_, refl, sym, ap, _∙_}
+use native.Mathlib.Omega.{arith}
+use borrow.Author.Needs.{needs}
+use borrow.Author.Tests.{eqb-true, eqb-false, leb-true, leb-false}
+use lib.Dec.{ltb, leb, eqb}
+use Rattle.format.specs.Options.{isSome}
+use Rattle.format.specs.Laws.Outcomes.{byTest}
+use Rattle.walk.specs.Sections.{bit}
+use Rattle.stream.specs.Contents.{Contents}
+use Rattle.stream.specs.Stream.{Phase, inCustom, State}
+use Rattle.stream.specs.Fields.{flag, spotOf, rowsThere, rowNumber, inPhase, held, placeFrom, rowFrom, doneFrom, contentsFrom, stateFrom}
+use Rattle.stream.specs.Phases.{blankAt, behindOf}
+use Rattle.stream.specs.declared.Met.{Met}
+use Rattle.stream.specs.declared.Spot.{Spot}
+use Rattle.stream.specs.declared.Stream.{Stream}
+use Rattle.stream.proofs.States.{at, at-same, as-starting, as-between, as-refused, as-measuring, as-skipping, as-custom, as-sizing, as-naming, as-paying, as-failing}
+use Rattle.stream.proofs.SectionLaws.{some-so}
+
+pub spot-kept : {there : Bool} (p : Spot) → there ≡ true → p ≡ spotOf (placeFrom there p)
+spot-kept p e = rw e
+
+pub spot-dropped : {there : Bool} (p : Spot) → there ≡ false → record { offset = 0; length = 0 } ≡ spotOf (placeFrom there p)
+spot-dropped p e = rw e
+
+pub ruleset spots = (spot-kept, spot-dropped, needs)
+
+-- a digit and its flag
+digit : (n : ℕ) → flag (eqb (n % 2) 1) ≡ n % 2
+digit n =
+    byTest (eqb (n % 2) 1)
+    (λ t. rw t (sym (eqb-true (n % 2) 1 t)))
+    (λ t. rw t (let h = eqb-false (n % 2) 1 t in omega arith))
+
+rows-kept : (f : Stream) → rowsThere (doneFrom f .told) ≡ f .there % 8
+rows-kept f =
+    (λ i. flag (some-so (bit (f .there) 0) (f .name) i) + 2 * flag (some-so (bit (f .there) 1) (f .hints) i) + 4 * flag (some-so (bit (f .there) 2) (f .older) i))
+    ∙ (λ i. digit (f .there) i + 2 * digit (f .there / 2) i + 4 * digit (f .there / 2 / 2) i)
+    ∙ omega arith
+
+module _ (f : Stream) {x : Stream} (e : x ≡ blankAt (f .total) 1) where
+  abbrev kept : (name hints older : Spot) (code : ℕ) → Stream
+  kept name hints older code = record {
+    total = x .total;
+    count = f .count;
+    name = name;
+    hints = hints;
+    older = older;
+    at = x .at;
+    begins = x .begins;
+    text = x .text;
+    left = x .left;
+    rest = x .rest;
+    low = x .low;
+    least = x .least;
+    point = x .point;
+    phase = x .phase;
+    refusal = x .refusal;
+    rank = f .rank;
+    code = code;
+    there = f .there % 8;
+    id = x .id;
+    come = x .come;
+    wanted = x .wanted;
+    met = x .met;
+    row = x .row;
+  }
+
+  pub behind-is : {name hints older : Spot} {code : ℕ} → code ≡ flag (eqb (f .code) 1) → name ≡ spotOf (placeFrom (bit (f .there) 0) (f .name)) → hints ≡ spotOf (placeFrom (bit (f .there) 1) (f .hints)) → older ≡ spotOf (placeFrom (bit (f .there) 2) (f .older)) → kept name hints older code ≡ behindOf f
+  behind-is c n h o = rw (c, n, h, o, rows-kept f, e)
+
+pub ruleset behinds = (behind-is, needs)
+
+-- ALL THAT A PHASE HAS USE FOR
+
+held-at : (f : Stream) {p : Phase} → stateFrom f ≡ at (f .total) p → held (stateFrom f) ≡ inPhase (f .total) p
+unfolding held
+held-at f e = ap held e
+
+-- a struct of which these fields are known, and those of the sections behind are another's
+abbrev mixed : (x : Stream) (phase id at left come low begins text rest wanted least point : ℕ) → Met → (row refusal : ℕ) → Stream
+mixed x phase id at left come low begins text rest wanted least point met row refusal = record {
+  total = x .total;
+  count = x .count;
+  name = x .name;
+  hints = x .hints;
+  older = x .older;
+  at = at;
+  begins = begins;
+  text = text;
+  left = left;
+  rest = rest;
+  low = low;
+  least = least;
+  point = point;
+  phase = phase;
+  refusal = refusal;
+  rank = x .rank;
+  code = x .code;
+  there = x .there;
+  id = id;
+  come = come;
+  wanted = wanted;
+  met = met;
+  row = row;
+}
+
+module _ (f : Stream) where
+  pub tidy-starting : {x : Stream} → x ≡ blankAt (f .total) 0 → f .phase ≡ 0 → x ≡ held (stateFrom f)
+  tidy-starting e p = e ∙ sym (held-at f (as-starting f p))
+
+  pub tidy-refused : {x : Stream} → x ≡ blankAt (f .total) 2 → f .phase ≡ 2
+      → mixed x (x .phase) (x .id) (x .at) (x .left) (x .come) (x .low) (x .begins) (f .text) (x .rest) (x .wanted) (x .least) (x .point) (x .met) (x .row) (f .refusal) ≡ held (stateFrom f)
+  tidy-refused e p = ap (λ x. mixed x (x .phase) (x .id) (x .at) (x .left) (x .come) (x .low) (x .begins) (f .text) (x .rest) (x .wanted) (x .least) (x .point) (x .met) (x .row) (f .refusal)) e ∙ sym (held-at f (as-refused f p))
+
+  module _ {x : Stream} (e : x ≡ behindOf f) where
+    pub tidy-between : f .phase ≡ 1 → x ≡ held (stateFrom f)
+    tidy-between p = e ∙ sym (held-at f (as-between f p))
+
+    pub tidy-skipping : f .phase ≡ 4
+        → mixed x 4 (x .id) (f .at) (f .left) (x .come) (x .low) (x .begins) (x .text) (x .rest) (x .wanted) (x .least) (x .point) (x .met) (x .row) (x .refusal) ≡ held (stateFrom f)
+    tidy-skipping p = ap (λ x. mixed x 4 (x .id) (f .at) (f .left) (x .come) (x .low) (x .begins) (x .text) (x .rest) (x .wanted) (x .least) (x .point) (x .met) (x .row) (x .refusal)) e ∙ sym (held-at f (as-skipping f p))
+
+    pub tidy-measuring : f .phase ≡ 3
+        → mixed x 3 (f .id) (f .at) (x .left) (f .come) (f .low) (x .begins) (x .text) (x .rest) (x .wanted) (x .least) (x .point) (x .met) (x .row) (x .refusal) ≡ held (stateFrom f)
+    tidy-measuring p = ap (λ x. mixed x 3 (f .id) (f .at) (x .left) (f .come) (f .low) (x .begins) (x .text) (x .rest) (x .wanted) (x .least) (x .point) (x .met) (x .row) (x .refusal)) e ∙ sym (held-at f (as-measuring f p))
+
+pub in-custom : (p : ℕ) → (p ≡ 0 → ⊥) → (p ≡ 2 → ⊥) → (p ≡ 1 → ⊥) → (p ≡ 4 → ⊥) → (p ≡ 3 → ⊥) → 4 < p
+in-custom zero a b c d e = absurd (a refl)
+in-custom (suc zero) a b c d e = absurd (c refl)
+in-custom (suc (suc zero)) a b c d e = absurd (b refl)
+in-custom (suc (suc (suc zero))) a b c d e = absurd (e refl)
+in-custom (suc (suc (suc (suc zero)))) a b c d e = absurd (d refl)
+in-custom (suc (suc (suc (suc (suc p))))) a b c d e = omega arith
+
+pub ruleset tidying = (tidy-starting, tidy-refused, tidy-between, tidy-skipping, tidy-measuring, in-custom, needs)
+
+-- of a custom section
+module _ (f : Stream) {x : Stream} (k : (x ≡ behindOf f) × (4 < f .phase)) where
+  custom-at : {c : Contents} → contentsFrom f ≡ c → held (stateFrom f) ≡ inPhase (f .total) (inCustom (doneFrom f) (f .at) (f .left) c)
+  custom-at q = held-at f (as-custom f (k .1) ∙ at-same refl (ap (inCustom (doneFrom f) (f .at) (f .left)) q))
+
+  pub tidy-paying : f .phase ≡ 7
+      → mixed x 7 (x .id) (f .at) (f .left) (x .come) (x .low) (x .begins) (f .text) (x .rest) (x .wanted) (x .least) (x .point) (x .met) (f .row) (x .refusal) ≡ held (stateFrom f)
+  tidy-paying p =
+      ap (λ x. mixed x 7 (x .id) (f .at) (f .left) (x .come) (x .low) (x .begins) (f .text) (x .rest) (x .wanted) (x .least) (x .point) (x .met) (f .row) (x .refusal)) (k .0)
+      ∙ ap (λ n. mixed (behindOf f) 7 0 (f .at) (f .left) 0 0 0 (f .text) 0 0 0 0 (record { name = 0; hints = 0; older = 0 }) n 0) (row-again (f .row))
+      ∙ sym (custom-at (as-paying f p))
+    where
+      row-again : (n : ℕ) → n ≡ rowNumber (rowFrom n)
+      row-again zero = refl
+      row-again (suc n) = refl
+
+  pub tidy-sizing : f .phase ≡ 5
+      → mixed x 5 (x .id) (f .at) (f .left) (f .come) (f .low) (f .begins) (x .text) (x .rest) (x .wanted) (x .least) (x .point) (x .met) (x .row) (x .refusal) ≡ held (stateFrom f)
+  tidy-sizing p =
+      ap (λ x. mixed x 5 (x .id) (f .at) (f .left) (f .come) (f .low) (f .begins) (x .text) (x .rest) (x .wanted) (x .least) (x .point) (x .met) (x .row) (x .refusal)) (k .0)
+      ∙ sym (custom-at (as-sizing f p))
+
+  pub tidy-naming : f .phase ≡ 6
+      → mixed x 6 (x .id) (f .at) (f .left) (x .come) (x .low) (f .begins) (f .text) (f .rest) (f .wanted) (f .least) (f .point) (f .met) (x .row) (x .refusal) ≡ held (stateFrom f)
+  tidy-naming p =
+      ap (λ x. mixed x 6 (x .id) (f .at) (f .left) (x .come) (x .low) (f .begins) (f .text) (f .rest) (f .wanted) (f .least) (f .point) (f .met) (x .row) (x .refusal)) (k .0)
+      ∙ sym (custom-at (as-naming f p))
+
+  pub tidy-failing : (f .phase ≡ 7 → ⊥) → (f .phase ≡ 5 → ⊥) → (f .phase ≡ 6 → ⊥)
+      → mixed x 8 (x .id) (f .at) (f .left) (x .come) (x .low) (x .begins) (f .text) (x .rest) (x .wanted) (x .least) (x .point) (x .met) (x .row) (f .refusal) ≡ held (stateFrom f)
+  tidy-failing a b c =
+      let h = k .1 in
+      ap (λ x. mixed x 8 (x .id) (f .at) (f .left) (x .come) (x .low) (x .begins) (f .text) (x .rest) (x .wanted) (x .least) (x .point) (x .met) (x .row) (f .refusal)) (k .0)
+      ∙ sym (custom-at (as-failing f (above (f .phase) h a b c)))
+    where
+      above : (p : ℕ) → 4 < p → (p ≡ 7 → ⊥) → (p ≡ 5 → ⊥) → (p ≡ 6 → ⊥) → 7 < p
+      above p h a b c =
+          byTest (leb p 7)
+          (λ t. byTest (eqb p 7) (λ u. absurd (a (eqb-true p 7 u))) (λ u. byTest (eqb p 6) (λ v. absurd (c (eqb-true p 6 v))) (λ v. absurd (b (let q = leb-true p 7 t in let r = eqb-false p 7 u in let s = eqb-false p 6 v in omega arith)))))
+          (λ t. leb-false p 7 t)
+
+pub ruleset tidying-custom = (tidy-paying, tidy-sizing, tidy-naming, tidy-failing, needs)

@@ -1,0 +1,9 @@
+use Rattle.stream.proofs.HoldLaws.{spots}
+use Rattle.stream.proofs.holding.blank.Statement.{statement}
+use Rattle.stream.proofs.holding.blank.Tie as tie
+
+returns : tie.Need-returns
+returns c = search spots
+
+pub blank-spec : {M : Type 1} → statement M
+blank-spec = tie.close (tie.spec returns)

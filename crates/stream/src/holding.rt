@@ -1,0 +1,153 @@
+// The state as a caller holds it: what a phase has no use for is 0.
+ghost use mathlib.Core.Path.{_≡_};
+ghost use Prim.Native.Nat.{_<_};
+ghost use Rattle.stream.specs.Fields.{placeFrom, spotOf, held, stateFrom};
+ghost use Rattle.stream.specs.Phases.{blankAt, behindOf};
+use crate::BETWEEN;
+use crate::FAILING;
+use crate::MEASURING;
+use crate::NAMING;
+use crate::NONE_MET;
+use crate::NOWHERE;
+use crate::PAYING;
+use crate::REFUSED;
+use crate::SIZING;
+use crate::SKIPPING;
+use crate::STARTING;
+use crate::Spot;
+use crate::Stream;
+use crate::sections::flag;
+
+// A state in a phase that has use for the total alone.
+pub fn blank(total: u64, phase: u8) -> Stream
+    ensures { λ r. ⌜ r ≡ blankAt total phase ⌝ }
+{
+    Stream {
+        total,
+        count: 0,
+        name: NOWHERE,
+        hints: NOWHERE,
+        older: NOWHERE,
+        at: 0,
+        begins: 0,
+        text: 0,
+        left: 0,
+        rest: 0,
+        low: 0,
+        least: 0,
+        point: 0,
+        phase,
+        refusal: 0,
+        rank: 0,
+        code: 0,
+        there: 0,
+        id: 0,
+        come: 0,
+        wanted: 0,
+        met: NONE_MET,
+        row: 0,
+    }
+}
+
+fn spot_there(there: bool, spot: Spot) -> Spot
+    ensures { λ r. ⌜ r ≡ spotOf (placeFrom there spot) ⌝ }
+{
+    if there {
+        return spot;
+    }
+    NOWHERE
+}
+
+// What is known of the sections behind, between two of them. Of `there` the three low bits are rows.
+fn behind(s: Stream) -> Stream
+    ensures { λ r. ⌜ r ≡ behindOf s ⌝ }
+{
+    let name = s.name;
+    let hints = s.hints;
+    let older = s.older;
+    let mut next = blank(s.total, BETWEEN);
+    next.count = s.count;
+    next.rank = s.rank;
+    next.code = flag(s.code == 1);
+    next.there = s.there % 8;
+    let named = spot_there(s.there % 2 == 1, name);
+    next.name = named;
+    let hinted = spot_there(s.there / 2 % 2 == 1, hints);
+    next.hints = hinted;
+    let hinted_before = spot_there(s.there / 2 / 2 % 2 == 1, older);
+    next.older = hinted_before;
+    next
+}
+
+// A custom section that is read, behind which so much is known.
+fn tidy_custom(s: Stream, known: Stream) -> Stream
+    requires { ⌜ (known ≡ behindOf s) × (4 < s .phase) ⌝ }
+    ensures { λ r. ⌜ r ≡ held (stateFrom s) ⌝ }
+{
+    let mut next = known;
+    next.at = s.at;
+    next.left = s.left;
+    if s.phase == PAYING {
+        next.phase = PAYING;
+        next.text = s.text;
+        next.row = s.row;
+        return next;
+    }
+    if s.phase == SIZING {
+        next.phase = SIZING;
+        next.begins = s.begins;
+        next.come = s.come;
+        next.low = s.low;
+        return next;
+    }
+    if s.phase == NAMING {
+        next.phase = NAMING;
+        next.begins = s.begins;
+        next.text = s.text;
+        next.rest = s.rest;
+        next.wanted = s.wanted;
+        next.least = s.least;
+        next.point = s.point;
+        let met = s.met;
+        next.met = met;
+        return next;
+    }
+    next.phase = FAILING;
+    next.text = s.text;
+    next.refusal = s.refusal;
+    next
+}
+
+// All that a phase has use for, and nothing else.
+pub fn tidy(s: Stream) -> Stream
+    ensures { λ r. ⌜ r ≡ held (stateFrom s) ⌝ }
+{
+    if s.phase == STARTING {
+        return blank(s.total, STARTING);
+    }
+    if s.phase == REFUSED {
+        let mut next = blank(s.total, REFUSED);
+        next.refusal = s.refusal;
+        next.text = s.text;
+        return next;
+    }
+    let mut next = behind(s);
+    if s.phase == BETWEEN {
+        return next;
+    }
+    if s.phase == SKIPPING {
+        next.phase = SKIPPING;
+        next.at = s.at;
+        next.left = s.left;
+        return next;
+    }
+    if s.phase == MEASURING {
+        next.phase = MEASURING;
+        next.id = s.id;
+        next.at = s.at;
+        next.come = s.come;
+        next.low = s.low;
+        return next;
+    }
+    tidy_custom(s, next)
+}
