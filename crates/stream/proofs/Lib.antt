@@ -5,3 +5,4 @@ pub mod ContentLaws
 pub mod NameLaws
 pub mod FeedLaws
 pub mod HoldLaws
+pub mod FitLaws

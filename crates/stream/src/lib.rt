@@ -4,6 +4,7 @@ use format::Verdict;
 
 mod contents;
 mod feeding;
+mod fitting;
 mod holding;
 mod naming;
 mod numbers;

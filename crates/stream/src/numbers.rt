@@ -13,7 +13,7 @@ pub enum Counted {
 }
 
 // How many bytes may follow the first.
-const MOST_FOLLOWING: u8 = 4;
+pub const MOST_FOLLOWING: u8 = 4;
 
 // What the seven bits of each byte are worth.
 const WEIGHTS: [u32; 5] = [1, 128, 16_384, 2_097_152, 268_435_456];
@@ -24,7 +24,7 @@ const FOLLOWED: u32 = 128;
 // The fifth byte has the last four of 32 bits.
 const GREATEST_FIFTH: u32 = 0x0F;
 
-fn weight_of(come: u8) -> u32
+pub fn weight_of(come: u8) -> u32
     requires { ⌜ come ≤ Counting.mostFollowing ⌝ }
     ensures { λ r. ⌜ r ≡ Counting.weight come ⌝ }
 {

@@ -21,7 +21,7 @@ use walk::rules::Seen;
 use walk::rules::judge_id;
 use walk::rules::see;
 
-const PREAMBLE_LENGTH: usize = 8;
+pub const PREAMBLE_LENGTH: usize = 8;
 
 const PREAMBLE: [u8; PREAMBLE_LENGTH] = [0x00, 0x61, 0x73, 0x6D, 0x01, 0x00, 0x00, 0x00];
 
