@@ -6,3 +6,4 @@ pub mod NameLaws
 pub mod FeedLaws
 pub mod HoldLaws
 pub mod FitLaws
+pub mod CallLaws

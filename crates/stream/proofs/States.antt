@@ -89,7 +89,13 @@ module _ {f : Stream} (k : Fit f) where
   pub skipping-left : f .phase ≡ 4 → 0 < f .left
   skipping-left e = onBoth (doneFits (doneFrom f) (f .total)) _ (fit-at (as-skipping f e)) λ h r. onBoth (ltb (f .at) (f .total)) _ r λ l s. ltb-true 0 (f .left) s
 
+  pub skipping-at : f .phase ≡ 4 → f .at < f .total
+  skipping-at e = onBoth (doneFits (doneFrom f) (f .total)) _ (fit-at (as-skipping f e)) λ h r. onBoth (ltb (f .at) (f .total)) _ r λ l s. ltb-true (f .at) (f .total) l
+
   module _ (h : 4 < f .phase) where
+    pub custom-at : f .at < f .total
+    custom-at = onBoth (doneFits (doneFrom f) (f .total)) _ (fit-at (as-custom f h)) λ g r. onBoth (ltb (f .at) (f .total)) _ r λ l s. ltb-true (f .at) (f .total) l
+
     pub custom-count : f .count ≤ f .total
     custom-count = onBoth (doneFits (doneFrom f) (f .total)) _ (fit-at (as-custom f h)) λ g r. leb-true (f .count) (f .total) g
 

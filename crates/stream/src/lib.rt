@@ -1,9 +1,21 @@
 // K5: a module as it arrives, in parts that are cut anywhere. All work is by value: a state goes in, and the state behind it comes out.
-ghost use Rattle.stream.specs.Promises.{stream-begin};
+ghost use mathlib.Core.Path.{_≡_};
+ghost use Rattle.stream.specs.Calls.{notTaken};
+ghost use Rattle.stream.specs.Promises.{stream-begin, stream-take-part, stream-finish};
+use crate::feeding::feed;
+use crate::finishing::end;
+use crate::finishing::refused_ending;
+use crate::fitting::is_open;
+use crate::holding::blank;
+use crate::holding::tidy;
+use format::Offset;
+use format::Reason;
+use format::Refusal;
 use format::Verdict;
 
 mod contents;
 mod feeding;
+mod finishing;
 mod fitting;
 mod holding;
 mod naming;
@@ -102,31 +114,7 @@ const NONE_MET: Met = Met {
 pub fn begin() -> Stream
     ensures { λ r. ⌜ stream-begin r ⌝ }
 {
-    Stream {
-        total: 0,
-        count: 0,
-        name: NOWHERE,
-        hints: NOWHERE,
-        older: NOWHERE,
-        at: 0,
-        begins: 0,
-        text: 0,
-        left: 0,
-        rest: 0,
-        low: 0,
-        least: 0,
-        point: 0,
-        phase: STARTING,
-        refusal: 0,
-        rank: 0,
-        code: 0,
-        there: 0,
-        id: 0,
-        come: 0,
-        wanted: 0,
-        met: NONE_MET,
-        row: 0,
-    }
+    blank(0, STARTING)
 }
 
 // What a part leaves, and whether it was taken.
@@ -155,4 +143,46 @@ pub struct Ending {
 pub struct Ended {
     pub stream: Stream,
     pub ending: Ending,
+}
+
+// The number of a refusal that a finish alone gives.
+const AFTER_FINISH: u8 = 18;
+
+// What 64 bits hold.
+const MOST: u64 = 18_446_744_073_709_551_615;
+
+fn not_taken(s: Stream, reason: Reason) -> Taken
+    ensures { λ r. ⌜ r ≡ notTaken s reason ⌝ }
+{
+    let offset = Offset(0);
+    let verdict = Verdict::Refused(Refusal { reason, offset });
+    Taken { stream: s, verdict }
+}
+
+// The next part of a module: cut anywhere, and of no length too.
+pub fn take_part(s: Stream, part: &[u8]) -> Taken
+    ensures { λ r. ⌜ stream-take-part s (now (part .entry)) r ⌝ }
+{
+    if is_open(s) {
+        if part.len() as u64 <= MOST - s.total {
+            let stream = tidy(feed(s, part));
+            let verdict = Verdict::Accepted;
+            return Taken { stream, verdict };
+        }
+        return not_taken(s, Reason::TotalTooLarge);
+    }
+    not_taken(s, Reason::AfterFinish)
+}
+
+// The module is over.
+pub fn finish(s: Stream) -> Ended
+    ensures { λ r. ⌜ stream-finish s r ⌝ }
+{
+    if is_open(s) {
+        let ending = end(s);
+        let stream = blank(s.total, OVER);
+        return Ended { stream, ending };
+    }
+    let ending = refused_ending(AFTER_FINISH, 0);
+    Ended { stream: s, ending }
 }

@@ -26,7 +26,7 @@ pub const PREAMBLE_LENGTH: usize = 8;
 const PREAMBLE: [u8; PREAMBLE_LENGTH] = [0x00, 0x61, 0x73, 0x6D, 0x01, 0x00, 0x00, 0x00];
 
 // The numbers of the refusals that a reader of bytes gives.
-const NO_PREAMBLE: u8 = 1;
+pub const NO_PREAMBLE: u8 = 1;
 
 pub const PAST_ITS_PART: u8 = 2;
 

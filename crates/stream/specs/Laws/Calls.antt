@@ -102,7 +102,7 @@ however-cut k l e = parts-begun k ∙ ap (λ bs. held (steps begin bs)) e ∙ sy
 pub parts-open : {g : Stream} {ps : List (List ℕ)} → Parts (held begin) ps g → isOpen g ≡ true
 parts-open {ps = ps} k = ap isOpen (parts-begun k) ∙ held-open (steps begin (together ps)) (steps-fit begin (together ps) begin-fits)
 
-open-ends : (f : Stream) → isOpen f ≡ true → ended f ≡ record { stream = overAt (f .total); ending = endingOf (finish (stateFrom f)) }
+pub open-ends : (f : Stream) → isOpen f ≡ true → ended f ≡ record { stream = overAt (f .total); ending = endingOf (finish (stateFrom f)) }
 unfolding ended
 open-ends f t = rw t
 
@@ -113,7 +113,7 @@ parts-ended {g} {ps} k =
     (ap (λ x. finish (stateFrom x)) (parts-begun k) ∙ ap finish (held-back (steps begin (together ps))) ∙ read-as-walked (together ps))
 
 -- after the finish nothing is taken, and there is no other
-shut-ends : (f : Stream) → isOpen f ≡ false → ended f ≡ record { stream = f; ending = endingOf (refused (numberOf AfterFinish) 0) }
+pub shut-ends : (f : Stream) → isOpen f ≡ false → ended f ≡ record { stream = f; ending = endingOf (refused (numberOf AfterFinish) 0) }
 unfolding ended
 shut-ends f t = rw t
 

@@ -1,0 +1,133 @@
+-- A part and the finish: one law for each way through the code.
+use Prim.Native.Nat.{ℕ, zero, suc, _+_, _-_, _/_, _%_, _≤_, _<_}
+use mathlib.Core.Bool.{Bool, true, false, cond, not, _&&_}
+use mathlib.Core.List.{List, [], _∷_}
+use mathlib.Core.Path.{_≡_, refl, sym, ap, _∙_}
+use native.Mathlib.Omega.{arith}
+use borrow.Author.Needs.{needs}
+use borrow.Author.Tests.{eqb-true, eqb-false}
+use lib.Dec.{ltb, leb, eqb}
+use lib.ListN.{length, drop}
+use lib.Seq.{drop-cons}
+use Rattle.format.specs.Refusals.{numberOf}
+use Rattle.format.specs.Reading.{Judged, accepted, refused}
+use Rattle.format.specs.Walk.{preamble}
+use Rattle.format.specs.Laws.Outcomes.{onBoth, byTest}
+use Rattle.format.specs.declared.Reason.{Reason}
+use Rattle.format.specs.declared.Reason.the-variants.{AfterFinish, TotalTooLarge}
+use Rattle.format.specs.declared.Verdict.the-variants.{Accepted, Refused}
+use Rattle.walk.specs.Sections.{bit}
+use Rattle.stream.specs.Contents.{Contents}
+use Rattle.stream.specs.Stream.{Summary, Done, Phase, starting, settled, measuring, skipping, inCustom, startEnd, end, State, begin, finish, steps}
+use Rattle.stream.specs.Calls.{most, isOpen, notTaken, taken, toldOf, endingOf, ended}
+use Rattle.stream.specs.Fields.{placeFrom, doneFrom, held, over, overAt, stateFrom}
+use Rattle.stream.specs.Phases.{blankAt, Fit, Feeding, Feeds}
+use Rattle.stream.specs.declared.Ended.{Ended}
+use Rattle.stream.specs.declared.Ending.{Ending}
+use Rattle.stream.specs.declared.Spot.{Spot}
+use Rattle.stream.specs.declared.Stream.{Stream}
+use Rattle.stream.specs.declared.Taken.{Taken}
+use Rattle.stream.specs.declared.Told.{Told}
+use Rattle.stream.specs.Laws.Calls.{part-taken, part-too-large, part-too-late, open-ends, shut-ends}
+use Rattle.stream.proofs.States.{at, as-starting, as-between, as-refused, as-measuring, as-skipping, as-custom, starting-below, measuring-at, skipping-left, skipping-at, custom-left, custom-at}
+use Rattle.stream.proofs.SectionLaws.{limit64}
+use Rattle.stream.proofs.HoldLaws.{in-custom}
+
+-- WHAT THE FINISH SAYS
+
+pub told-there : {there : Bool} (p : Spot) → there ≡ true → record { there = 1; offset = p .offset; length = p .length } ≡ toldOf (placeFrom there p)
+told-there p e = rw e
+
+pub told-none : {there : Bool} (p : Spot) → there ≡ false → record { there = 0; offset = 0; length = 0 } ≡ toldOf (placeFrom there p)
+told-none p e = rw e
+
+end-at : (f : Stream) {p : Phase} → stateFrom f ≡ at (f .total) p → finish (stateFrom f) ≡ end p (f .total)
+unfolding finish
+end-at f e = ap finish e
+
+module _ (f : Stream) where
+  pub told-all : {name hints older : Told} → f .phase ≡ 1 → name ≡ toldOf (placeFrom (bit (f .there) 0) (f .name)) → hints ≡ toldOf (placeFrom (bit (f .there) 1) (f .hints)) → older ≡ toldOf (placeFrom (bit (f .there) 2) (f .older))
+      → record { refusal = 0; offset = 0; count = f .count; name = name; hints = hints; older = older } ≡ endingOf (finish (stateFrom f))
+  unfolding end
+  told-all p n h o = (λ i. record { refusal = 0; offset = 0; count = f .count; name = n i; hints = h i; older = o i }) ∙ sym (ap endingOf (end-at f (as-between f p)))
+
+  pub ends-refused : {x : Ending} → f .phase ≡ 2 → x ≡ endingOf (refused (f .refusal) (f .text)) → x ≡ endingOf (finish (stateFrom f))
+  unfolding end
+  ends-refused p e = e ∙ sym (ap endingOf (end-at f (as-refused f p)))
+
+  pub ends-starting : {x : Ending} → Fit f → f .phase ≡ 0 → x ≡ endingOf (refused 1 0) → x ≡ endingOf (finish (stateFrom f))
+  unfolding end startEnd preamble
+  ends-starting k p e = e ∙ sym (ap endingOf (end-at f (as-starting f p) ∙ ap startEnd (drop-cons preamble (f .total) 0 (starting-below k p))))
+
+  skip-short : (d : Done) (id left o : ℕ) → 0 < left → end (skipping d id left) o ≡ refused 2 (suc id)
+  unfolding end
+  skip-short d id zero o h = absurd (omega arith)
+  skip-short d id (suc left) o h = refl
+
+  custom-short : (d : Done) (id left : ℕ) (c : Contents) (o : ℕ) → 0 < left → end (inCustom d id left c) o ≡ refused 2 (suc id)
+  unfolding end
+  custom-short d id zero c o h = absurd (omega arith)
+  custom-short d id (suc left) c o h = refl
+
+  module _ (k : Fit f) (a : f .phase ≡ 1 → ⊥) (b : f .phase ≡ 2 → ⊥) (c : f .phase ≡ 0 → ⊥) where
+    -- by what is left of the phases
+    short {ℓ} : {C : Type ℓ} → (f .phase ≡ 3 → C) → (f .phase ≡ 4 → C) → (4 < f .phase → C) → C
+    short x y z =
+        byTest (eqb (f .phase) 3) (λ t. x (eqb-true (f .phase) 3 t)) λ t.
+        byTest (eqb (f .phase) 4) (λ u. y (eqb-true (f .phase) 4 u)) λ u. z (in-custom (f .phase) c b a (eqb-false (f .phase) 4 u) (eqb-false (f .phase) 3 t))
+
+    short-at : f .at < f .total
+    short-at = short (λ p. measuring-at k p) (λ p. skipping-at k p) (λ p. custom-at k p)
+
+    pub short-adds : f .total < limit64 → f .at + 1 < limit64
+    short-adds m = let h = short-at in omega arith
+
+    short-ends : finish (stateFrom f) ≡ refused 2 (suc (f .at))
+    unfolding end
+    short-ends = short
+        (λ p. end-at f (as-measuring f p))
+        (λ p. end-at f (as-skipping f p) ∙ skip-short (doneFrom f) (f .at) (f .left) (f .total) (skipping-left k p))
+        (λ p. end-at f (as-custom f p) ∙ custom-short (doneFrom f) (f .at) (f .left) _ (f .total) (custom-left k p))
+
+    pub ends-short : {x : Ending} → x ≡ endingOf (refused 2 (f .at + 1)) → x ≡ endingOf (finish (stateFrom f))
+    ends-short e = let up : f .at + 1 ≡ suc (f .at) = omega arith in e ∙ ap (λ n. endingOf (refused 2 n)) up ∙ sym (ap endingOf short-ends)
+
+pub ruleset endings = (told-there, told-none, told-all, ends-refused, ends-starting, short-adds, ends-short, needs)
+
+-- A PART
+
+open-fit : (f : Stream) → isOpen f ≡ true → Fit f
+open-fit f e = record { fits = onBoth (not (eqb (f .phase) over)) _ e λ _ t. t }
+
+module _ (f : Stream) (part : List ℕ) {open′ : Bool} (e : open′ ≡ isOpen f) where
+  module _ (t : open′ ≡ true) where
+    pub part-feeds : length part ≤ most - f .total → f .total ≤ most → Feeding f part
+    part-feeds h m = record { fit = open-fit f (sym e ∙ t); room = omega arith }
+
+    pub takes : {x y : Stream} → length part ≤ most - f .total → f .total ≤ most → Feeds f part x → y ≡ held (stateFrom x) → record { stream = y; verdict = Accepted } ≡ taken f part
+    takes {x} {y} h m u q = (λ i. record { stream = (q ∙ ap held (u .means)) i; verdict = Accepted }) ∙ sym (part-taken f part (sym e ∙ t) (omega arith))
+
+    pub takes-not : {x : Taken} → most - f .total < length part → f .total ≤ most → x ≡ notTaken f TotalTooLarge → x ≡ taken f part
+    takes-not h m q = q ∙ sym (part-too-large f part (sym e ∙ t) (omega arith))
+
+  pub takes-late : {x : Taken} → open′ ≡ false → x ≡ notTaken f AfterFinish → x ≡ taken f part
+  takes-late t q = q ∙ sym (part-too-late f part (sym e ∙ t))
+
+pub most-is : (f : Stream) → f .total < limit64 → f .total ≤ most
+most-is f h = omega arith
+
+pub ruleset parts = (part-feeds, takes, takes-not, takes-late, most-is, needs)
+
+-- THE FINISH
+
+module _ (f : Stream) {open′ : Bool} (e : open′ ≡ isOpen f) where
+  pub finish-fit : open′ ≡ true → Fit f
+  finish-fit t = open-fit f (sym e ∙ t)
+
+  pub finishes : {x : Ending} {y : Stream} → open′ ≡ true → x ≡ endingOf (finish (stateFrom f)) → y ≡ blankAt (f .total) over → record { stream = y; ending = x } ≡ ended f
+  finishes t p q = (λ i. record { stream = q i; ending = p i }) ∙ sym (open-ends f (sym e ∙ t))
+
+  pub finishes-not : {x : Ending} → open′ ≡ false → x ≡ endingOf (refused 18 0) → record { stream = f; ending = x } ≡ ended f
+  finishes-not t p = (λ i. record { stream = f; ending = p i }) ∙ sym (shut-ends f (sym e ∙ t))
+
+pub ruleset finishing = (finish-fit, finishes, finishes-not, needs)
