@@ -58,6 +58,10 @@ use Rattle.wakemiono.specs.declared.why.WmWhy.{WmWhy}
 -- THE RULE OF THE QUICK QUESTION, said without any search, in crates/format/specs/MarkerRule.antt: `Follows p is os end k j` says that it makes j of the bytes p, the list of indices is and of offsets os, the end, and the index k that is asked. j is a refusal, `accepted none`, or `accepted (some x)`, where x is the text of an entry: where it lies in p, `x .at`, and its `x .bytes`. `wmPlace (asPlace j)` is the answer with that: `wmRefused` with its number and offset, `wmNone`, or `wmFound 0 (x .at) (length (x .bytes))`.
 use Rattle.format.specs.MarkerRule.{Follows}
 use Rattle.format.specs.Parts.{Part}
+-- A MODULE AS IT ARRIVES: `Stream` is the state that a caller lends, a record of numbers whose first is `total`. The finish answers with a record of thirteen numbers: four as every call, and behind them `kind`, `offset` and `length` for each of three places. `joined ps` are the bytes of the parts ps, one behind the other.
+use Rattle.stream.specs.declared.Stream.{Stream}
+use Rattle.stream.specs.Calls.{together as joined}
+use Rattle.wakemiono.specs.declared.arriving.WmStreamAnswer.{WmStreamAnswer}
 -- EXAMPLES are written as their bytes: `hex "07 01 00"`.
 use Rattle.format.specs.Examples.{hex}
 -- LISTS. `Indices is`: each number in the list is below 4,294,967,296. `sum ns`: the numbers added up. `Text x characters`: the bytes x are the UTF-8 encoding of the characters. `Lists k x indices lengths text`: k is listed, and x is its own stretch of the text. `Lists k x (k ∷ is) (n ∷ ns) text` from `take n text ≡ x`, and `Lists k x (i ∷ is) (n ∷ ns) text` from `Lists k x is ns (drop n text)`.
@@ -75,8 +79,8 @@ use Rattle.format.specs.declared.Question.{Question}
 use Rattle.format.specs.declared.Question.the-variants.{ModuleName, FunctionName, LocalName, LabelName, TypeName, TableName, MemoryName, GlobalName, ElementName, DataName, FieldName, TagName, KeptContents}
 -- Of metadata and hints: `ItemQuestion` is a function and an offset, each a record of one number; `ItemInRange q` says that both are below 4,294,967,296. `OlderInRange q` says it of a question for a hint of the older edition.
 use Rattle.format.specs.Theorems.{ItemQuestion, ItemInRange, OlderInRange}
--- THE CALLS, each by its promise: `wm-walk bytes a` says that the answer a is one that the promise of wm_walk allows for these bytes. It is the promise itself, the one name that stands in the `ensures` of the call in crates/wakemiono/src. What the promises come to is said below, so that nothing has to be known of how they are put. `wm-name q` is the promise of the call that asks q: wm_module_name asks `ModuleName`, wm_function_name `FunctionName` of its function, wm_type_name `TypeName` of its index, wm_tag_name `TagName` of its tag, wm_local_name `LocalName` of its function and its local, wm_field_name `FieldName` of its index and its field, wm_kept `KeptContents` of its id; `wm-name-in q` is that of the same call with `_in`, which is lent a module. `wm-wide-name q` and `wm-wide-name-in q` are those of the wider edition, wm_wide_module_name and so on, which has six more: wm_wide_label_name asks `LabelName` of its function and its label, wm_wide_table_name `TableName`, wm_wide_memory_name `MemoryName`, wm_wide_global_name `GlobalName`, wm_wide_element_name `ElementName` and wm_wide_data_name `DataName`. The calls that write are promised of the output before and after, too: `old` and `new`. `wm-markers p is os is′ os′ a` is promised of both lists before the call, `is` and `os`, and after it; `wm-quick-function-name p is os end function a` of a payload, two lists, an end and the function asked. `wm-pair q separate own a` is the promise of the call that asks q over two payloads, wm_pair_module_name and so on, and `wm-wide-pair` that of the wider edition; `wm-pair-join separate own old new a` is the join's.
-use Rattle.wakemiono.specs.Calls.{wm-walk, wm-section, wm-custom, wm-names-judge, wm-name, wm-metadata-judge, wm-metadata, wm-hints-judge, wm-hint, wm-name-in, wm-metadata-in, wm-hint-in, wm-names-canonical, wm-metadata-canonical, wm-hints-canonical, wm-function-names-write, wm-names-is-canonical, wm-metadata-is-canonical, wm-hints-is-canonical, wm-wide-names-judge, wm-wide-name, wm-wide-name-in, wm-wide-names-canonical, wm-wide-names-is-canonical, wm-old-hints-judge, wm-old-hint, wm-old-hint-in, wm-old-hints-canonical, wm-old-hints-is-canonical, wm-why-function, wm-why-local, wm-markers, wm-quick-function-name, wm-pair, wm-wide-pair, wm-pair-join, wm-wide-pair-join}
+-- THE CALLS, each by its promise: `wm-walk bytes a` says that the answer a is one that the promise of wm_walk allows for these bytes. It is the promise itself, the one name that stands in the `ensures` of the call in crates/wakemiono/src. What the promises come to is said below, so that nothing has to be known of how they are put. `wm-name q` is the promise of the call that asks q: wm_module_name asks `ModuleName`, wm_function_name `FunctionName` of its function, wm_type_name `TypeName` of its index, wm_tag_name `TagName` of its tag, wm_local_name `LocalName` of its function and its local, wm_field_name `FieldName` of its index and its field, wm_kept `KeptContents` of its id; `wm-name-in q` is that of the same call with `_in`, which is lent a module. `wm-wide-name q` and `wm-wide-name-in q` are those of the wider edition, wm_wide_module_name and so on, which has six more: wm_wide_label_name asks `LabelName` of its function and its label, wm_wide_table_name `TableName`, wm_wide_memory_name `MemoryName`, wm_wide_global_name `GlobalName`, wm_wide_element_name `ElementName` and wm_wide_data_name `DataName`. The calls that write are promised of the output before and after, too: `old` and `new`. `wm-markers p is os is′ os′ a` is promised of both lists before the call, `is` and `os`, and after it; `wm-quick-function-name p is os end function a` of a payload, two lists, an end and the function asked. `wm-pair q separate own a` is the promise of the call that asks q over two payloads, wm_pair_module_name and so on, and `wm-wide-pair` that of the wider edition; `wm-pair-join separate own old new a` is the join's. `wm-stream-part s p t a` is promised of the state before the call, s, a part, the state after the call, t, and the answer; `wm-stream-finish s t a` of both states and the answer; `wm-stream-begin b` of the state that comes back.
+use Rattle.wakemiono.specs.Calls.{wm-walk, wm-section, wm-custom, wm-names-judge, wm-name, wm-metadata-judge, wm-metadata, wm-hints-judge, wm-hint, wm-name-in, wm-metadata-in, wm-hint-in, wm-names-canonical, wm-metadata-canonical, wm-hints-canonical, wm-function-names-write, wm-names-is-canonical, wm-metadata-is-canonical, wm-hints-is-canonical, wm-wide-names-judge, wm-wide-name, wm-wide-name-in, wm-wide-names-canonical, wm-wide-names-is-canonical, wm-old-hints-judge, wm-old-hint, wm-old-hint-in, wm-old-hints-canonical, wm-old-hints-is-canonical, wm-why-function, wm-why-local, wm-markers, wm-quick-function-name, wm-pair, wm-wide-pair, wm-pair-join, wm-wide-pair-join, wm-stream-begin, wm-stream-part, wm-stream-finish}
 -- THE NUMBER READER of the library, by its promise: from the cursor c over the bytes s it reads the number v, says `told`, and stands at `next`; `left s c` are the bytes from c to the end of the innermost part, and `shortest v` is the shortest form of v. `Inside s c`: the cursor lies in what was lent.
 use Rattle.format.specs.Numbers.{shortest}
 use Rattle.reading.specs.Cursors.{Inside, left}
@@ -116,7 +120,7 @@ pub data HintReply : WmAnswer → Type 0 where
 
 -- The numbers that the calls refuse with. 16 is the listing program's alone
 abbrev pub numbers : List ℕ
-numbers = 1 ∷ 2 ∷ 3 ∷ 4 ∷ 5 ∷ 6 ∷ 7 ∷ 8 ∷ 9 ∷ 10 ∷ 11 ∷ 12 ∷ 13 ∷ 14 ∷ 15 ∷ 17 ∷ 22 ∷ []
+numbers = 1 ∷ 2 ∷ 3 ∷ 4 ∷ 5 ∷ 6 ∷ 7 ∷ 8 ∷ 9 ∷ 10 ∷ 11 ∷ 12 ∷ 13 ∷ 14 ∷ 15 ∷ 17 ∷ 18 ∷ 22 ∷ 28 ∷ []
 
 -- whether a number is one of a list
 abbrev pub isAmong : List ℕ → ℕ → Bool
@@ -747,3 +751,50 @@ pub record K3 : Type 0 where
   pub wide-hands-back : HandsBack Wider wm-wide-pair
   pub joins : JoinsPairs knownKind wm-names-judge wm-name wm-pair wm-names-canonical wm-names-is-canonical wm-pair-join
   pub wide-joins : JoinsPairs widerKind wm-wide-names-judge wm-wide-name wm-wide-pair wm-wide-names-canonical wm-wide-names-is-canonical wm-wide-pair-join
+
+-- K5. "Reading an upload as it arrives. A module comes in parts, cut anywhere, some of no length. The reader's state is small and is updated by each part without being copied by the caller; no part is kept. At the finish the answer is the module walk's on all of it joined: section count, places of the name payload and of both editions' hint payloads, or the refusal and offset. Accepted parts that join to the same bytes leave the same state however cut. Refusals, offset 0 and state unchanged: 18, a part or a finish after the finish; then 28, a part that takes the total above 18,446,744,073,709,551,615 bytes." Proved as `k5` in Proved.antt.
+
+-- Parts one after the other, from one state to another: each is lent to the call, and is found (taken) or refused. Those that were taken are listed
+pub data Arrives : (before : Stream) → (taken : List (List ℕ)) → (after : Stream) → Type 0 where
+  nothingMore : {s : Stream} → Arrives s [] s
+  found : {s t u : Stream} {a : WmAnswer} (p : List ℕ) {ps : List (List ℕ)} → wm-stream-part s p t a → a .kind ≡ 1 → Arrives t ps u → Arrives s (p ∷ ps) u
+  notFound : {s t u : Stream} {a : WmAnswer} (p : List ℕ) {ps : List (List ℕ)} → wm-stream-part s p t a → a .kind ≡ 2 → Arrives t ps u → Arrives s ps u
+
+-- a stream from its beginning, with the parts that were taken
+abbrev pub Begun : (taken : List (List ℕ)) → Stream → Type 0
+Begun ps s = (b : Stream) × wm-stream-begin b × Arrives b ps s
+
+-- The fields of what the finish answers: the walk's, and those of the three places
+abbrev pub walkFields : WmStreamAnswer → WmAnswer
+walkFields a = record { kind = a .kind; code = a .code; offset = a .offset; length = a .length }
+
+abbrev pub nameFields : WmStreamAnswer → WmAnswer
+nameFields a = record { kind = a .«name_kind»; code = 0; offset = a .«name_offset»; length = a .«name_length» }
+
+abbrev pub hintFields : WmStreamAnswer → WmAnswer
+hintFields a = record { kind = a .«hints_kind»; code = 0; offset = a .«hints_offset»; length = a .«hints_length» }
+
+abbrev pub olderFields : WmStreamAnswer → WmAnswer
+olderFields a = record { kind = a .«old_hints_kind»; code = 0; offset = a .«old_hints_offset»; length = a .«old_hints_length» }
+
+pub record K5 : Type 0 where
+  -- "At the finish the answer is the module walk's on all of it joined: section count, .. or the refusal and offset"
+  pub walk : (ps : List (List ℕ)) (s t : Stream) (a : WmStreamAnswer) (c : WmAnswer) → Begun ps s → wm-stream-finish s t a → wm-walk (joined ps) c → walkFields a ≡ c
+  -- "places of the name payload and of both editions' hint payloads": of an accepted module as wm_custom answers; none of a refused one
+  pub name : (ps : List (List ℕ)) (s t : Stream) (a : WmStreamAnswer) (c : WmAnswer) → Begun ps s → wm-stream-finish s t a → a .kind ≡ 1 → wm-custom nameSection (joined ps) c → nameFields a ≡ c
+  pub hints : (ps : List (List ℕ)) (s t : Stream) (a : WmStreamAnswer) (c : WmAnswer) → Begun ps s → wm-stream-finish s t a → a .kind ≡ 1 → wm-custom hintSection (joined ps) c → hintFields a ≡ c
+  pub older : (ps : List (List ℕ)) (s t : Stream) (a : WmStreamAnswer) (c : WmAnswer) → Begun ps s → wm-stream-finish s t a → a .kind ≡ 1 → wm-custom olderHintSection (joined ps) c → olderFields a ≡ c
+  pub none-told : (s t : Stream) (a : WmStreamAnswer) → wm-stream-finish s t a → a .kind ≡ 2 → (nameFields a ≡ wmNone) × (hintFields a ≡ wmNone) × (olderFields a ≡ wmNone)
+  -- "Accepted parts that join to the same bytes leave the same state however cut."
+  pub however-cut : (ps qs : List (List ℕ)) (s t : Stream) → Begun ps s → Begun qs t → joined ps ≡ joined qs → s ≡ t
+  pub counted : (ps : List (List ℕ)) (s : Stream) → Begun ps s → s .total ≡ length (joined ps)
+  -- "cut anywhere, some of no length": a part is taken unless it is 28
+  pub taken : (ps : List (List ℕ)) (s t : Stream) (p : List ℕ) (a : WmAnswer) → Begun ps s → wm-stream-part s p t a → length (joined ps) + length p ≤ 18_446_744_073_709_551_615 → a ≡ wmFound 0 0 (length p)
+  -- "28, a part that takes the total above 18,446,744,073,709,551,615 bytes"
+  pub too-large : (ps : List (List ℕ)) (s t : Stream) (p : List ℕ) (a : WmAnswer) → Begun ps s → wm-stream-part s p t a → 18_446_744_073_709_551_615 < length (joined ps) + length p → a ≡ wmRefused 28 0
+  -- "18, a part or a finish after the finish", whatever the part: 18 comes before 28. Of any state, also one that nobody began
+  pub part-late : (s t u : Stream) (a : WmStreamAnswer) (p : List ℕ) (c : WmAnswer) → wm-stream-finish s t a → wm-stream-part t p u c → c ≡ wmRefused 18 0
+  pub finish-late : (s t u : Stream) (a c : WmStreamAnswer) → wm-stream-finish s t a → wm-stream-finish t u c → walkFields c ≡ wmRefused 18 0
+  -- "state unchanged": of any state. After the finish of another one, a finish is refused 18 and nothing else
+  pub part-unchanged : (s t : Stream) (p : List ℕ) (a : WmAnswer) → wm-stream-part s p t a → a .kind ≡ 2 → t ≡ s
+  pub finish-unchanged : (s t u : Stream) (a c : WmStreamAnswer) → wm-stream-finish s t a → wm-stream-finish t u c → u ≡ t

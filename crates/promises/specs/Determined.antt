@@ -19,5 +19,6 @@ pub mod Neighbours
 pub mod Markers
 pub mod Pairs
 pub mod Joining
+pub mod Stream
 pub mod Wakemiono
 pub mod Saying

@@ -21,3 +21,4 @@ pub mod FunctionNames
 pub mod Markers
 pub mod Pairs
 pub mod Joins
+pub mod Arriving

@@ -50,6 +50,7 @@ use Rattle.grammar.specs.Forgetting.{bareSections}
 use Rattle.grammar.specs.Grammar.{Accepts, ids-exact, metadata-exact, hints-exact, older-exact, modules-exact}
 use Rattle.grammar.specs.Laws.Metadata.{any-exact, metadata-complete}
 use Rattle.grammar.specs.Laws.Names.{SameIds, source-ids, wider-ids, names-complete}
+use Rattle.promises.specs.Laws.Arriving.{as-walk, as-name, as-hints, as-older, no-place, same-state, total-is, is-taken, is-too-large, late-part, late-finish, part-stays, finish-stays}
 use Rattle.promises.specs.Laws.Judging.{found-grammar, refused-grammar}
 use Rattle.promises.specs.Laws.Listing.{lists-accepted, lists-read-back, lists-rest}
 use Rattle.promises.specs.Laws.Lists.{lists-fine, fine-written}
@@ -72,7 +73,7 @@ use Rattle.promises.specs.Laws.Pairs.{asks-pairs, hands-back}
 use Rattle.promises.specs.Laws.Joins.{joins-pairs}
 use Rattle.promises.specs.Laws.Walking.{walked, walk-counts, section-found, section-first, section-none, section-refused, custom-tells, custom-refused}
 use Rattle.wakemiono.specs.Calls.{wm-walk, wm-metadata-judge, wm-hints-judge, wm-metadata-canonical, wm-hints-canonical, wm-function-names-write, wm-old-hints-judge, wm-old-hints-canonical}
-use Rattle.promises.specs.Demands.{Verdict, Reply, SectionReply, HintReply, Answers, RefusedBy, RefusedThrough, RefusedOrShort, ListsRefused, NeedsRoom, Writing, Demand1, HoldsName, HoldsData, JudgesExactly, AnswersNames, AnswersMetadata, AnswersHints, Walks, Demand2, SameAnswer, Rewritten, Rewrites, Demand3, yes, no, replyNone, replyFound, replyRefused, sectionNone, sectionFound, sectionRefused, hintNone, hintUnlikely, hintLikely, hintRefused, byTheWalk, byItsPayload, asJudged, tooShort, listsDisagree, notAbove, notText, subsectionTooLarge, outputTooShort, TellsCanonical, K10, K9, OlderRefused, AnswersOlder, K2, olderJudged, olderTooLong, olderTooShort, K11, K7, K8, K3}
+use Rattle.promises.specs.Demands.{Verdict, Reply, SectionReply, HintReply, Answers, RefusedBy, RefusedThrough, RefusedOrShort, ListsRefused, NeedsRoom, Writing, Demand1, HoldsName, HoldsData, JudgesExactly, AnswersNames, AnswersMetadata, AnswersHints, Walks, Demand2, SameAnswer, Rewritten, Rewrites, Demand3, yes, no, replyNone, replyFound, replyRefused, sectionNone, sectionFound, sectionRefused, hintNone, hintUnlikely, hintLikely, hintRefused, byTheWalk, byItsPayload, asJudged, tooShort, listsDisagree, notAbove, notText, subsectionTooLarge, outputTooShort, TellsCanonical, K10, K9, OlderRefused, AnswersOlder, K2, olderJudged, olderTooLong, olderTooShort, K11, K7, K8, K3, Leaves, K5}
 
 -- Demand 1
 judged-verdict : (n : ℕ) (j : Judged (Unit {0})) → Verdict (wmJudged n j)
@@ -455,4 +456,21 @@ k3 = record {
   wide-hands-back = hands-back Wider;
   joins = joins-pairs First;
   wide-joins = joins-pairs Wider;
+}
+
+pub k5 : K5
+k5 = record {
+  walk = λ ps s t a c b f. as-walk ps s t a b f c;
+  name = λ ps s t a c b f k. as-name ps s t a b f k c;
+  hints = λ ps s t a c b f k. as-hints ps s t a b f k c;
+  older = λ ps s t a c b f k. as-older ps s t a b f k c;
+  none-told = no-place;
+  however-cut = same-state;
+  counted = total-is;
+  taken = λ ps s t p a b c. is-taken ps s b t p a c;
+  too-large = λ ps s t p a b c. is-too-large ps s b t p a c;
+  part-late = λ s t u a p c f g. late-part s t a f u p c g;
+  finish-late = λ s t u a c f g. late-finish s t a f u c g;
+  part-unchanged = part-stays;
+  finish-unchanged = λ s t u a c f g. finish-stays s t a f u c g;
 }

@@ -47,9 +47,9 @@ end-at f e = ap finish e
 
 module _ (f : Stream) where
   pub told-all : {name hints older : Told} → f .phase ≡ 1 → name ≡ toldOf (placeFrom (bit (f .there) 0) (f .name)) → hints ≡ toldOf (placeFrom (bit (f .there) 1) (f .hints)) → older ≡ toldOf (placeFrom (bit (f .there) 2) (f .older))
-      → record { refusal = 0; offset = 0; count = f .count; name = name; hints = hints; older = older } ≡ endingOf (finish (stateFrom f))
+      → record { accepted = true; refusal = 0; offset = 0; count = f .count; name = name; hints = hints; older = older } ≡ endingOf (finish (stateFrom f))
   unfolding end
-  told-all p n h o = (λ i. record { refusal = 0; offset = 0; count = f .count; name = n i; hints = h i; older = o i }) ∙ sym (ap endingOf (end-at f (as-between f p)))
+  told-all p n h o = (λ i. record { accepted = true; refusal = 0; offset = 0; count = f .count; name = n i; hints = h i; older = o i }) ∙ sym (ap endingOf (end-at f (as-between f p)))
 
   pub ends-refused : {x : Ending} → f .phase ≡ 2 → x ≡ endingOf (refused (f .refusal) (f .text)) → x ≡ endingOf (finish (stateFrom f))
   unfolding end

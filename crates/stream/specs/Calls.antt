@@ -1,6 +1,6 @@
 -- K5: a part and the finish, with what they refuse. "Refusals, offset 0 and state unchanged: 18, a part or a finish after the finish; then 28, a part that takes the total above 18,446,744,073,709,551,615 bytes." A state that nobody began and that the code cannot count with is answered as one that is over. Assumes nothing.
 use Prim.Native.Nat.{ℕ, _+_}
-use mathlib.Core.Bool.{Bool, cond, not, _&&_}
+use mathlib.Core.Bool.{Bool, true, false, cond, not, _&&_}
 use mathlib.Core.List.{List, [], _∷_, _++_}
 use mathlib.Core.Option.{Option, none, some}
 use mathlib.Core.Path.{_≡_}
@@ -48,8 +48,8 @@ toldOf none = record { there = 0; offset = 0; length = 0 }
 toldOf (some p) = record { there = 1; offset = p .offset .0; length = p .length }
 
 abbrev pub endingOf : Judged Summary → Ending
-endingOf (accepted s) = record { refusal = 0; offset = 0; count = s .count; name = toldOf (s .name); hints = toldOf (s .hints); older = toldOf (s .older) }
-endingOf (refused number at) = record { refusal = number; offset = at; count = 0; name = toldOf none; hints = toldOf none; older = toldOf none }
+endingOf (accepted s) = record { accepted = true; refusal = 0; offset = 0; count = s .count; name = toldOf (s .name); hints = toldOf (s .hints); older = toldOf (s .older) }
+endingOf (refused number at) = record { accepted = false; refusal = number; offset = at; count = 0; name = toldOf none; hints = toldOf none; older = toldOf none }
 
 unfoldable pub ended : Stream → Ended
 ended f =

@@ -9,4 +9,5 @@ pub mod Fits
 pub mod Calls
 pub mod Phases
 pub mod Laws
+pub mod StreamCases
 pub mod Promises

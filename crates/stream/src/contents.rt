@@ -126,7 +126,7 @@ pub fn named(s: Stream, valid: bool, row: u8) -> Stream
         next.text = s.total;
         return next;
     }
-    next.phase = FAILING;
+    next.phase = FAILING; // told once all of the section is there
     next.refusal = NOT_TEXT;
     next
 }

@@ -25,6 +25,7 @@ pub fn refused_ending(number: u8, offset: u64) -> Ending
     ensures { λ r. ⌜ r ≡ endingOf (refused number offset) ⌝ }
 {
     Ending {
+        accepted: false,
         refusal: number as u32,
         offset,
         count: 0,
@@ -56,6 +57,7 @@ fn all_told(s: Stream) -> Ending
     let hints = s.hints;
     let older = s.older;
     Ending {
+        accepted: true,
         refusal: 0,
         offset: 0,
         count: s.count,

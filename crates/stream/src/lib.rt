@@ -130,8 +130,9 @@ pub struct Told {
     pub length: u64,
 }
 
-// What the finish says: a refusal's number and offset, or no number, the count of sections and the places.
+// What the finish says: a refusal's number and offset, or the count of sections and the places. What it does not say is 0.
 pub struct Ending {
+    pub accepted: bool,
     pub refusal: u32,
     pub offset: u64,
     pub count: u64,

@@ -20,11 +20,16 @@ use Rattle.format.specs.Through.{askThrough, askMetadataThrough, askHintThrough
 use Rattle.format.specs.Why.{whyFunction, whyLocal}
 use Rattle.format.specs.Walk.{sectionCount, sectionAt, customPayload}
 use Rattle.walk.specs.Surveys.{sectionPlace}
+use Rattle.stream.specs.Fields.{held}
+use Rattle.stream.specs.Stream.{begin}
+use Rattle.stream.specs.declared.Stream.{Stream}
+use Rattle.wakemiono.specs.Arriving.{turnedBy, overBy}
 use Rattle.wakemiono.specs.Boundary.{wmCount, wmSection, wmPlace, wmJudged, wmHint, wmYes, WmWrites, WmMakes}
 use Rattle.wakemiono.specs.Pairs.{wmPair, WmJoins}
 use Rattle.wakemiono.specs.Why.{wmWhy}
 use Rattle.wakemiono.specs.declared.WmAnswer.{WmAnswer}
 use Rattle.wakemiono.specs.declared.beside.WmPairAnswer.{WmPairAnswer}
+use Rattle.wakemiono.specs.declared.arriving.WmStreamAnswer.{WmStreamAnswer}
 use Rattle.wakemiono.specs.declared.why.WmWhy.{WmWhy}
 
 abbrev pub wm-walk : List ℕ → WmAnswer → Type 0
@@ -146,3 +151,13 @@ wm-pair-join separate own old new a = WmJoins (joinNames knownKind separate own)
 
 abbrev pub wm-wide-pair-join : (separate own old new : List ℕ) → WmPairAnswer → Type 0
 wm-wide-pair-join separate own old new a = WmJoins (joinNames widerKind separate own) old new a
+
+-- K5: a module as it arrives: the state before a call and after it, and the answer
+abbrev pub wm-stream-begin : Stream → Type 0
+wm-stream-begin r = r ≡ held begin
+
+abbrev pub wm-stream-part : (before : Stream) (part : List ℕ) (after : Stream) → WmAnswer → Type 0
+wm-stream-part before part after a = (after ≡ turnedBy before part .state) × (a ≡ turnedBy before part .answer)
+
+abbrev pub wm-stream-finish : (before after : Stream) → WmStreamAnswer → Type 0
+wm-stream-finish before after a = (after ≡ overBy before .state) × (a ≡ overBy before .answer)

@@ -1,4 +1,5 @@
 pub mod Boundary
 pub mod Why
 pub mod Pairs
+pub mod Arriving
 pub mod Calls

@@ -28,6 +28,7 @@ use names::judging;
 use walk::Counted;
 use walk::survey::SectionAnswer;
 
+pub mod arriving;
 pub mod beside;
 pub mod old_hints;
 pub mod quick;

@@ -1,14 +1,14 @@
 -- Each promise of the crate `wakemiono` determines what comes back.
 use Prim.Native.Nat.{ℕ}
 use mathlib.Core.List.{List}
-use mathlib.Core.Path.{sym, _∙_}
-use Rattle.format.specs.Determined.{Determines, Determines1, Determines2, Determines3, Determines4, Determines5, DeterminesBoth2, DeterminesBoth3, DeterminesBoth4, DeterminesThree3, equal-determined}
+use mathlib.Core.Path.{sym, _∙_, _≡_}
+use Rattle.format.specs.Determined.{Determines, Determines1, Determines2, Determines3, Determines4, Determines5, DeterminesBoth2, DeterminesBoth3, DeterminesBoth4, DeterminesThree3, equal-determined, DeterminesBoth1}
 use Rattle.format.specs.Markers.{Markers}
 use Rattle.format.specs.Pairs.{Paired}
 use Rattle.format.specs.Reading.{Judged}
 use Rattle.wakemiono.proofs.Same.{wm-writes-same}
 use Rattle.wakemiono.specs.Boundary.{WmWrites, WmMakes}
-use Rattle.wakemiono.specs.Calls.{wm-walk, wm-section, wm-custom, wm-names-judge, wm-name, wm-metadata-judge, wm-metadata, wm-hints-judge, wm-hint, wm-name-in, wm-metadata-in, wm-hint-in, wm-names-canonical, wm-metadata-canonical, wm-hints-canonical, wm-names-is-canonical, wm-metadata-is-canonical, wm-hints-is-canonical, wm-function-names-write, wm-wide-names-judge, wm-wide-name, wm-wide-name-in, wm-wide-names-canonical, wm-wide-names-is-canonical, wm-old-hints-judge, wm-old-hint, wm-old-hint-in, wm-old-hints-canonical, wm-old-hints-is-canonical, wm-why-function, wm-why-local, wm-markers, wm-quick-function-name, wm-pair, wm-wide-pair, wm-pair-join, wm-wide-pair-join}
+use Rattle.wakemiono.specs.Calls.{wm-walk, wm-section, wm-custom, wm-names-judge, wm-name, wm-metadata-judge, wm-metadata, wm-hints-judge, wm-hint, wm-name-in, wm-metadata-in, wm-hint-in, wm-names-canonical, wm-metadata-canonical, wm-hints-canonical, wm-names-is-canonical, wm-metadata-is-canonical, wm-hints-is-canonical, wm-function-names-write, wm-wide-names-judge, wm-wide-name, wm-wide-name-in, wm-wide-names-canonical, wm-wide-names-is-canonical, wm-old-hints-judge, wm-old-hint, wm-old-hint-in, wm-old-hints-canonical, wm-old-hints-is-canonical, wm-why-function, wm-why-local, wm-markers, wm-quick-function-name, wm-pair, wm-wide-pair, wm-pair-join, wm-wide-pair-join, wm-stream-begin, wm-stream-part, wm-stream-finish}
 use Rattle.wakemiono.specs.Pairs.{WmJoins}
 use Rattle.wakemiono.specs.declared.WmAnswer.{WmAnswer}
 use Rattle.wakemiono.specs.declared.beside.WmPairAnswer.{WmPairAnswer}
@@ -31,6 +31,10 @@ wm-joins-determined wanted old a b p q =
     let one = p .says ∙ sym (q .says) in
     let two = p .leaves ∙ sym (q .leaves) in
     λ i. (one i, two i)
+
+-- and of a call that is lent a state, with the state after it
+left-determined : {State Result : Type 0} (state : State) (result : Result) → Determines (λ (r : Result × State). (r .1 ≡ state) × (r .0 ≡ result))
+left-determined state result a b p q = let one = p .1 ∙ sym (q .1) in let two = p .0 ∙ sym (q .0) in λ i. (one i, two i)
 
 pub record Wakemiono : Type 0 where
   wm-walk : Determines1 wm-walk
@@ -70,6 +74,9 @@ pub record Wakemiono : Type 0 where
   wm-wide-pair : Determines3 wm-wide-pair
   wm-pair-join : DeterminesBoth3 wm-pair-join
   wm-wide-pair-join : DeterminesBoth3 wm-wide-pair-join
+  wm-stream-begin : Determines wm-stream-begin
+  wm-stream-part : DeterminesBoth2 wm-stream-part
+  wm-stream-finish : DeterminesBoth1 wm-stream-finish
 
 pub determined : Wakemiono
 determined =
@@ -111,4 +118,7 @@ determined =
       wm-wide-pair = λ q separate own. equal-determined _;
       wm-pair-join = λ separate own old. wm-joins-determined _ _;
       wm-wide-pair-join = λ separate own old. wm-joins-determined _ _;
+      wm-stream-begin = equal-determined _;
+      wm-stream-part = λ before part. left-determined _ _;
+      wm-stream-finish = λ before. left-determined _ _;
     }

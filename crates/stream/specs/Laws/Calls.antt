@@ -63,7 +63,7 @@ module _ (f : Stream) (p : List ℕ) where
   not-both : (why : Reason) → notTaken f why .verdict ≡ Accepted → ⊥
   not-both why e = not-accepted (ap verdictOf e)
 
-  refused-stays : (taken f p .verdict ≡ Accepted → ⊥) → taken f p .stream ≡ f
+  pub refused-stays : (taken f p .verdict ≡ Accepted → ⊥) → taken f p .stream ≡ f
   unfolding taken
   refused-stays h =
       byTest (isOpen f)
