@@ -15,20 +15,20 @@ use Rattle.stream.specs.Counting.{weight, counted}
 use Rattle.stream.specs.Texts.{firstByte, wanting, wantedByte, textByte, nothingWanted, textEnds}
 use Rattle.stream.specs.Naming.{matchByte, matchEnds}
 use Rattle.stream.specs.Contents.{named, name, sized, content, nameEnds, contentEnds}
-use Rattle.stream.specs.Stream.{Summary, place, settled, customDone, skip, custom, enter, measured, admit, opening, start, startByte, startEnd, byte, end, begin, step, finish, steps}
+use Rattle.stream.specs.Stream.{Summary, place, settled, customDone, skip, custom, enter, measured, admit, opening, start, startByte, startEnd, byte, end, State, begin, step, finish, steps}
 use Rattle.stream.specs.Fields.{held, contentsFrom, phaseFrom, stateFrom, overAt}
 use Rattle.stream.specs.Fits.{fits}
 use Rattle.stream.specs.Calls.{most, taken, ended, endingOf}
 use Rattle.stream.specs.declared.Ending.{Ending}
 use Rattle.stream.specs.declared.Stream.{Stream}
 
--- parts one after the other, through the struct
-abbrev lend : Stream → List (List ℕ) → Stream
-lend f [] = f
-lend f (p ∷ ps) = lend (taken f p .stream) ps
+-- parts one after the other
+abbrev lend : State → List (List ℕ) → State
+lend s [] = s
+lend s (p ∷ ps) = lend (steps s p) ps
 
 abbrev says : List (List ℕ) → Ending
-says ps = ended (lend (held begin) ps) .ending
+says ps = endingOf (finish (lend begin ps))
 
 abbrev behind : List (List ℕ) → Ending
 behind ps = says (preamble ∷ ps)
@@ -70,7 +70,7 @@ told =
     ∷ []
 
 pub arriving-hold : arriving ≡ told
-unfolding digit hex ascii preamble nameSection hintSection greatestId rank isCustom isCode isData idRules nameRules weight counted firstByte wanting wantedByte textByte nothingWanted textEnds matchByte matchEnds named name sized content nameEnds contentEnds customDone skip custom enter measured admit opening start startByte startEnd byte end begin step finish steps held contentsFrom phaseFrom stateFrom fits taken ended arriving told
+unfolding digit hex ascii preamble nameSection hintSection greatestId rank isCustom isCode isData idRules nameRules weight counted firstByte wanting wantedByte textByte nothingWanted textEnds matchByte matchEnds named name sized content nameEnds contentEnds customDone skip custom enter measured admit opening start startByte startEnd byte end begin step finish steps arriving told
 arriving-hold = refl
 
 -- a stream that was refused already, with so many bytes

@@ -9,7 +9,6 @@ use crate::WmAnswer;
 use crate::of_verdict;
 use stream::Ending;
 use stream::Stream;
-use stream::begin;
 use stream::finish;
 use stream::take_part;
 
@@ -98,7 +97,7 @@ fn end(s: Stream) -> Over
 pub extern "C" fn wm_stream_begin() -> Stream
     ensures { λ r. ⌜ wm-stream-begin r ⌝ }
 {
-    begin()
+    stream::begin()
 }
 
 #[no_mangle]

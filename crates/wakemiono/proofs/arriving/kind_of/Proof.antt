@@ -1,0 +1,9 @@
+use Rattle.wakemiono.proofs.ArrivingLaws.{arrivals}
+use Rattle.wakemiono.proofs.arriving.kind_of.Statement.{statement}
+use Rattle.wakemiono.proofs.arriving.kind_of.Tie as tie
+
+returns : tie.Need-returns
+returns c = search arrivals
+
+pub kind-of-spec : {M : Type 1} → statement M
+kind-of-spec = tie.close (tie.spec returns)
