@@ -23,10 +23,19 @@ pub kind-refused : {b : Bool} → b ≡ false → 2 ≡ kindOf b
 kind-refused e = rw e
 
 pub ending-is : (e : Ending) {kind : ℕ} → kind ≡ kindOf (e .accepted) → record {
-  kind = kind; code = e .refusal; offset = e .offset; length = e .count;
-  «name_kind» = e .name .there; «name_offset» = e .name .offset; «name_length» = e .name .length;
-  «hints_kind» = e .hints .there; «hints_offset» = e .hints .offset; «hints_length» = e .hints .length;
-  «old_hints_kind» = e .older .there; «old_hints_offset» = e .older .offset; «old_hints_length» = e .older .length;
+  kind = kind;
+  code = e .refusal;
+  offset = e .offset;
+  length = e .count;
+  «name_kind» = e .name .there;
+  «name_offset» = e .name .offset;
+  «name_length» = e .name .length;
+  «hints_kind» = e .hints .there;
+  «hints_offset» = e .hints .offset;
+  «hints_length» = e .hints .length;
+  «old_hints_kind» = e .older .there;
+  «old_hints_offset» = e .older .offset;
+  «old_hints_length» = e .older .length;
 } ≡ wmEnding e
 ending-is e k = rw k
 

@@ -18,10 +18,19 @@ kindOf false = 2
 
 abbrev pub wmEnding : Ending → WmStreamAnswer
 wmEnding e = record {
-  kind = kindOf (e .accepted); code = e .refusal; offset = e .offset; length = e .count;
-  «name_kind» = e .name .there; «name_offset» = e .name .offset; «name_length» = e .name .length;
-  «hints_kind» = e .hints .there; «hints_offset» = e .hints .offset; «hints_length» = e .hints .length;
-  «old_hints_kind» = e .older .there; «old_hints_offset» = e .older .offset; «old_hints_length» = e .older .length;
+  kind = kindOf (e .accepted);
+  code = e .refusal;
+  offset = e .offset;
+  length = e .count;
+  «name_kind» = e .name .there;
+  «name_offset» = e .name .offset;
+  «name_length» = e .name .length;
+  «hints_kind» = e .hints .there;
+  «hints_offset» = e .hints .offset;
+  «hints_length» = e .hints .length;
+  «old_hints_kind» = e .older .there;
+  «old_hints_offset» = e .older .offset;
+  «old_hints_length» = e .older .length;
 }
 
 abbrev pub turnedBy : Stream → List ℕ → Turned
