@@ -5,7 +5,7 @@ use mathlib.Core.List.{List, [], _∷_}
 use mathlib.Core.Path.{_≡_, refl, sym, ap, _∙_}
 use native.Mathlib.Omega.{arith}
 use borrow.Author.Needs.{needs}
-use borrow.Author.Tests.{eqb-true, eqb-false}
+use borrow.Author.Tests.{eqb-true, eqb-false, leb-true, leb-false, le-leb, lt-leb}
 use lib.Dec.{ltb, leb, eqb}
 use lib.ListN.{length, drop}
 use lib.Seq.{drop-cons}
@@ -101,22 +101,27 @@ open-fit f e = record { fits = onBoth (not (eqb (f .phase) over)) _ e λ _ t. t 
 
 module _ (f : Stream) (part : List ℕ) {open′ : Bool} (e : open′ ≡ isOpen f) where
   module _ (t : open′ ≡ true) where
-    pub part-feeds : length part ≤ most - f .total → f .total ≤ most → Feeding f part
-    part-feeds h m = record { fit = open-fit f (sym e ∙ t); room = omega arith }
+    module _ {room : Bool} (n : room ≡ leb (f .total + length part) most) where
+      pub part-feeds : room ≡ true → Feeding f part
+      part-feeds h = record { fit = open-fit f (sym e ∙ t); room = leb-true (f .total + length part) most (sym n ∙ h) }
 
-    pub takes : {x y : Stream} → length part ≤ most - f .total → f .total ≤ most → Feeds f part x → y ≡ held (stateFrom x) → record { stream = y; verdict = Accepted } ≡ taken f part
-    takes {x} {y} h m u q = (λ i. record { stream = (q ∙ ap held (u .means)) i; verdict = Accepted }) ∙ sym (part-taken f part (sym e ∙ t) (omega arith))
+      pub takes : {x y : Stream} → room ≡ true → Feeds f part x → y ≡ held (stateFrom x) → record { stream = y; verdict = Accepted } ≡ taken f part
+      takes {x} {y} h u q = (λ i. record { stream = (q ∙ ap held (u .means)) i; verdict = Accepted }) ∙ sym (part-taken f part (sym e ∙ t) (leb-true (f .total + length part) most (sym n ∙ h)))
 
-    pub takes-not : {x : Taken} → most - f .total < length part → f .total ≤ most → x ≡ notTaken f TotalTooLarge → x ≡ taken f part
-    takes-not h m q = q ∙ sym (part-too-large f part (sym e ∙ t) (omega arith))
+      pub takes-not : {x : Taken} → room ≡ false → x ≡ notTaken f TotalTooLarge → x ≡ taken f part
+      takes-not h q = q ∙ sym (part-too-large f part (sym e ∙ t) (leb-false (f .total + length part) most (sym n ∙ h)))
 
   pub takes-late : {x : Taken} → open′ ≡ false → x ≡ notTaken f AfterFinish → x ≡ taken f part
   takes-late t q = q ∙ sym (part-too-late f part (sym e ∙ t))
 
-pub most-is : (f : Stream) → f .total < limit64 → f .total ≤ most
-most-is f h = omega arith
+-- as far as 64 bits go
+pub room-is : (total more : ℕ) → total < limit64 → leb more (most - total) ≡ leb (total + more) most
+room-is total more h =
+    byTest (leb more (most - total))
+    (λ t. t ∙ sym (le-leb (total + more) most (let l = leb-true more (most - total) t in omega arith)))
+    (λ t. t ∙ sym (lt-leb (total + more) most (let l = leb-false more (most - total) t in omega arith)))
 
-pub ruleset parts = (part-feeds, takes, takes-not, takes-late, most-is, needs)
+pub ruleset parts = (part-feeds, takes, takes-not, takes-late, room-is, needs)
 
 -- THE FINISH
 

@@ -1,6 +1,8 @@
 // K5: a module as it arrives, in parts that are cut anywhere. All work is by value: a state goes in, and the state behind it comes out.
 ghost use mathlib.Core.Path.{_≡_};
-ghost use Rattle.stream.specs.Calls.{notTaken};
+ghost use Prim.Native.Nat.{_+_};
+ghost use lib.Dec.{leb};
+ghost use Rattle.stream.specs.Calls.{most, notTaken};
 ghost use Rattle.stream.specs.Promises.{stream-begin, stream-take-part, stream-finish};
 use crate::feeding::feed;
 use crate::finishing::end;
@@ -160,12 +162,19 @@ fn not_taken(s: Stream, reason: Reason) -> Taken
     Taken { stream: s, verdict }
 }
 
+// Whether so many bytes more can be counted.
+fn has_room(total: u64, more: u64) -> bool
+    ensures { λ r. ⌜ r ≡ leb (total + more) most ⌝ }
+{
+    more <= MOST - total
+}
+
 // The next part of a module: cut anywhere, and of no length too.
 pub fn take_part(s: Stream, part: &[u8]) -> Taken
     ensures { λ r. ⌜ stream-take-part s (now (part .entry)) r ⌝ }
 {
     if is_open(s) {
-        if part.len() as u64 <= MOST - s.total {
+        if has_room(s.total, part.len() as u64) {
             let stream = tidy(feed(s, part));
             let verdict = Verdict::Accepted;
             return Taken { stream, verdict };

@@ -5,8 +5,8 @@ use Rattle.stream.proofs.take_part.Tie as tie
 is-open-requires : tie.Need-is-open-requires
 is-open-requires c κs = search parts
 
-sub-if2 : tie.Need-sub-if2
-sub-if2 c = search parts
+has-room-requires : tie.Need-has-room-requires
+has-room-requires c κs = search parts
 
 feed-requires : tie.Need-feed-requires
 feed-requires c κs = search parts
@@ -30,4 +30,4 @@ returns-3 : tie.Need-returns-3
 returns-3 c = search parts
 
 pub take-part-spec : {M : Type 1} → statement M
-take-part-spec = tie.close (tie.spec is-open-requires sub-if2 feed-requires tidy-requires returns not-taken-requires returns-2 not-taken-requires-2 returns-3)
+take-part-spec = tie.close (tie.spec is-open-requires has-room-requires feed-requires tidy-requires returns not-taken-requires returns-2 not-taken-requires-2 returns-3)
