@@ -2,8 +2,8 @@
  *
  * Every call takes any bytes, ends, and asks no prior check. A byte slice is a pointer and a length; a length of 0 may
  * come with any non-null pointer. Every answer is one struct by value, or, to a yes or no, the number 1 or 0, so that no
- * call needs a buffer for it. A call reads what is lent to it and nothing else, and stores nothing but into an output;
- * slices may not overlap an output, nor two outputs each other.
+ * call needs a buffer for it. A call reads what is lent to it and nothing else, and stores nothing but into an output or
+ * the state of a stream; slices may not overlap these, nor two outputs each other.
  *
  *   kind            code             offset                    length
  *   WM_NONE      0  0                0                         0
@@ -32,9 +32,11 @@
  *   15  subsection, or older hints, would exceed 4,294,967,295 bytes        0
  *       payload for markers, or for the quick question, exceeds them        0
  *   17  in older hints the byte behind a function is not zero               that byte
+ *   18  a part or a finish of a stream after its finish                     0
  *   22  no markers: lists of unequal length                                 the shorter's length
  *       else an end outside the payload                                     the length of the lists
  *       else a list that does not rise, or an offset not below the end      the first such position in the lists, from 0
+ *   28  a part that takes a stream above 18,446,744,073,709,551,615 bytes   0
  *
  * 16 is given by no call: the program that lists has it for its own input.
  */
@@ -365,6 +367,40 @@ wm_pair_answer wm_wide_pair_kept(const uint8_t *separate, size_t separate_len, c
 /* Both payloads joined into one. */
 wm_pair_answer wm_wide_pair_join(const uint8_t *separate, size_t separate_len, const uint8_t *own, size_t own_len,
                                  uint8_t *out, size_t out_len);
+
+/* A module as it arrives, in parts that are cut anywhere, some of no length: one that is too large to be held, or an upload
+ * that is judged while it comes. No part is kept. At the finish the answer is the walk's on all parts joined, with the
+ * places of three payloads, counted from the module's first byte. It is the same however the module was cut.
+ *
+ * What is known between two parts is a small state, which is the caller's: begun once, lent to each call by a pointer to
+ * memory that is aligned for uint64_t, and not copied from one place to another. Its first field is how many bytes were
+ * taken so far, and stays after the finish; the others are the library's own. There is no padding in it, and parts that
+ * join to the same bytes leave the same bytes in it. A call on a state that nobody began, whatever bytes it has, ends and
+ * does nothing undefined.
+ *
+ * A part of no length is taken like any other, and so are parts of a module that will be refused: what is wrong with it is
+ * said at the finish, since a section that runs past the end of everything goes before what is wrong with its name. The
+ * finish of a refused module is a finish, too. Refusals 18, then 28, leave the state as it was, and the next part is
+ * taken as if the refused one had not come. */
+
+typedef struct { uint64_t total; uint64_t rest[14]; } wm_stream;
+
+/* kind, code, offset and length as wm_walk's answer. The kind of a place is WM_NONE or WM_FOUND; with WM_NONE its offset
+ * and length are 0, and with a refusal all nine fields of the places are 0. */
+typedef struct {
+    uint32_t kind; uint32_t code; uint64_t offset; uint64_t length;
+    uint64_t name_kind; uint64_t name_offset; uint64_t name_length;
+    uint64_t hints_kind; uint64_t hints_offset; uint64_t hints_length;
+    uint64_t old_hints_kind; uint64_t old_hints_offset; uint64_t old_hints_length;
+} wm_stream_answer;
+
+/* The state of a stream of which nothing has come. */
+wm_stream wm_stream_begin(void);
+/* Takes the next part: FOUND with offset 0 and the part's length. Refusals in this order: 18, 28. */
+wm_answer wm_stream_part(wm_stream *stream, const uint8_t *part, size_t part_len);
+/* There are no more parts: FOUND with offset 0, length = count of sections, and where the payloads of `name`, of
+ * `metadata.code.branch_hint` and of `branchHints` lie. Refusals: 18, or the walk's. */
+wm_stream_answer wm_stream_finish(wm_stream *stream);
 
 #ifdef __cplusplus
 }

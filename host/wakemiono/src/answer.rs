@@ -3,11 +3,13 @@
 use std::fmt;
 
 use crate::ffi::pairs::{PairAnswer, NOBODY, OWN, SEPARATE};
+use crate::ffi::stream::StreamAnswer;
 use crate::ffi::{
     Answer, WhyAnswer, FOUND, LIKELY, NONE, NO_ENTRY, NO_GROUP, NO_SUBSECTION, REFUSED, UNLIKELY,
 };
 use crate::{
-    Hint, Marked, PairRefusal, Reason, Refusal, Section, Supplied, SuppliedBytes, Whose, Why,
+    Hint, Marked, PairRefusal, Place, Reason, Refusal, Section, Supplied, SuppliedBytes, Walked,
+    Whose, Why,
 };
 
 impl Answer {
@@ -79,6 +81,14 @@ impl Answer {
                 count,
                 end: self.offset,
             }),
+            _ => self.misfit(),
+        }
+    }
+
+    /// Whether a part of a length was taken, which it is as a whole.
+    pub(crate) fn taken(self, part_len: usize) -> Result<(), Refusal> {
+        match self.written(part_len)? {
+            taken if taken == part_len => Ok(()),
             _ => self.misfit(),
         }
     }
@@ -187,6 +197,37 @@ impl PairAnswer {
         match self.whose() {
             Some(whose) if !only_of_joined => PairRefusal::of(whose, refusal),
             None if only_of_joined => PairRefusal::of_joined(refusal),
+            _ => misfit(self),
+        }
+    }
+}
+
+impl StreamAnswer {
+    /// What was found in a module that arrived, of so many bytes.
+    pub(crate) fn walked(self, total: u64) -> Result<Walked, Refusal> {
+        let place = |kind, offset, length| self.place(kind, offset, length, total);
+        match self.kind {
+            FOUND => Ok(Walked {
+                section_count: self.length,
+                name: place(self.name_kind, self.name_offset, self.name_length),
+                hints: place(self.hints_kind, self.hints_offset, self.hints_length),
+                old_hints: place(
+                    self.old_hints_kind,
+                    self.old_hints_offset,
+                    self.old_hints_length,
+                ),
+            }),
+            REFUSED => Err(refusal(self, self.code, self.offset)),
+            _ => misfit(self),
+        }
+    }
+
+    /// Where a payload lies, or none.
+    fn place(self, kind: u64, offset: u64, length: u64, total: u64) -> Option<Place> {
+        let end = offset.checked_add(length);
+        match (u32::try_from(kind), end) {
+            (Ok(NONE), _) => None,
+            (Ok(FOUND), Some(end)) if end <= total => Some(Place { offset, length }),
             _ => misfit(self),
         }
     }
@@ -483,8 +524,121 @@ mod tests {
     }
 
     #[test]
+    fn a_part_is_taken_as_a_whole() {
+        assert_eq!(answer(FOUND, 0, 0, 4).taken(4), Ok(()));
+        let refusal = answer(REFUSED, 28, 0, 0).taken(4).unwrap_err();
+        assert_eq!((refusal.number(), refusal.offset()), (28, 0));
+    }
+
+    #[test]
+    #[should_panic(expected = "is it of another version?")]
+    fn a_part_is_not_taken_half() {
+        let _ = answer(FOUND, 0, 0, 3).taken(4);
+    }
+
+    /// Of a module with two sections, and no payload among them.
+    const TWO_SECTIONS: StreamAnswer = StreamAnswer {
+        kind: FOUND,
+        code: 0,
+        offset: 0,
+        length: 2,
+        name_kind: 0,
+        name_offset: 0,
+        name_length: 0,
+        hints_kind: 0,
+        hints_offset: 0,
+        hints_length: 0,
+        old_hints_kind: 0,
+        old_hints_offset: 0,
+        old_hints_length: 0,
+    };
+
+    /// The same with names, which end at the byte 9.
+    const WITH_NAMES: StreamAnswer = StreamAnswer {
+        name_kind: 1,
+        name_offset: 5,
+        name_length: 4,
+        ..TWO_SECTIONS
+    };
+
+    #[test]
+    fn each_place_is_its_own() {
+        let nowhere = Walked {
+            section_count: 2,
+            name: None,
+            hints: None,
+            old_hints: None,
+        };
+        assert_eq!(TWO_SECTIONS.walked(9), Ok(nowhere));
+        let places = StreamAnswer {
+            hints_kind: 1,
+            hints_offset: 9,
+            old_hints_kind: 1,
+            old_hints_length: 3,
+            ..WITH_NAMES
+        };
+        let place = |offset, length| Some(Place { offset, length });
+        let walked = Walked {
+            name: place(5, 4),
+            hints: place(9, 0),
+            old_hints: place(0, 3),
+            ..nowhere
+        };
+        assert_eq!(places.walked(9), Ok(walked));
+    }
+
+    #[test]
+    fn a_module_that_arrived_may_be_refused() {
+        let refused = StreamAnswer {
+            kind: REFUSED,
+            code: 5,
+            offset: 8,
+            length: 0,
+            ..TWO_SECTIONS
+        };
+        let refusal = refused.walked(9).unwrap_err();
+        assert_eq!((refusal.number(), refusal.offset()), (5, 8));
+    }
+
+    #[test]
+    #[should_panic(expected = "is it of another version?")]
+    fn a_place_beyond_what_arrived_is_a_misfit() {
+        let _ = WITH_NAMES.walked(8);
+    }
+
+    #[test]
+    #[should_panic(expected = "is it of another version?")]
+    fn a_place_whose_end_has_no_number_is_a_misfit() {
+        let endless = StreamAnswer {
+            name_length: u64::MAX,
+            ..WITH_NAMES
+        };
+        let _ = endless.walked(u64::MAX);
+    }
+
+    #[test]
+    #[should_panic(expected = "is it of another version?")]
+    fn a_place_is_there_or_not() {
+        let neither = StreamAnswer {
+            name_kind: 1 << 32,
+            ..WITH_NAMES
+        };
+        let _ = neither.walked(9);
+    }
+
+    #[test]
+    #[should_panic(expected = "is it of another version?")]
+    fn a_walk_is_never_none() {
+        let none = StreamAnswer {
+            kind: NONE,
+            ..TWO_SECTIONS
+        };
+        let _ = none.walked(9);
+    }
+
+    #[test]
     fn every_reason_has_its_number() {
-        for number in (1..=15).chain([17, 22]) {
+        for number in (1..=15).chain([17, 18, 22, 28]) {
             let refusal = answer(REFUSED, number, 7, 0).length().unwrap_err();
             assert_eq!((refusal.number(), refusal.offset()), (number, 7));
             assert_eq!(answer(REFUSED, number, 7, 0).hint().unwrap_err(), refusal);

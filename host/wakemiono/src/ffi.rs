@@ -1,5 +1,5 @@
 //! The C calls, each behind a safe function on slices. All `unsafe` code of this crate stands here,
-//! and, of the calls on two name payloads, in [`pairs`].
+//! and, of the calls on two name payloads and on a module that arrives, in [`pairs`] and [`stream`].
 //!
 //! What every block relies on, as the header `wakemiono.h` states it:
 //!
@@ -12,6 +12,7 @@
 //!   numbers, of which any is a `u8` or a `u32`.
 
 pub(crate) mod pairs;
+pub(crate) mod stream;
 
 use crate::{First, FunctionIndex, Wider};
 

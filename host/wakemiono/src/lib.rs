@@ -35,6 +35,10 @@
 //! from two places. A module may carry both: [`Module::hint`] asks the one, with a [`CodeOffset`],
 //! and [`Module::old_hint`] the older, with an [`InstructionOffset`].
 //!
+//! A module that is too large to be held, or is judged while it is uploaded, is given in parts to a
+//! [`Stream`], into which [`std::io::copy`] writes. At the finish it says what the walk says of all parts
+//! joined, and where the payloads lie.
+//!
 //! - Any bytes may be lent. No call asks a prior check, and bad input gets a [`Refusal`] that says
 //!   what is wrong and where.
 //! - What is found is borrowed from the very bytes that were lent; [`offset_in`] says where it
@@ -62,6 +66,7 @@ mod name_payload;
 mod old_hints;
 mod pair;
 mod refusal;
+mod stream;
 mod whose;
 mod why;
 mod wider;
@@ -80,6 +85,7 @@ pub use name_payload::NamePayload;
 pub use old_hints::OldHints;
 pub use pair::Pair;
 pub use refusal::{Reason, Refusal};
+pub use stream::{Place, Stream, Walked};
 pub use whose::{PairRefusal, Supplied, SuppliedBytes, SuppliedName, Whose};
 pub use why::Why;
 

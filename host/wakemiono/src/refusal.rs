@@ -3,6 +3,8 @@
 use std::error::Error;
 use std::fmt;
 
+use crate::Place;
+
 /// Why something was refused: one case for each refusal number of the format's rules.
 ///
 /// Later versions may add reasons; the numbers of these stay as they are, so they may be stored.
@@ -59,11 +61,16 @@ pub enum Reason {
     /// 17: in hints of the older edition the byte behind a function is not zero. The offset is that
     /// of the byte.
     NotZero = 17,
+    /// 18: a part or a finish came after the finish of the stream. A [`Stream`](crate::Stream) cannot be
+    /// used so; the call of the C header can.
+    StreamFinished = 18,
     /// 22: what the quick question is given are no markers of a payload. The lists have unequal
     /// lengths, and the offset is the shorter's length; else the end lies outside the payload, and
     /// it is the length of the lists; else one of the lists does not rise, or an offset is not below
     /// the end, and it is the first such position in the lists, counted from 0.
     NotMarkers = 22,
+    /// 28: a part takes the stream above 18,446,744,073,709,551,615 bytes.
+    StreamTooLong = 28,
 }
 
 impl Reason {
@@ -92,7 +99,9 @@ impl Reason {
         Reason::ListsDisagree,
         Reason::SubsectionTooLong,
         Reason::NotZero,
+        Reason::StreamFinished,
         Reason::NotMarkers,
+        Reason::StreamTooLong,
     ];
 
     /// The refusal number.
@@ -168,7 +177,11 @@ impl Reason {
             Reason::NotZero => {
                 "no hints of the older edition, or a damaged file: take it from its producer again"
             }
+            Reason::StreamFinished => "the stream is over: begin another for the next module",
             Reason::NotMarkers => "the markers are not those of the payload: make them anew",
+            Reason::StreamTooLong => {
+                "more bytes than can be counted: finish, and begin another stream"
+            }
         }
     }
 }
@@ -206,9 +219,13 @@ impl fmt::Display for Reason {
                  payload for markers does"
             }
             Reason::NotZero => "the byte behind a function of older hints is not zero",
+            Reason::StreamFinished => "a part or a finish came after the finish of the stream",
             Reason::NotMarkers => {
                 "the lists are no markers: their lengths differ, the end lies outside the payload, \
                  or a position does not rise or is not below the end"
+            }
+            Reason::StreamTooLong => {
+                "a part takes the stream above 18,446,744,073,709,551,615 bytes"
             }
         })
     }
@@ -293,6 +310,48 @@ impl Refusal {
     pub const fn reason(&self) -> Reason {
         self.reason
     }
+
+    /// The refusal of a payload that lies in a module, as it is counted from the module's start: what
+    /// a question put through the module gives. It is for a payload that was taken out of a module
+    /// which a [`Stream`](crate::Stream) has walked over.
+    ///
+    /// ```
+    /// use wakemiono::{Module, NamePayload, Place};
+    ///
+    /// let module = b"\0asm\x01\0\0\0\x00\x09\x04name\x01\x02\x00\x00";
+    /// let place = Place { offset: 15, length: 4 };
+    /// let refusal = NamePayload::new(&module[15..]).judge().unwrap_err();
+    /// assert_eq!((refusal.number(), refusal.offset()), (10, 3));
+    /// assert_eq!(refusal.in_module(place).offset(), 18);
+    /// assert_eq!(Module::new(module).module_name(), Err(refusal.in_module(place)));
+    /// ```
+    ///
+    /// A refusal whose offset counts no bytes of a payload stays as it is: one of lists, of an output
+    /// or of a stream.
+    ///
+    /// ```
+    /// use wakemiono::{NamePayload, Place};
+    ///
+    /// let payload = NamePayload::new(&[0x00, 0x02, 0x01, 0x6D]);
+    /// let refusal = payload.canonical_into(&mut []).unwrap_err();
+    /// assert_eq!(refusal.in_module(Place { offset: 15, length: 4 }), refusal);
+    /// ```
+    #[must_use]
+    pub const fn in_module(self, payload: Place) -> Refusal {
+        match (self.reason, self.lent) {
+            (_, Lent::Lists)
+            | (
+                Reason::OutputTooShort
+                | Reason::ListsDisagree
+                | Reason::SubsectionTooLong
+                | Reason::NotMarkers
+                | Reason::StreamFinished
+                | Reason::StreamTooLong,
+                _,
+            ) => self,
+            _ => Refusal::in_bytes(self.reason, payload.offset.saturating_add(self.offset)),
+        }
+    }
 }
 
 /// As a person reads it in a failed test: number, reason and offset.
@@ -329,9 +388,13 @@ impl fmt::Display for Refusal {
     fn fmt(&self, f: &mut fmt::Formatter<'_>) -> fmt::Result {
         let at = self.offset;
         let place = match (self.reason, self.lent) {
-            (Reason::ListsDisagree | Reason::SubsectionTooLong, _) => {
-                return write!(f, "{}", self.reason);
-            }
+            (
+                Reason::ListsDisagree
+                | Reason::SubsectionTooLong
+                | Reason::StreamFinished
+                | Reason::StreamTooLong,
+                _,
+            ) => return write!(f, "{}", self.reason),
             (Reason::OutputTooShort, _) => {
                 return write!(f, "{}: the needed length is {at}", self.reason);
             }

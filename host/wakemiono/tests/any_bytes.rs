@@ -5,11 +5,13 @@
 mod common;
 
 use common::{
-    custom, module, AllQuestions, Asked, PairAsked, EVERY_ID, HINTS_NAME, ONLY_WIDER, P, SMALL,
+    custom, module, AllQuestions, Asked, PairAsked, EVERY_ID, HINTS_NAME, OLD_HINTS_NAME,
+    ONLY_WIDER, P, SMALL,
 };
 use wakemiono::{
     offset_in, CodeOffset, First, FunctionIndex, Hints, LocalIndex, Marked, Metadata, Module, Name,
-    NamePayload, Pair, PairRefusal, Refusal, SuppliedName, Whose, Why, Wider,
+    NamePayload, Pair, PairRefusal, Place, Refusal, Stream, SuppliedName, Walked, Whose, Why,
+    Wider,
 };
 
 type Answers<'a> = Vec<Option<&'a [u8]>>;
@@ -230,22 +232,28 @@ fn metadata_agree(bytes: &[u8]) {
 }
 
 /// A refusal's number, and its offset counted from the start of the module.
-type Place = (u32, u64);
+type Where = (u32, u64);
 
-fn place(refusal: Refusal) -> Place {
+fn place(refusal: Refusal) -> Where {
     (refusal.number(), refusal.offset())
 }
 
 /// The same of a refusal whose offset counts from the start of a payload in the module.
-fn place_in_payload(module: &[u8], payload: &[u8], refusal: Refusal) -> Place {
+fn place_in_payload(module: &[u8], payload: &[u8], refusal: Refusal) -> Where {
     let start = offset_in(module, payload).expect("the payload lies in the module");
-    (refusal.number(), refusal.offset() + start as u64)
+    let counted = refusal.in_module(Place {
+        offset: start as u64,
+        length: payload.len() as u64,
+    });
+    assert_eq!(counted.offset(), refusal.offset() + start as u64);
+    place(counted)
 }
 
 /// What is asked through a module is what is asked of its payload, counted from the module's start.
 fn module_agrees(bytes: &[u8]) {
     let module = Module::new(bytes);
     sections_agree(&module);
+    stream_agrees(&module);
     names_agree_through(module);
     names_agree_through(Module::wider(bytes));
     for function in (0..4).map(FunctionIndex) {
@@ -262,6 +270,34 @@ fn sections_agree(module: &Module<'_>) {
     for (position, section) in (0..).zip(sections.into_iter().flatten()) {
         assert_eq!(module.section(position), Ok(Some(section)));
     }
+}
+
+/// A module that arrives, in one part and byte by byte, is walked over as one that is lent.
+fn stream_agrees(module: &Module<'_>) {
+    let bytes = module.as_bytes();
+    let walked = walked(module);
+    for part_len in [1, bytes.len().max(1)] {
+        let mut stream = Stream::new();
+        bytes
+            .chunks(part_len)
+            .for_each(|part| stream.part(part).expect("it is taken"));
+        assert_eq!(stream.total(), bytes.len() as u64);
+        assert_eq!(stream.finish(), walked);
+    }
+}
+
+/// What a stream is to say of a module.
+fn walked(module: &Module<'_>) -> Result<Walked, Refusal> {
+    let place = |payload: &[u8]| Place {
+        offset: offset_in(module.as_bytes(), payload).expect("it lies in the module") as u64,
+        length: payload.len() as u64,
+    };
+    Ok(Walked {
+        section_count: module.section_count()?,
+        name: module.custom("name")?.map(place),
+        hints: module.custom(HINTS_NAME)?.map(place),
+        old_hints: module.custom(OLD_HINTS_NAME)?.map(place),
+    })
 }
 
 /// What is kept among what is named.
@@ -298,8 +334,8 @@ fn names_agree_through<E: AllQuestions>(module: Module<'_, E>) {
 /// Answers whose refusals are places.
 fn counted<'a>(
     answers: Vec<Asked<'a>>,
-    place: impl Fn(Refusal) -> Place,
-) -> Vec<Result<Option<Name<'a>>, Place>> {
+    place: impl Fn(Refusal) -> Where,
+) -> Vec<Result<Option<Name<'a>>, Where>> {
     let answers = answers.into_iter();
     answers.map(|answer| answer.map_err(&place)).collect()
 }
@@ -449,5 +485,7 @@ fn modules() {
     let hints = [0x01, 0x02, 0x01, 0x05, 0x01, 0x01];
     let whole = module(&[custom(HINTS_NAME, &hints), custom("name", &EVERY_ID)]);
     near(&whole).for_each(|bytes| module_agrees(&bytes));
+    let older = module(&[custom(OLD_HINTS_NAME, &[0]), custom("name", &[])]);
+    near(&older).for_each(|bytes| module_agrees(&bytes));
     generated(500).for_each(|bytes| module_agrees(&module(&[bytes])));
 }

@@ -4,8 +4,12 @@
 const HEADER: &str = include_str!("../../../include/wakemiono.h");
 const DECLARED: &str = concat!(
     include_str!("../src/ffi.rs"),
-    include_str!("../src/ffi/pairs.rs")
+    include_str!("../src/ffi/pairs.rs"),
+    include_str!("../src/ffi/stream.rs")
 );
+
+/// How many numbers the state of a stream has behind its total, as the crate declares it.
+const REST: &str = "REST";
 
 /// What stands between two marks, the first time that the opening one occurs.
 fn between<'a>(text: &'a str, opening: &str, closing: &str) -> &'a str {
@@ -32,13 +36,21 @@ fn parameter(c: &str) -> String {
         "uint8_t" => "u8",
         "uint32_t" => "u32",
         "uint64_t" => "u64",
+        "wm_stream *" => "*mut State",
         other => panic!("the header has a type that is not known here: {other}"),
     };
-    let name = match &c[at..] {
-        "type" => "type_",
-        name => name,
-    };
-    format!("{name}: {type_}")
+    match &c[at..] {
+        "type" => format!("type_: {type_}"),
+        name => match name.split_once('[') {
+            Some((name, count)) => format!("{name}: [{type_}; {}", count.replace(&rest(), REST)),
+            None => format!("{name}: {type_}"),
+        },
+    }
+}
+
+/// The number that the crate has for those of a state.
+fn rest() -> String {
+    between(DECLARED, &format!("const {REST}: usize = "), ";").to_owned()
 }
 
 /// The type of an answer of the header as Rust declares it.
@@ -47,6 +59,8 @@ fn answer(c: &str) -> &'static str {
         "wm_answer" => "Answer",
         "wm_why" => "WhyAnswer",
         "wm_pair_answer" => "PairAnswer",
+        "wm_stream" => "State",
+        "wm_stream_answer" => "StreamAnswer",
         "uint32_t" => "u32",
         other => panic!("the header has an answer that is not known here: {other}"),
     }
@@ -57,7 +71,8 @@ fn answer(c: &str) -> &'static str {
 fn call(c: &str) -> Option<String> {
     let (head, behind) = c.split_once('(')?;
     let (type_, name) = head.trim().split_once(' ').expect("an answer and a name");
-    let parameters = behind.split_once(')').expect("they end").0.split(',');
+    let parameters = behind.split_once(')').expect("they end").0;
+    let parameters = parameters.split(',').filter(|c| *c != "void");
     let parameters: Vec<String> = parameters.map(|c| parameter(c.trim())).collect();
     let parameters = parameters.join(", ");
     Some(format!("fn {name}({parameters}) -> {}", answer(type_)))
@@ -86,7 +101,7 @@ fn in_crate() -> Vec<String> {
 #[test]
 fn every_call_is_declared_as_the_header_has_it() {
     assert_eq!(in_crate(), in_header());
-    assert_eq!(in_crate().len(), 91);
+    assert_eq!(in_crate().len(), 94);
 }
 
 /// The fields of a struct of the header, as Rust declares them.
@@ -101,11 +116,13 @@ fn fields(c_struct: &str) -> Vec<String> {
 }
 
 #[test]
-fn the_answers_are_declared_as_the_header_has_them() {
+fn the_structs_are_declared_as_the_header_has_them() {
     for (c, rust) in [
         ("} wm_answer;", "struct Answer {"),
         ("} wm_why;", "struct WhyAnswer {"),
         ("} wm_pair_answer;", "struct PairAnswer {"),
+        ("} wm_stream;", "struct State {"),
+        ("} wm_stream_answer;", "struct StreamAnswer {"),
     ] {
         let fields = fields(c);
         let declared = between(DECLARED, rust, "}").replace("pub(crate) ", "");

@@ -178,6 +178,19 @@ fn of_markers() {
     );
 }
 
+/// No call of this crate can be made to give them, but for parts of more bytes than there are.
+#[test]
+fn of_streams() {
+    let said = Reason::StreamFinished.to_string();
+    assert_eq!(
+        said,
+        "a part or a finish came after the finish of the stream"
+    );
+    let said = Reason::StreamTooLong.to_string();
+    let sentence = "a part takes the stream above 18,446,744,073,709,551,615 bytes";
+    assert_eq!(said, sentence);
+}
+
 #[test]
 fn of_pairs() {
     let (accepted, left_over) = (
@@ -235,13 +248,16 @@ fn as_errors() {
 }
 
 #[test]
-fn their_numbers_are_1_to_15_17_and_22() {
+fn their_numbers_are_1_to_15_17_18_22_and_28() {
     let numbers: Vec<u32> = Reason::ALL.iter().map(|reason| reason.number()).collect();
-    assert_eq!(numbers, (1..=15).chain([17, 22]).collect::<Vec<u32>>());
+    assert_eq!(
+        numbers,
+        (1..=15).chain([17, 18, 22, 28]).collect::<Vec<u32>>()
+    );
     for reason in Reason::ALL {
         assert_eq!(Reason::from_number(reason.number()), Some(*reason));
     }
-    for none in [0, 16, 18, 21, 23, u32::MAX] {
+    for none in [0, 16, 19, 21, 23, 27, 29, u32::MAX] {
         assert_eq!(Reason::from_number(none), None);
     }
 }
