@@ -3,7 +3,8 @@
 
 use crate::reading::Part;
 
-/// The answer to any call but those that say why and those on two payloads. Fields that a kind does not use are 0.
+/// The answer to any call but those that say why, those on two payloads and the finish of a stream.
+/// Fields that a kind does not use are 0.
 #[derive(Clone, Copy, Debug, PartialEq, Eq)]
 #[must_use]
 pub struct Answer {
@@ -53,6 +54,35 @@ pub struct PairAnswer {
     pub length: u64,
     /// Who supplied the thing found, or is refused.
     pub whose: Whose,
+}
+
+/// The answer to the finish of a stream. Fields that a kind does not use are 0, or none.
+#[derive(Clone, Copy, Debug, PartialEq, Eq)]
+#[must_use]
+pub struct StreamAnswer {
+    /// Found or refused.
+    pub kind: Kind,
+    /// The number of the refusal.
+    pub code: u32,
+    /// The offset that the rules give with a refusal.
+    pub offset: u64,
+    /// The count of sections.
+    pub length: u64,
+    /// Where the payload of names lies.
+    pub name: Option<Place>,
+    /// Where the payload of branch hints lies.
+    pub hints: Option<Place>,
+    /// Where the payload of hints of the older edition lies.
+    pub old_hints: Option<Place>,
+}
+
+/// Where a payload lies in a module that arrived.
+#[derive(Clone, Copy, Debug, PartialEq, Eq)]
+pub struct Place {
+    /// Its offset from the module's first byte.
+    pub offset: u64,
+    /// Its length in bytes.
+    pub length: u64,
 }
 
 /// Which of two payloads. Their numbers are fixed.
@@ -128,9 +158,13 @@ pub enum Reason {
     InputTooLarge = 16,
     /// The byte behind the function of an entry of the older hints is not zero.
     NotZero = 17,
+    /// A part or a finish of a stream comes after its finish.
+    AfterFinish = 18,
     /// The lists that the quick question is given are of unequal length, have an end outside the
     /// payload, do not rise, or do not stay below the end.
     NotMarkers = 22,
+    /// A part takes the total of a stream above 18,446,744,073,709,551,615 bytes.
+    StreamTooLong = 28,
 }
 
 impl Reason {
@@ -228,6 +262,21 @@ impl PairAnswer {
             offset: answer.offset,
             length: answer.length,
             whose,
+        }
+    }
+}
+
+/// The answer of the walk, or a refusal, without any places.
+impl From<Answer> for StreamAnswer {
+    fn from(answer: Answer) -> StreamAnswer {
+        StreamAnswer {
+            kind: answer.kind,
+            code: answer.code,
+            offset: answer.offset,
+            length: answer.length,
+            name: None,
+            hints: None,
+            old_hints: None,
         }
     }
 }

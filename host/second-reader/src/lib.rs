@@ -5,10 +5,10 @@
 //! the two give different answers for the same bytes, one of them misreads the rules.
 //!
 //! The functions are the calls of the C header under the same names, with slices for pointer and
-//! length. Each takes any bytes, ends in an [`Answer`], in a [`Why`], in a [`PairAnswer`] or, to a yes
-//! or no, in a `bool`, and asks for no prior check: a payload is judged whole before it is asked or
-//! rewritten, but for the quick question, which judges nothing, and a refusal changes no byte of an
-//! output.
+//! length. Each takes any bytes, ends in an [`Answer`], in a [`Why`], in a [`PairAnswer`], in a
+//! [`StreamAnswer`] or, to a yes or no, in a `bool`, and asks for no prior check: a payload is judged
+//! whole before it is asked or rewritten, but for the quick question, which judges nothing, and a
+//! refusal changes no byte of an output and nothing of a [`Stream`].
 //!
 //! Names have two editions, which differ in the table of ids alone: `wide_` begins the calls of the
 //! wider one. Hints have two as well, which have no list in common: `old_` begins the calls of the
@@ -37,6 +37,7 @@ mod number;
 mod older;
 mod pairs;
 mod reading;
+mod stream;
 mod telling;
 mod through;
 mod walk;
@@ -44,7 +45,7 @@ mod why;
 mod wide;
 mod writing;
 
-pub use answer::{Answer, Kind, PairAnswer, Reason, Whose, Why};
+pub use answer::{Answer, Kind, PairAnswer, Place, Reason, StreamAnswer, Whose, Why};
 pub use canonical::{hints_canonical, metadata_canonical, names_canonical, wide_names_canonical};
 pub use lists::function_names_write;
 pub use markers::{markers, quick_function_name};
@@ -60,6 +61,7 @@ pub use pairs::{
     wide_pair_kept, wide_pair_label_name, wide_pair_local_name, wide_pair_memory_name,
     wide_pair_module_name, wide_pair_table_name, wide_pair_tag_name, wide_pair_type_name,
 };
+pub use stream::{stream_begin, stream_finish, stream_part, Stream};
 pub use telling::{
     hints_is_canonical, metadata_is_canonical, names_is_canonical, old_hints_is_canonical,
     wide_names_is_canonical,

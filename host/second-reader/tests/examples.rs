@@ -153,5 +153,7 @@ fn numbers() {
     assert_eq!(whose.map(|whose| whose as u64), [0, 1, 2]);
     assert_eq!(Reason::Preamble as u32, 1);
     assert_eq!(Reason::InputTooLarge as u32, 16);
+    assert_eq!(Reason::AfterFinish as u32, 18);
     assert_eq!(Reason::NotMarkers as u32, 22);
+    assert_eq!(Reason::StreamTooLong as u32, 28);
 }
