@@ -4,6 +4,8 @@ use std::ffi::{c_int, c_void};
 use std::mem::size_of;
 use std::ptr;
 
+use crate::library::Stream;
+
 /// No page of a machine that runs x86-64 programs is larger.
 const PAGE: usize = 65_536;
 
@@ -65,6 +67,13 @@ impl Guarded {
         let place = self.last(len * size_of::<u32>());
         // SAFETY: the room ends at a page, so this start is aligned; any bytes are numbers, and they are borrowed.
         unsafe { std::slice::from_raw_parts_mut(place.as_mut_ptr().cast::<u32>(), len) }
+    }
+
+    /// The last state of a stream before the barred page.
+    pub fn last_stream(&mut self) -> &mut Stream {
+        let place = self.last(size_of::<Stream>());
+        // SAFETY: the room ends at a page, so this start is aligned; any bytes are a state, and they are borrowed.
+        unsafe { &mut *place.as_mut_ptr().cast::<Stream>() }
     }
 
     /// Bytes copied to the very end.

@@ -4,7 +4,7 @@
 // The crate that links the library is used for nothing else here.
 use wakemiono as _;
 
-/// The answer of every call but those to a yes or no, those that say why, and those on two payloads.
+/// The answer of every call but those to a yes or no, those that say why, those on two payloads and the finish of a stream.
 #[derive(Clone, Copy, Debug, PartialEq, Eq)]
 #[repr(C)]
 pub struct Told {
@@ -54,6 +54,51 @@ pub struct ToldPair {
     pub length: u64,
     /// Which payload it is of.
     pub whose: u64,
+}
+
+/// How many numbers the state of a stream has behind its total.
+const REST: usize = 14;
+
+/// The state of a stream. There is no padding in it, so that two are equal exactly if all their bytes are.
+#[derive(Clone, Debug, PartialEq, Eq)]
+#[repr(C)]
+pub struct Stream {
+    /// How many bytes were taken.
+    pub total: u64,
+    /// What is the library's own; open, so that any state can be made up.
+    pub rest: [u64; REST],
+}
+
+/// The answer to the finish of a stream.
+#[derive(Clone, Copy, Debug, Default, PartialEq, Eq)]
+#[repr(C)]
+pub struct ToldStream {
+    /// Found or refused.
+    pub kind: u32,
+    /// The number of a refusal.
+    pub code: u32,
+    /// Where the fault lies in all that came.
+    pub offset: u64,
+    /// How many sections there are.
+    pub length: u64,
+    /// Where the payload of names lies.
+    pub name: ToldPlace,
+    /// Where the payload of branch hints lies.
+    pub hints: ToldPlace,
+    /// Where the payload of hints of the older edition lies.
+    pub old_hints: ToldPlace,
+}
+
+/// Three fields of it, which say where a payload lies.
+#[derive(Clone, Copy, Debug, Default, PartialEq, Eq)]
+#[repr(C)]
+pub struct ToldPlace {
+    /// None or found.
+    pub kind: u64,
+    /// Its offset from the module's first byte.
+    pub offset: u64,
+    /// Its length in bytes.
+    pub length: u64,
 }
 
 /// The kind of an answer without what was asked for.
@@ -140,6 +185,40 @@ impl From<second_reader::PairAnswer> for ToldPair {
             offset: answer.offset,
             length: answer.length,
             whose: answer.whose as u64,
+        }
+    }
+}
+
+impl From<Told> for ToldPlace {
+    fn from(told: Told) -> ToldPlace {
+        ToldPlace {
+            kind: told.kind.into(),
+            offset: told.offset,
+            length: told.length,
+        }
+    }
+}
+
+impl From<Option<second_reader::Place>> for ToldPlace {
+    fn from(place: Option<second_reader::Place>) -> ToldPlace {
+        place.map_or(ToldPlace::default(), |place| ToldPlace {
+            kind: FOUND.into(),
+            offset: place.offset,
+            length: place.length,
+        })
+    }
+}
+
+impl From<second_reader::StreamAnswer> for ToldStream {
+    fn from(answer: second_reader::StreamAnswer) -> ToldStream {
+        ToldStream {
+            kind: answer.kind as u32,
+            code: answer.code,
+            offset: answer.offset,
+            length: answer.length,
+            name: answer.name.into(),
+            hints: answer.hints.into(),
+            old_hints: answer.old_hints.into(),
         }
     }
 }
@@ -364,6 +443,9 @@ extern "C" {
         end: u64,
         function: u32,
     ) -> Told;
+    fn wm_stream_begin() -> Stream;
+    fn wm_stream_part(stream: *mut Stream, part: *const u8, part_len: usize) -> Told;
+    fn wm_stream_finish(stream: *mut Stream) -> ToldStream;
 }
 
 /// `wm_custom` of the header, on slices.
@@ -440,4 +522,22 @@ pub fn quick_function_name(
             function,
         )
     }
+}
+
+/// `wm_stream_begin` of the header.
+pub fn stream_begin() -> Stream {
+    // SAFETY: nothing is lent.
+    unsafe { wm_stream_begin() }
+}
+
+/// `wm_stream_part` of the header, on a state and a slice.
+pub fn stream_part(stream: &mut Stream, part: &[u8]) -> Told {
+    // SAFETY: the state overlaps the live slice nowhere, any numbers are a state, and the call stores into it alone.
+    unsafe { wm_stream_part(stream, part.as_ptr(), part.len()) }
+}
+
+/// `wm_stream_finish` of the header, on a state.
+pub fn stream_finish(stream: &mut Stream) -> ToldStream {
+    // SAFETY: any numbers are a state, and the call stores into it alone.
+    unsafe { wm_stream_finish(stream) }
 }

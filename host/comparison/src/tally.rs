@@ -76,6 +76,8 @@ pub struct Tally {
     /// How often questions to two payloads, and joins of them, were answered in each way, by the names of the calls, the
     /// kinds of the answers and whose they are.
     pub pairs_met: BTreeMap<(&'static str, u32, u64), u64>,
+    /// How often modules that arrived in parts were to be accepted, which is 0 here, or refused, by the refusal numbers.
+    pub streams_met: BTreeMap<u32, u64>,
     /// What they said of metadata payloads, by the rules for any format.
     pub metadata_said: Said,
     /// What they said of metadata payloads, by the rules for hints.
@@ -102,6 +104,7 @@ impl Default for Tally {
             wide_said: Said::default(),
             wide_met: BTreeMap::new(),
             pairs_met: BTreeMap::new(),
+            streams_met: BTreeMap::new(),
             metadata_said: Said::default(),
             hints_said: Said::default(),
             old_said: Said::default(),
@@ -194,6 +197,7 @@ macro_rules! rewrite {
 mod markers;
 mod older;
 mod pairs;
+mod streams;
 mod why;
 mod wide;
 

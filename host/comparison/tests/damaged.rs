@@ -169,6 +169,22 @@ fn modules() {
     );
 }
 
+/// Modules that arrive, each damaged at every place and cut at every place.
+#[test]
+fn modules_as_they_arrive() {
+    const LEAST: u64 = 50;
+    let mut r = Random::new(seed());
+    let mut tally = Tally::default();
+    for _ in 0..12 {
+        for module in damaged(&small(made::module, &mut r)) {
+            tally.arrives(&module);
+            tally.arrives_at_random(&module, &mut r);
+        }
+    }
+    println!("compared {} calls", tally.calls);
+    tally.assert_streams_met(&[0, 1, 2, 3, 4, 5, 6], LEAST);
+}
+
 /// What a subsection that the wider edition knows holds, with names under keys that are asked for.
 fn with_names(id: u8) -> Contents {
     let entries = Entries::from([(0, b"a".to_vec()), (128, b"".to_vec())]);

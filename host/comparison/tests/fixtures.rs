@@ -5,6 +5,7 @@ use comparison::library::{
     self, custom, section, walk, Told, ToldPair, FOUND, LIKELY, OWN, REFUSED, SEPARATE, UNLIKELY,
 };
 use comparison::markers::Markers;
+use comparison::random::{seed, Random};
 use comparison::tally::{Judged, Said, Tally, HINTS, NAMES, OLD_HINTS};
 use second_reader::{Kind, Why};
 use std::collections::BTreeMap;
@@ -40,6 +41,12 @@ const LEAST_OF_PAIRS: u64 = 50;
 /// The questions to pairs of those whose names the third reading found, in each edition.
 const ASKED_OF_PAIRS: usize = 82_014;
 const ASKED_OF_PAIRS_WIDELY: usize = 55_532;
+
+/// How often each fixture arrives in parts that are cut at random.
+const RANDOM_ROUNDS: usize = 10;
+/// How many modules that arrived are accepted at least, lack a preamble or are cut off, and how many are refused otherwise.
+const LEAST_ARRIVED: u64 = 500;
+const LEAST_REFUSED: u64 = 20;
 
 /// Those that name more than sixteen functions, and their markers.
 const MARKED: (usize, usize) = (2, 60);
@@ -171,6 +178,23 @@ fn calls() {
         }
     }
     println!("compared {} calls", tally.calls);
+}
+
+/// Every fixture as it arrives: in two parts, byte by byte, and in many parts.
+#[test]
+fn as_they_arrive() {
+    let mut r = Random::new(seed());
+    let mut tally = Tally::default();
+    for path in modules() {
+        let module = fs::read(path).expect("a fixture can be read");
+        tally.arrives(&module);
+        for _ in 0..RANDOM_ROUNDS {
+            tally.arrives_at_random(&module, &mut r);
+        }
+    }
+    println!("compared {} calls", tally.calls);
+    tally.assert_streams_met(&[0, 1, 2], LEAST_ARRIVED);
+    tally.assert_streams_met(&[3, 4, 5, 6, 7, 8], LEAST_REFUSED);
 }
 
 /// What the third reading found, asked through the module: the question's words, then offset and length.

@@ -60,6 +60,25 @@ fn payloads_and_modules() {
     tally.assert_wide_met(2 * WIDE_QUESTIONS, LEAST_WIDE);
 }
 
+/// Modules as they arrive: each is cut at every place, and some are damaged first.
+#[test]
+fn modules_as_they_arrive() {
+    const LEAST: u64 = 50;
+    let mut r = Random::new(seed());
+    let mut tally = Tally::default();
+    for _ in 0..ROUNDS {
+        let mut module = made::module(&mut r);
+        if r.once_in(3) {
+            let at = r.below(module.len());
+            module[at] = r.number() as u8;
+        }
+        tally.arrives_at_random(&module, &mut r);
+        tally.arrives(&module);
+    }
+    println!("compared {} calls", tally.calls);
+    tally.assert_streams_met(&[0, 1, 2, 4, 5, 6], LEAST);
+}
+
 /// Payloads of either edition, each beside the one before, itself and nothing. Every third is damaged, so that each side is
 /// refused, too.
 #[test]
