@@ -9,7 +9,6 @@ use crate::input::Input;
 use crate::json::Json;
 use crate::payloads;
 use crate::question::{Answer, Question};
-use crate::refused::Refused;
 use crate::report::Failure;
 
 /// How a file begins that is a module. No name payload that is accepted begins so: by its first two
@@ -83,7 +82,7 @@ impl<E: Edition> Beside<E> {
         };
         let members = || [self.members(), vec![member(whose)]].concat();
         answer.map_err(|refusal| {
-            let refused = Refused::new(input, refusal).among(members());
+            let refused = input.refused(refusal).among(members());
             Failure::Refused(Box::new(refused))
         })
     }

@@ -11,18 +11,7 @@ use wakemiono::{CodeOffset, FunctionIndex, InstructionOffset};
 
 use crate::edition::Edition;
 use crate::question::{Kind, Question};
-
-/// The most bytes that a number takes.
-const LONGEST_NUMBER: u32 = 5;
-
-/// How many bits of a number stand in each of its bytes, the lowest ones in the first.
-const BITS_IN_A_BYTE: u32 = 7;
-
-/// Those bits.
-const BITS: u8 = 0x7F;
-
-/// The bit that says that the number goes on in the next byte.
-const GOES_ON: u8 = 0x80;
+use crate::reader::Reader;
 
 /// A question, and the answer as the canonical payload holds it.
 #[derive(Clone, Copy, Debug, PartialEq, Eq)]
@@ -96,39 +85,8 @@ pub fn old_hint_places(payload: &[u8]) -> Option<Vec<(FunctionIndex, Instruction
 /// A question, and the bytes that a subsection gives to it.
 type Held<'a> = (Question, &'a [u8]);
 
-/// What is still to be read. Nothing is reserved by a count before its elements are there.
-struct Reader<'a>(&'a [u8]);
-
+/// Nothing is reserved by a count before its elements are there.
 impl<'a> Reader<'a> {
-    fn is_at_end(&self) -> bool {
-        self.0.is_empty()
-    }
-
-    fn byte(&mut self) -> Option<u8> {
-        let (first, rest) = self.0.split_first()?;
-        self.0 = rest;
-        Some(*first)
-    }
-
-    fn number(&mut self) -> Option<u32> {
-        let mut value = 0;
-        for position in 0..LONGEST_NUMBER {
-            let byte = self.byte()?;
-            value |= u64::from(byte & BITS) << (BITS_IN_A_BYTE * position);
-            if byte & GOES_ON == 0 {
-                return u32::try_from(value).ok();
-            }
-        }
-        None
-    }
-
-    fn sized(&mut self) -> Option<&'a [u8]> {
-        let length = usize::try_from(self.number()?).ok()?;
-        let part = self.0.get(..length)?;
-        self.0 = &self.0[length..];
-        Some(part)
-    }
-
     /// All that the subsection with an id holds, which is of one kind.
     fn subsection(&mut self, id: u8, kind: Kind) -> Option<Vec<Held<'a>>> {
         let held = match kind {

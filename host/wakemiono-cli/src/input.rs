@@ -1,9 +1,10 @@
-//! Modules from files or from standard input.
+//! Modules from files or from standard input, read whole.
 
 use std::ffi::{OsStr, OsString};
 use std::fs::File;
 use std::io::{self, ErrorKind, Read};
 use std::marker::PhantomData;
+use std::ops::Range;
 
 use wakemiono::{First, Module, Refusal};
 
@@ -16,40 +17,33 @@ use crate::report::Failure;
 /// The word for standard input, and behind `-o` for standard output.
 pub const STANDARD_STREAM: &str = "-";
 
-/// What was read, the word for it on the command line, and the edition in which names are asked.
+/// The word for an input on the command line, and the edition in which names are asked.
 #[derive(Debug)]
-pub struct Input<E: Edition = First> {
+pub struct Source<E: Edition = First> {
     file: OsString,
-    bytes: Vec<u8>,
     edition: PhantomData<E>,
 }
 
-impl<E: Edition> Input<E> {
-    /// Reads a file, or standard input for `-`.
-    pub fn read(file: &OsStr) -> Result<Input<E>, Failure> {
-        let read = if file == STANDARD_STREAM {
-            read_all(io::stdin().lock())
-        } else {
-            File::open(file).and_then(read_all)
-        };
-        match read {
-            Ok(bytes) => Ok(Input {
-                file: file.to_owned(),
-                bytes,
-                edition: PhantomData,
-            }),
-            Err(error) => Err(Failure::Misuse(unreadable(&quoted_label(file), &error))),
+impl<E: Edition> Source<E> {
+    /// A file, or standard input for `-`.
+    pub fn of(file: &OsStr) -> Source<E> {
+        Source {
+            file: file.to_owned(),
+            edition: PhantomData,
         }
     }
 
-    /// The module, unchecked: each question to it checks it.
-    pub fn module(&self) -> Module<'_, E> {
-        Module::in_edition(&self.bytes)
-    }
-
-    /// The bytes.
-    pub fn bytes(&self) -> &[u8] {
-        &self.bytes
+    /// What is made of all that can be read there.
+    pub fn read<T>(
+        &self,
+        reading: impl FnOnce(&mut dyn Read) -> io::Result<T>,
+    ) -> Result<T, Failure> {
+        let read = if self.file == STANDARD_STREAM {
+            reading(&mut io::stdin().lock())
+        } else {
+            File::open(&self.file).and_then(|mut file| reading(&mut file))
+        };
+        read.map_err(|error| Failure::Misuse(unreadable(&quoted_label(&self.file), &error)))
     }
 
     /// What people call it: the path on one line, or `standard input`.
@@ -66,10 +60,60 @@ impl<E: Edition> Input<E> {
     pub fn members(&self) -> Vec<(&'static str, Json)> {
         [vec![("file", self.file())], E::members()].concat()
     }
+}
+
+/// A module that was read whole, and where it was read from.
+#[derive(Debug)]
+pub struct Input<E: Edition = First> {
+    source: Source<E>,
+    bytes: Vec<u8>,
+}
+
+impl<E: Edition> Input<E> {
+    /// Reads a file, or standard input for `-`.
+    pub fn read(file: &OsStr) -> Result<Input<E>, Failure> {
+        let source = Source::of(file);
+        let bytes = source.read(read_all)?;
+        Ok(Input { source, bytes })
+    }
+
+    /// The module, unchecked: each question to it checks it.
+    pub fn module(&self) -> Module<'_, E> {
+        Module::in_edition(&self.bytes)
+    }
+
+    /// The bytes.
+    pub fn bytes(&self) -> &[u8] {
+        &self.bytes
+    }
+
+    /// What people call it.
+    pub fn label(&self) -> String {
+        self.source.label()
+    }
+
+    /// What scripts know it by.
+    pub fn file(&self) -> Json {
+        self.source.file()
+    }
+
+    /// What JSON says first.
+    pub fn members(&self) -> Vec<(&'static str, Json)> {
+        self.source.members()
+    }
+
+    /// A refusal, with the bytes around the fault.
+    pub fn refused(&self, refusal: Refusal) -> Refused {
+        let bytes = |shown: Range<u64>| {
+            let [start, end] = [shown.start, shown.end].map(usize::try_from);
+            self.bytes.get(start.ok()?..end.ok()?)
+        };
+        Refused::new(&self.source, refusal, self.bytes.len() as u64, bytes)
+    }
 
     /// What an answer of the library to this input means for a command: a refusal ends it.
     pub fn accepted<T>(&self, answer: Result<T, Refusal>) -> Result<T, Failure> {
-        answer.map_err(|refusal| Failure::Refused(Box::new(Refused::new(self, refusal))))
+        answer.map_err(|refusal| Failure::Refused(Box::new(self.refused(refusal))))
     }
 }
 
@@ -90,7 +134,7 @@ fn quoted_label(file: &OsStr) -> String {
     }
 }
 
-fn read_all(mut from: impl Read) -> io::Result<Vec<u8>> {
+fn read_all(from: &mut dyn Read) -> io::Result<Vec<u8>> {
     let mut bytes = Vec::new();
     from.read_to_end(&mut bytes)?;
     Ok(bytes)

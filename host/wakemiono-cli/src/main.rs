@@ -2,20 +2,25 @@
 //!
 //! Every name, reason for none, hint, judgement, refusal and rewriting that is printed comes from the
 //! proved library behind the crate `wakemiono`, and so do the places of the payloads in `list`. The
-//! sections that it lists come from `wakemiono::Sections`: plain Rust, which steps over a module that
-//! the library has accepted and is held to the library's `wm_section` by tests. This program only
+//! sections that it lists are found here: plain Rust (`heads.rs`), which steps over a module that the
+//! library accepts and counts, and is held to the library's `wm_section` by tests. This program only
 //! reads and writes files, finds out what there is to ask, and sets the answers in lines or JSON.
+//!
+//! `list` and `judge` give a module to the library as it is read and do not hold it whole
+//! (`arriving.rs`); the others ask more than one question, and read it whole first (`input.rs`).
 
 #![forbid(unsafe_code)]
 #![deny(missing_docs)]
 
 mod arguments;
+mod arriving;
 mod beside;
 mod canonical;
 mod commands;
 mod dump;
 mod edition;
 mod escape;
+mod heads;
 mod help;
 mod input;
 mod json;
@@ -24,8 +29,10 @@ mod output;
 mod parallel;
 mod payloads;
 mod question;
+mod reader;
 mod refused;
 mod report;
+mod sparse;
 
 use std::env;
 use std::process::ExitCode;

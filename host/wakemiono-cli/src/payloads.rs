@@ -7,6 +7,9 @@ use wakemiono::{
 
 use crate::report::Failure;
 
+/// The name of the section with names.
+pub const NAMES: &str = "name";
+
 /// The name of the section with branch hints.
 pub const HINTS: &str = "metadata.code.branch_hint";
 

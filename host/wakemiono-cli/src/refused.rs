@@ -1,10 +1,12 @@
 //! A refusal of the library, as it is said to people and in JSON.
 
+use std::ops::Range;
+
 use wakemiono::Refusal;
 
 use crate::dump;
 use crate::edition::Edition;
-use crate::input::Input;
+use crate::input::Source;
 use crate::json::Json;
 
 /// A refusal together with what a person needs to find the fault: which input, and the bytes there.
@@ -14,21 +16,30 @@ pub struct Refused {
     input: Vec<(&'static str, Json)>,
     refusal: Refusal,
     rows: Vec<String>,
-    bytes_from: usize,
+    bytes_from: u64,
     bytes: Vec<u8>,
 }
 
 impl Refused {
-    /// The refusal of an input. Its offset counts from the start of the whole file.
-    pub fn new<E: Edition>(input: &Input<E>, refusal: Refusal) -> Refused {
-        let around = dump::around(input.bytes(), refusal.offset()).unwrap_or_default();
+    /// The refusal of an input of a length, of which some bytes may be asked for. Its offset counts
+    /// from the start of the whole file.
+    pub fn new<'a, E: Edition>(
+        source: &Source<E>,
+        refusal: Refusal,
+        length: u64,
+        bytes: impl FnOnce(Range<u64>) -> Option<&'a [u8]>,
+    ) -> Refused {
+        let place = refusal.offset();
+        let shown = dump::around(length, place);
+        let bytes_from = shown.as_ref().map_or(0, |shown| shown.start);
+        let bytes = shown.and_then(bytes);
         Refused {
-            label: input.label(),
-            input: input.members(),
+            label: source.label(),
+            input: source.members(),
             refusal,
-            rows: dump::rows(input.bytes(), refusal.offset()),
-            bytes_from: around.start,
-            bytes: input.bytes()[around].to_vec(),
+            rows: bytes.map_or(Vec::new(), |bytes| dump::rows(bytes_from, bytes, place)),
+            bytes_from,
+            bytes: bytes.unwrap_or_default().to_vec(),
         }
     }
 
@@ -82,7 +93,7 @@ impl Refused {
             ("offset_hex", Json::text(format!("{offset:#X}"))),
             ("sentence", Json::text(self.refusal.to_string())),
             ("advice", Json::text(self.refusal.reason().advice())),
-            ("bytes_from", Json::size(self.bytes_from)),
+            ("bytes_from", Json::Number(self.bytes_from)),
             ("bytes", Json::bytes(&self.bytes)),
         ])
     }

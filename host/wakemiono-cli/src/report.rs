@@ -130,8 +130,8 @@ impl Failure {
                 Report::ending(Status::Bad, "").saying(format!("wakemiono: {}", refused.words()))
             }
             Failure::Misfit => Report::misuse(
-                "the library's canonical rewriting does not read as the format's rules say: \
-                 build this program with the library that belongs to it.",
+                "the library contradicts itself: build this program with the library that belongs \
+                 to it.",
             ),
         }
     }

@@ -1,13 +1,15 @@
 //! `judge`: whether a module and its payloads are accepted, and the payloads canonical.
 
-use wakemiono::Refusal;
+use std::ffi::OsStr;
 
+use wakemiono::{Hints, NamePayload, OldHints, Place, Refusal, Walked};
+
+use crate::arriving::Arrived;
 use crate::edition::Edition;
-use crate::input::Input;
 use crate::json::Json;
-use crate::payloads;
+use crate::payloads::{HINTS, NAMES, OLD_HINTS};
 use crate::refused::Refused;
-use crate::report::{Report, Status};
+use crate::report::{Failure, Report, Status};
 
 /// What there is to say of a module or of one of its payloads.
 enum Verdict {
@@ -25,18 +27,6 @@ enum Verdict {
 }
 
 impl Verdict {
-    fn of<E: Edition>(input: &Input<E>, judged: Result<Verdict, Refusal>) -> Verdict {
-        judged.unwrap_or_else(|refusal| Verdict::Refused(Refused::new(input, refusal)))
-    }
-
-    /// By whether the accepted payload is canonical; none without the section.
-    fn of_payload(canonical: Option<bool>) -> Verdict {
-        match canonical {
-            Some(canonical) => Verdict::AcceptedPayload { canonical },
-            None => Verdict::None,
-        }
-    }
-
     fn word(&self) -> &'static str {
         match self {
             Verdict::Accepted | Verdict::AcceptedPayload { .. } => "accepted",
@@ -79,48 +69,75 @@ impl Verdict {
 }
 
 /// Judges the module and then its payloads, each whatever is wrong with the other.
-pub fn run<E: Edition>(input: &Input<E>, json: bool) -> Report {
-    let verdicts = verdicts(input);
+pub fn run<E: Edition>(file: &OsStr, json: bool) -> Result<Report, Failure> {
+    let module = Arrived::<E>::read(file, &[NAMES, HINTS, OLD_HINTS])?;
+    let verdicts = verdicts(&module)?;
     let accepted = !verdicts.iter().any(|(_, verdict)| verdict.is_refused());
     let status = Status::good_if(accepted);
     if json {
-        return Report::json(status, &document(input, accepted, &verdicts));
+        let document = document(module.members(), accepted, &verdicts);
+        return Ok(Report::json(status, &document));
     }
     let line = |(word, verdict): &(&str, Verdict)| format!("{word} {}", verdict.lines());
-    Report::ending(status, verdicts.iter().map(line).collect::<String>())
+    let lines = verdicts.iter().map(line).collect::<String>();
+    Ok(Report::ending(status, lines))
 }
 
-fn verdicts<E: Edition>(input: &Input<E>) -> [(&'static str, Verdict); 4] {
-    let module = input.module();
-    let of_module = Verdict::of(input, module.section_count().map(|_| Verdict::Accepted));
-    let [name, hints, old_hints] = if of_module.is_refused() {
-        [Verdict::NotAsked, Verdict::NotAsked, Verdict::NotAsked]
-    } else {
-        of_payloads(input)
+fn verdicts<E: Edition>(module: &Arrived<E>) -> Result<[(&'static str, Verdict); 4], Failure> {
+    let (of_module, [name, hints, old_hints]) = match module.walked {
+        Ok(walked) => (Verdict::Accepted, of_payloads(module, walked)?),
+        Err(refusal) => (
+            Verdict::Refused(module.refused(refusal)),
+            [Verdict::NotAsked, Verdict::NotAsked, Verdict::NotAsked],
+        ),
     };
-    [
+    Ok([
         ("module", of_module),
         ("name", name),
         ("hints", hints),
         ("old_hints", old_hints),
-    ]
+    ])
 }
 
 /// Of the names and of the hints of both editions, in an accepted module.
-fn of_payloads<E: Edition>(input: &Input<E>) -> [Verdict; 3] {
-    let module = input.module();
-    let names = payloads::names(module).map(|it| it.map(|names| names.is_canonical()));
-    let hints = payloads::hints(module).map(|it| it.map(|hints| hints.is_canonical()));
-    let old_hints = payloads::old_hints(module).map(|it| it.map(|hints| hints.is_canonical()));
-    [names, hints, old_hints].map(|judged| Verdict::of(input, judged.map(Verdict::of_payload)))
+fn of_payloads<E: Edition>(module: &Arrived<E>, walked: Walked) -> Result<[Verdict; 3], Failure> {
+    Ok([
+        of_payload(module, walked.name, |bytes| {
+            let names = NamePayload::<E>::in_edition(bytes);
+            names.judge().map(|()| names.is_canonical())
+        })?,
+        of_payload(module, walked.hints, |bytes| {
+            let hints = Hints::new(bytes);
+            hints.judge().map(|()| hints.is_canonical())
+        })?,
+        of_payload(module, walked.old_hints, |bytes| {
+            let hints = OldHints::new(bytes);
+            hints.judge().map(|()| hints.is_canonical())
+        })?,
+    ])
 }
 
-fn document<E: Edition>(
-    input: &Input<E>,
+/// Of a payload, by whether it is canonical where it is accepted. A refusal counts from the start of
+/// the file that the person has, and not from the start of a payload in it.
+fn of_payload<E: Edition>(
+    module: &Arrived<E>,
+    place: Option<Place>,
+    is_canonical: impl FnOnce(&[u8]) -> Result<bool, Refusal>,
+) -> Result<Verdict, Failure> {
+    let Some(place) = place else {
+        return Ok(Verdict::None);
+    };
+    Ok(match is_canonical(module.payload(place)?) {
+        Ok(canonical) => Verdict::AcceptedPayload { canonical },
+        Err(refusal) => Verdict::Refused(module.refused(refusal.in_module(place))),
+    })
+}
+
+fn document(
+    mut members: Vec<(&'static str, Json)>,
     accepted: bool,
     verdicts: &[(&'static str, Verdict)],
 ) -> Json {
-    let mut members = input.members();
     members.push(("accepted", Json::Bool(accepted)));
     let judged = verdicts.iter();
     members.extend(judged.map(|(word, verdict)| (*word, verdict.json())));

@@ -30,7 +30,7 @@ pub fn run(command: &Command, wide: bool, json: bool) -> Result<Report, Failure>
 
 fn run_in<E: Edition>(command: &Command, json: bool) -> Result<Report, Failure> {
     match command {
-        Command::List(file) => list::run(&Input::read(file)?, json),
+        Command::List(file) => list::run(file, json),
         Command::Names(file, kind) => names::run(&Input::<E>::read(file)?, *kind, json),
         Command::NamesBeside(file, names, kind) => {
             names::run_beside(&Beside::<E>::read(file, names)?, *kind, json)
@@ -47,6 +47,6 @@ fn run_in<E: Edition>(command: &Command, json: bool) -> Result<Report, Failure> 
         Command::CanonOldHints(file, out) => canon::old_hints(file, out.as_deref(), json),
         Command::Join(file, names, out) => join::run::<E>(file, names, out.as_deref(), json),
         Command::Same(a, b) => same::run(&Input::<E>::read(a)?, &Input::read(b)?, json),
-        Command::Judge(file) => Ok(judge::run(&Input::<E>::read(file)?, json)),
+        Command::Judge(file) => judge::run::<E>(file, json),
     }
 }

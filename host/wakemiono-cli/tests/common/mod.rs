@@ -97,7 +97,7 @@ pub struct Run {
 }
 
 impl Run {
-    fn of(output: Output) -> Run {
+    pub fn of(output: Output) -> Run {
         Run {
             status: output.status.code().expect("the program is not killed"),
             bytes: output.stdout,

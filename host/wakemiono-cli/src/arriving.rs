@@ -1,0 +1,381 @@
+//! A module that is read in parts and not held whole: what the library says of it, and the few of its
+//! bytes that are shown or judged.
+
+use std::ffi::OsStr;
+use std::io::{self, BufReader, Read, Write};
+use std::ops::Range;
+
+use wakemiono::{Place, Refusal, Section, Stream, Walked};
+
+use crate::edition::Edition;
+use crate::heads::{Head, CUSTOM};
+use crate::input::Source;
+use crate::json::Json;
+use crate::refused::Refused;
+use crate::report::Failure;
+use crate::sparse::Sparse;
+
+/// How many bytes are read at once: as many as a pipe holds.
+const PART: usize = 1 << 16;
+
+/// How many bytes a module has before its sections.
+const PREAMBLE_LENGTH: u64 = 8;
+
+/// How many bytes of contents that are left out are kept at each end. All that a refusal shows lies as
+/// near to a head or a payload: three rows of a dump, and what a head has.
+const NEAR: u64 = 64;
+
+/// A module has no more sections than this that are not custom, since each id occurs once.
+const MOST_NOT_CUSTOM: usize = 13;
+
+/// A module that has been read to its end.
+#[derive(Debug)]
+pub struct Arrived<E: Edition> {
+    source: Source<E>,
+    /// What the library has found.
+    pub walked: Result<Walked, Refusal>,
+    /// The sections, where the module is accepted.
+    pub sections: Vec<Section>,
+    length: u64,
+    kept: Sparse,
+}
+
+impl<E: Edition> Arrived<E> {
+    /// Reads a file, or standard input for `-`, and keeps the payloads of the custom sections of these
+    /// names, of each the first.
+    pub fn read(file: &OsStr, payloads: &[&'static str]) -> Result<Arrived<E>, Failure> {
+        let source = Source::of(file);
+        let arriving = source.read(|from| Arriving::copied(from, payloads))?;
+        Arrived::of(source, arriving)
+    }
+
+    fn of(source: Source<E>, arriving: Arriving) -> Result<Arrived<E>, Failure> {
+        let length = arriving.stream.total();
+        let walked = arriving.stream.finish();
+        // The library counts the sections, and here it is learned where they lie.
+        let counted = walked.map(|walked| walked.section_count);
+        if counted.is_ok_and(|count| count != arriving.sections.len() as u64) {
+            return Err(Failure::Misfit);
+        }
+        Ok(Arrived {
+            source,
+            walked,
+            sections: arriving.sections,
+            length,
+            kept: arriving.kept,
+        })
+    }
+
+    /// The payload at a place that the library has found, of one of the names that are kept.
+    pub fn payload(&self, place: Place) -> Result<&[u8], Failure> {
+        let end = place.offset + place.length;
+        self.kept.get(place.offset..end).ok_or(Failure::Misfit)
+    }
+
+    /// What scripts know the input by.
+    pub fn file(&self) -> Json {
+        self.source.file()
+    }
+
+    /// What JSON says first.
+    pub fn members(&self) -> Vec<(&'static str, Json)> {
+        self.source.members()
+    }
+
+    /// A refusal, with the bytes around the fault.
+    pub fn refused(&self, refusal: Refusal) -> Refused {
+        let bytes = |shown| self.kept.get(shown);
+        Refused::new(&self.source, refusal, self.length, bytes)
+    }
+}
+
+/// A module of which not all has been read yet.
+#[derive(Debug)]
+struct Arriving {
+    stream: Stream,
+    /// The names of the sections whose payloads are still to be kept.
+    wanted: Vec<&'static str>,
+    sections: Vec<Section>,
+    /// How many of them are not custom.
+    not_custom: usize,
+    kept: Sparse,
+    /// Where the next byte stands.
+    at: u64,
+    step: Step,
+}
+
+/// What stands where the next byte does.
+#[derive(Debug)]
+enum Step {
+    /// The head of a section, which begins there.
+    Head(u64),
+    Contents(Contents),
+}
+
+/// Contents that are kept whole, or at their ends.
+#[derive(Debug)]
+struct Contents {
+    place: Range<u64>,
+    whole: bool,
+}
+
+impl Contents {
+    /// Whether the byte at an offset is kept, and up to where this is so of all bytes.
+    fn is_kept(&self, at: u64) -> (bool, u64) {
+        let Range { start, end } = self.place;
+        let (left_out, again) = (start.saturating_add(NEAR), end.saturating_sub(NEAR));
+        if self.whole || left_out >= again || at >= again {
+            (true, end)
+        } else if at < left_out {
+            (true, left_out)
+        } else {
+            (false, again)
+        }
+    }
+}
+
+impl Arriving {
+    fn copied(from: &mut dyn Read, wanted: &[&'static str]) -> io::Result<Arriving> {
+        let mut arriving = Arriving::new(wanted);
+        io::copy(&mut BufReader::with_capacity(PART, from), &mut arriving)?;
+        Ok(arriving)
+    }
+
+    fn new(wanted: &[&'static str]) -> Arriving {
+        Arriving {
+            stream: Stream::new(),
+            wanted: wanted.to_vec(),
+            sections: Vec::new(),
+            not_custom: 0,
+            kept: Sparse::default(),
+            at: 0,
+            step: Step::Contents(Contents {
+                place: 0..PREAMBLE_LENGTH,
+                whole: true,
+            }),
+        }
+    }
+
+    /// Keeps what is to be kept of a part, and learns of the sections in it.
+    fn follow(&mut self, mut part: &[u8]) {
+        while !part.is_empty() {
+            let (is_kept, until) = match &self.step {
+                Step::Head(_) => (true, self.at + 1),
+                Step::Contents(contents) => contents.is_kept(self.at),
+            };
+            let length =
+                usize::try_from(until - self.at).map_or(part.len(), |it| it.min(part.len()));
+            let (now, later) = part.split_at(length);
+            if is_kept {
+                self.kept.keep(self.at, now);
+            }
+            self.at += length as u64;
+            part = later;
+            self.go_on();
+        }
+    }
+
+    /// From a head to the contents, where it is whole, and from contents to the next head, where they
+    /// are over.
+    fn go_on(&mut self) {
+        if let Step::Head(head_at) = self.step {
+            self.read_head(head_at);
+        }
+        if matches!(&self.step, Step::Contents(contents) if contents.place.end == self.at) {
+            self.step = Step::Head(self.at);
+        }
+    }
+
+    fn read_head(&mut self, head_at: u64) {
+        let bytes = self.kept.get(head_at..self.at).unwrap_or_default();
+        match Head::of(bytes) {
+            Head::Cut => {}
+            Head::Whole { id, .. } if id != CUSTOM && self.not_custom == MOST_NOT_CUSTOM => {
+                self.skip_all();
+            }
+            Head::Unacceptable => self.skip_all(),
+            Head::Whole {
+                id,
+                before_contents,
+                length,
+                name,
+            } => {
+                let wanted = self
+                    .wanted
+                    .iter()
+                    .position(|it| Some(it.as_bytes()) == name);
+                let start = head_at + before_contents as u64;
+                let length = u64::from(length);
+                self.step = Step::Contents(Contents {
+                    place: start..start.saturating_add(length),
+                    whole: wanted.is_some(),
+                });
+                wanted.map(|position| self.wanted.swap_remove(position));
+                self.not_custom += usize::from(id != CUSTOM);
+                self.sections.push(Section {
+                    id,
+                    offset: head_at,
+                    length,
+                });
+            }
+        }
+    }
+
+    /// The library will refuse what stands here or before, and no section behind it is of use.
+    fn skip_all(&mut self) {
+        self.step = Step::Contents(Contents {
+            place: self.at..u64::MAX,
+            whole: false,
+        });
+    }
+}
+
+/// All that is written goes to the library's stream as well.
+impl Write for Arriving {
+    fn write(&mut self, part: &[u8]) -> io::Result<usize> {
+        let taken = self.stream.write(part)?;
+        self.follow(&part[..taken]);
+        Ok(taken)
+    }
+
+    fn flush(&mut self) -> io::Result<()> {
+        self.stream.flush()
+    }
+}
+
+#[cfg(test)]
+mod tests {
+    use wakemiono::{First, Module};
+
+    use super::*;
+    use crate::dump;
+    use crate::payloads::{HINTS, NAMES, OLD_HINTS};
+
+    const ALL: [&str; 3] = [NAMES, HINTS, OLD_HINTS];
+
+    const PREAMBLE: &[u8] = b"\0asm\x01\0\0\0";
+
+    fn section(id: u8, contents: &[u8]) -> Vec<u8> {
+        let length = contents.len();
+        [&[id, length as u8 | 0x80, (length >> 7) as u8], contents].concat()
+    }
+
+    fn custom(name: &str, payload: &[u8]) -> Vec<u8> {
+        section(0, &[&[name.len() as u8], name.as_bytes(), payload].concat())
+    }
+
+    /// Contents of which no two rows are alike.
+    fn long(length: usize) -> Vec<u8> {
+        (0..length).map(|at| (at / 3) as u8).collect()
+    }
+
+    /// Each payload with long and with short contents around it, some at ends of what is kept.
+    fn module() -> Vec<u8> {
+        let sections = [
+            custom("x", &long(500)),
+            custom(OLD_HINTS, &[1, 2, 3]),
+            custom("", &long(127)),
+            section(1, &long(128)),
+            section(3, &long(129)),
+            custom(HINTS, &long(300)),
+            custom("y", &[]),
+            section(10, &long(1_000)),
+            custom(NAMES, &[]),
+            custom("metadata.code.branch_hint.and.more", &long(200)),
+        ];
+        [PREAMBLE, &sections.concat()].concat()
+    }
+
+    fn arrived(parts: &[&[u8]]) -> Arrived<First> {
+        let mut arriving = Arriving::new(&ALL);
+        for part in parts {
+            arriving.write_all(part).expect("it is taken");
+        }
+        Arrived::of(Source::of(OsStr::new("-")), arriving).expect("the counts agree")
+    }
+
+    /// What is shown around a place is what stands there.
+    #[track_caller]
+    fn shows(arrived: &Arrived<First>, bytes: &[u8], place: u64) {
+        let shown = dump::around(bytes.len() as u64, place).expect("a place in the module");
+        let [start, end] = [shown.start, shown.end].map(|at| at as usize);
+        let kept = arrived.kept.get(shown);
+        assert_eq!(kept, Some(&bytes[start..end]), "around {place}");
+    }
+
+    /// All that is asked of a module that arrived is what the whole of it gives.
+    fn agrees(arrived: &Arrived<First>, bytes: &[u8]) {
+        let module = Module::new(bytes);
+        let walked = match arrived.walked {
+            Ok(walked) => walked,
+            Err(refusal) => {
+                assert_eq!(module.section_count(), Err(refusal));
+                return shows(arrived, bytes, refusal.offset());
+            }
+        };
+        let sections: Vec<Section> = module.sections().expect("accepted").collect();
+        assert_eq!(arrived.sections, sections);
+        let places = [walked.name, walked.hints, walked.old_hints];
+        for (name, place) in ALL.into_iter().zip(places) {
+            let payload = place.map(|place| arrived.payload(place).expect("it was kept"));
+            assert_eq!(Ok(payload), module.custom(name));
+            let places = place.map(|place| place.offset..=place.offset + place.length);
+            for at in places.into_iter().flatten() {
+                shows(arrived, bytes, at);
+            }
+        }
+    }
+
+    #[test]
+    fn however_it_is_cut() {
+        let module = module();
+        for at in 0..=module.len() {
+            let (one, other) = module.split_at(at);
+            agrees(&arrived(&[one, other]), &module);
+            agrees(&arrived(&[one]), one);
+        }
+        let bytes: Vec<&[u8]> = module.chunks(1).collect();
+        agrees(&arrived(&bytes), &module);
+    }
+
+    #[test]
+    fn whatever_is_wrong_with_it() {
+        let module = module();
+        for at in 0..module.len() {
+            for change in [0x00, 0x01, 0x0B, 0x7F, 0x80, 0xFF] {
+                let mut changed = module.clone();
+                changed[at] = change;
+                agrees(&arrived(&[&changed]), &changed);
+            }
+        }
+    }
+
+    #[test]
+    fn a_second_payload_of_a_name_is_left_out() {
+        let second = custom(NAMES, &long(1_000));
+        let module = [PREAMBLE, &custom(NAMES, &[]), &second, &second].concat();
+        let arrived = arrived(&[&module]);
+        assert_eq!(arrived.walked.map_err(|refusal| refusal.number()), Err(7));
+        assert_eq!(arrived.kept.get(15..module.len() as u64), None);
+        agrees(&arrived, &module);
+    }
+
+    /// Sections without end that the library refuses are not listed to their end.
+    #[test]
+    fn what_cannot_be_accepted_is_left_out() {
+        let many = 10_000;
+        for sections in [
+            vec![0; many],
+            [1, 0].repeat(many),
+            [14, 1].repeat(many),
+            vec![0xFF; many],
+            [0, 1, 1].repeat(many),
+        ] {
+            let module = [PREAMBLE, &sections].concat();
+            let arrived = arrived(&[&module]);
+            assert!(arrived.sections.len() <= MOST_NOT_CUSTOM);
+            assert_eq!(arrived.kept.get(0..300), None);
+            agrees(&arrived, &module);
+        }
+    }
+}

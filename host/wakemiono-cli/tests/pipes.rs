@@ -1,0 +1,169 @@
+//! Modules that come through a pipe: `list` and `judge` read them without holding them, and say the same
+//! as the commands that do.
+
+mod common;
+
+use std::fs;
+use std::io::Write;
+use std::path::{Path, PathBuf};
+use std::process::{Child, Stdio};
+
+use common::{fed, program, Run, BARE, MODULE};
+
+/// The bytes of contents that are left out of a module of 4 GB.
+const ZEROS: usize = 4_000_000_000;
+
+/// How many of them are written at once.
+const WRITTEN_AT_ONCE: usize = 1 << 20;
+
+/// The most memory that the program may take, in KiB, also where an emulator runs it, whose own memory
+/// then counts; and by how much it may grow from the first megabyte to the last.
+const MOST: u64 = 64 * 1_024;
+const MOST_GROWTH: u64 = 1_024;
+
+/// The most memory that a running process has taken so far, in KiB.
+fn peak(child: &Child) -> u64 {
+    let status = fs::read_to_string(format!("/proc/{}/status", child.id())).unwrap();
+    let line = status.lines().find_map(|line| line.strip_prefix("VmHWM:"));
+    let words = line.expect("a process has a peak").split_whitespace();
+    words.map(str::parse).next().unwrap().unwrap()
+}
+
+/// Runs the program on a module with so many zeros between its beginning and its end. It takes no more
+/// memory for the last of them than for the first.
+fn piped(arguments: &[&str], beginning: &[u8], zeros: usize, end: &[u8]) -> Run {
+    let mut command = program(arguments);
+    command.stdin(Stdio::piped());
+    command.stdout(Stdio::piped()).stderr(Stdio::piped());
+    let mut child = command.spawn().expect("the program starts");
+    let mut stdin = child.stdin.take().expect("its input is a pipe");
+    stdin.write_all(beginning).unwrap();
+    let chunk = vec![0; WRITTEN_AT_ONCE];
+    let mut early = None;
+    let mut left = zeros;
+    while left > 0 {
+        let length = left.min(WRITTEN_AT_ONCE);
+        stdin.write_all(&chunk[..length]).unwrap();
+        early = early.or_else(|| Some(peak(&child)));
+        left -= length;
+    }
+    // What it has not read yet is in the pipe, and it waits for more.
+    let (early, late) = (early.expect("zeros"), peak(&child));
+    stdin.write_all(end).unwrap();
+    drop(stdin);
+    println!("{arguments:?}: {early} KiB after {WRITTEN_AT_ONCE} bytes, {late} KiB after {zeros}");
+    assert!(late <= MOST && late - early <= MOST_GROWTH);
+    Run::of(child.wait_with_output().expect("the program ends"))
+}
+
+/// A module up to the contents of a custom section, of which it has one byte, the length of its name.
+fn begun(contents: usize) -> Vec<u8> {
+    let mut size = [0; 5];
+    for (place, byte) in size.iter_mut().enumerate() {
+        *byte = (contents >> (7 * place)) as u8 | 0x80;
+    }
+    size[4] &= 0x7F;
+    [BARE, &[0], &size, &[0]].concat()
+}
+
+/// The section with names of the documents' module.
+const NAMES: &[u8] = MODULE.split_at(8).1;
+
+#[test]
+fn four_gigabytes_are_listed_in_a_few_megabytes() {
+    let listed = piped(&["list", "-"], &begun(ZEROS + 1), ZEROS, NAMES);
+    listed.prints("sections 2\n0 8 4000000001\n0 4000000015 26\nname 4000000022 21\nhints none\n");
+}
+
+#[test]
+fn four_gigabytes_are_judged_in_a_few_megabytes() {
+    let judged = piped(&["judge", "-"], &begun(ZEROS + 1), ZEROS, NAMES);
+    judged
+        .prints("module accepted\nname accepted, canonical already\nhints none\nold_hints none\n");
+}
+
+/// The fault is known only at the end, far behind the bytes that are shown.
+#[test]
+fn what_is_cut_off_is_shown_where_it_began() {
+    const ZEROS: usize = 100_000_000;
+    let refused = piped(&["list", "-"], &begun(ZEROS + 2), ZEROS, &[]);
+    refused.ends(1, "refused 2 9\n");
+    assert!(refused.said.contains(
+        "  00000000  00 61 73 6D 01 00 00 00 00 82 C2 D7 AF 00 00 00  |.asm............|\n\
+         \x20                                      ^^\n\
+         \x20 00000010  00 00 00 00 00 00 00 00 00 00 00 00 00 00 00 00  |................|\n"
+    ));
+}
+
+/// What cannot be accepted takes no more memory than what can.
+#[test]
+fn sections_that_are_refused_are_not_held() {
+    const ZEROS: usize = 100_000_000;
+    for command in ["list", "judge"] {
+        let refused = piped(&[command, "-"], BARE, ZEROS, &[]);
+        assert_eq!(refused.status, 1);
+    }
+}
+
+fn fixtures() -> Vec<PathBuf> {
+    let folder = Path::new(env!("CARGO_MANIFEST_DIR")).join("../fixtures");
+    let entries = fs::read_dir(folder).expect("host/fixtures can be read");
+    let paths = entries.map(|entry| entry.unwrap().path());
+    paths
+        .filter(|path| path.extension().is_some_and(|kind| kind == "wasm"))
+        .collect()
+}
+
+/// Fixtures are listed as a third reading of the rules has them; and a refusal is shown as by a command
+/// that holds the module.
+#[test]
+fn fixtures_are_listed_through_a_pipe() {
+    let mut refused = 0;
+    for path in fixtures() {
+        let module = fs::read(&path).unwrap();
+        let listing = fs::read_to_string(path.with_extension("listing")).unwrap();
+        let listed = fed(&["list", "-"], &module);
+        assert_eq!(listed.out(), listing, "{}", path.display());
+        let from_file = common::run(&["list", path.to_str().unwrap()]);
+        assert_eq!(from_file.out(), listing, "{}", path.display());
+        if listed.status != 0 {
+            let held = fed(&["canon", "-"], &module);
+            assert_eq!(listed.said, held.said, "{}", path.display());
+            let held = fed(&["canon", "-", "--json"], &module);
+            assert_eq!(fed(&["list", "-", "--json"], &module).out(), held.out());
+            refused += 1;
+        }
+    }
+    assert!(refused >= 20, "{refused}");
+}
+
+/// What is judged of a payload is what a command says that holds the module.
+#[test]
+fn fixtures_are_judged_through_a_pipe() {
+    let mut refused = 0;
+    for path in fixtures() {
+        let module = fs::read(&path).unwrap();
+        if fed(&["list", "-"], &module).status != 0 {
+            continue;
+        }
+        for (word, arguments) in [
+            ("name", &["canon", "-"][..]),
+            ("old_hints", &["canon", "-", "--old-hints"]),
+        ] {
+            let held = fed(arguments, &module);
+            let judged = fed(&["judge", "-"], &module);
+            let verdict = format!("\n{word} refused");
+            assert_eq!(judged.out().contains(&verdict), held.status != 0);
+            if held.status != 0 {
+                let words = held
+                    .said
+                    .strip_prefix("wakemiono: standard input: ")
+                    .unwrap();
+                let judged = judged.out().split_once(&format!("\n{word} ")).unwrap().1;
+                assert!(judged.starts_with(words), "{}", path.display());
+                refused += 1;
+            }
+        }
+    }
+    assert!(refused >= 20, "{refused}");
+}
