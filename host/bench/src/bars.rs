@@ -1,5 +1,6 @@
 //! What may be taken at most: so many times what other operations take, or so many instructions.
 
+use crate::modules;
 use crate::operation::Operation;
 use crate::pairs;
 use crate::payload::Kind;
@@ -85,9 +86,32 @@ fn of_pair((payload, kind): (&'static str, Kind)) -> [Bar; 2] {
     ]
 }
 
-/// All bars, those of pairs last.
+/// A module that arrives: half more than the walk where it is one part, and twice as much where it comes in parts of 4,096
+/// bytes. Where contents are large, the walk steps over many such parts at once; then a part has a bar of its own.
+fn of_module(payload: &'static str) -> [Bar; 2] {
+    let in_parts = match payload {
+        modules::LARGE_CONTENTS => Most::Instructions(LARGE_IN_PARTS),
+        _ => Most::Times(2.0, &[Operation::Walk]),
+    };
+    let bar = |operation, most| Bar {
+        payload,
+        operation,
+        most,
+    };
+    [
+        bar(Operation::StreamWhole, Most::Times(1.5, &[Operation::Walk])),
+        bar(Operation::StreamInParts, in_parts),
+    ]
+}
+
+/// Large contents in 342 parts of 4,096 bytes: 150 instructions each, so that their bytes cost nothing.
+const LARGE_IN_PARTS: u64 = 342 * 150;
+
+/// All bars, those of pairs and of modules last.
 fn bars() -> impl Iterator<Item = Bar> {
-    BARS.into_iter().chain(pairs::all().flat_map(of_pair))
+    let of_modules = modules::all().flat_map(of_module);
+    let of_pairs = pairs::all().flat_map(of_pair);
+    BARS.into_iter().chain(of_pairs).chain(of_modules)
 }
 
 /// A line for each bar, or a sentence on those that are broken.
@@ -196,6 +220,13 @@ mod tests {
         let said = lines(&rows("go-dealt", Operation::Join, 3)).expect_err("one is broken");
         let line = "go-dealt: 'join' takes 3.002 times 'rewrite separate' and 'rewrite own', at most 3 is the bar, so speed it up.\n";
         assert_eq!(said, line);
+    }
+
+    #[test]
+    fn so_is_one_of_a_module_in_parts() {
+        let said = lines(&rows("module-rustc", Operation::StreamInParts, 2));
+        let line = "module-rustc: 'stream, parts of 4096' takes 2.002 times 'walk', at most 2 is the bar, so speed it up.\n";
+        assert_eq!(said.expect_err("one is broken"), line);
     }
 
     #[test]

@@ -1,6 +1,6 @@
 //! Bytes as the format has them, in the fewest that it allows.
 
-const PREAMBLE: &[u8; 8] = b"\0asm\x01\0\0\0";
+const PREAMBLE: &[u8] = b"\0asm\x01\0\0\0";
 
 /// How many bits of a number stand in each of its bytes.
 const BITS_IN_A_BYTE: usize = 7;
@@ -40,8 +40,17 @@ pub fn list(elements: impl ExactSizeIterator<Item = Vec<u8>>) -> Vec<u8> {
     bytes
 }
 
-/// A module of one custom section.
-pub fn module(section_name: &str, payload: &[u8]) -> Vec<u8> {
-    let contents = [&sized(section_name.as_bytes()), payload].concat();
-    [&PREAMBLE[..], &[0], &sized(&contents)].concat()
+/// A section of a module, which is laid out as a subsection is.
+pub fn section(id: u8, contents: &[u8]) -> Vec<u8> {
+    subsection(id, contents)
+}
+
+/// A custom section of a name.
+pub fn custom_section(name: &str, payload: &[u8]) -> Vec<u8> {
+    section(0, &[&sized(name.as_bytes()), payload].concat())
+}
+
+/// A module of these sections.
+pub fn module(sections: &[u8]) -> Vec<u8> {
+    [PREAMBLE, sections].concat()
 }

@@ -6,7 +6,7 @@ use std::path::Path;
 use comparison::fixtures::modules;
 use comparison::library::{custom, names_judge, FOUND};
 
-use crate::payload::{Kind, Payload};
+use crate::payload::{Kind, Payload, NAMES};
 
 /// Those that are measured by the wider edition too: binaryen names what it knows but labels, lld globals and segments.
 const WIDE: [&str; 2] = ["binaryen-wide", "clang-lld-threads"];
@@ -25,7 +25,7 @@ fn accepted(path: &Path) -> Option<Payload> {
         return None;
     }
     let module = fs::read(path).expect("a fixture can be read");
-    let found = custom(&module, Kind::Names.section().as_bytes());
+    let found = custom(&module, NAMES.as_bytes());
     if found.kind != FOUND {
         return None;
     }

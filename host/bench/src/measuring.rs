@@ -1,6 +1,6 @@
 //! Every operation that a payload allows, put once to each reader, and the two results compared.
 
-use comparison::library;
+use comparison::library::{self, ToldStream};
 use comparison::markers::Markers;
 
 use crate::made::LAST_BRANCH;
@@ -12,6 +12,9 @@ use crate::region::counted;
 
 /// What an output holds before a call.
 const UNTOUCHED: u8 = 0xEE;
+
+/// How many bytes the parts of a module have, where it is given in several.
+const PART: usize = 4_096;
 
 /// The fewest bytes that a payload has for each of its markers: sixteen entries of two bytes.
 const BYTES_OF_A_MARKER: usize = 32;
@@ -61,6 +64,7 @@ pub fn measure(payload: &Payload) -> Result<Vec<Operation>, String> {
         Kind::OldHints => alone(old_hints(bytes)),
         Kind::Pair => pair(bytes, &payload.own),
         Kind::WidePair => wide_pair(bytes, &payload.own),
+        Kind::Module => module(bytes),
     };
     let agreed = |(operation, alike): Compared| match alike {
         true => Ok(operation),
@@ -75,6 +79,55 @@ pub fn measure(payload: &Payload) -> Result<Vec<Operation>, String> {
 
 fn walk(module: &[u8]) -> Compared {
     asked!(Operation::Walk, walk(lent) where lent = module)
+}
+
+/// A module lent whole, and given in parts.
+fn module(module: &[u8]) -> Vec<Compared> {
+    const WHOLE: [u8; 2] = regions(Operation::StreamWhole);
+    const IN_PARTS: [u8; 2] = regions(Operation::StreamInParts);
+    const IN_BYTES: [u8; 2] = regions(Operation::StreamInBytes);
+    vec![
+        walk(module),
+        (
+            Operation::StreamWhole,
+            are_streamed_alike::<{ WHOLE[0] }, { WHOLE[1] }>(module, module.len()),
+        ),
+        (
+            Operation::StreamInParts,
+            are_streamed_alike::<{ IN_PARTS[0] }, { IN_PARTS[1] }>(module, PART),
+        ),
+        (
+            Operation::StreamInBytes,
+            are_streamed_alike::<{ IN_BYTES[0] }, { IN_BYTES[1] }>(module, 1),
+        ),
+    ]
+}
+
+/// The regions of both readers.
+const fn regions(operation: Operation) -> [u8; 2] {
+    [
+        region(operation, Who::Library),
+        region(operation, Who::SecondReader),
+    ]
+}
+
+/// Whether both readers say the same of a module in parts of a length: from the beginning of a stream to its finish.
+fn are_streamed_alike<const LIBRARY: u8, const READER: u8>(module: &[u8], length: usize) -> bool {
+    let told = counted::<LIBRARY, _, _>((module, length), |(module, length)| {
+        let mut stream = library::stream_begin();
+        for part in module.chunks(length) {
+            library::stream_part(&mut stream, part);
+        }
+        library::stream_finish(&mut stream)
+    });
+    let read = counted::<READER, _, _>((module, length), |(module, length)| {
+        let mut stream = second_reader::stream_begin();
+        for part in module.chunks(length) {
+            let _ = second_reader::stream_part(&mut stream, part);
+        }
+        second_reader::stream_finish(&mut stream)
+    });
+    are_alike::<ToldStream>(told, read)
 }
 
 fn names(payload: &[u8]) -> Vec<Compared> {
@@ -400,6 +453,9 @@ mod tests {
             Operation::WidePairLookUp,
             Operation::WideOwnRewrite,
             Operation::WideJoin,
+            Operation::StreamWhole,
+            Operation::StreamInParts,
+            Operation::StreamInBytes,
         ] {
             assert!(operations.contains(&tried), "not tried: {}", tried.words());
         }

@@ -38,6 +38,9 @@ pub enum Operation {
     WideJoin,
     WideSeparateRewrite,
     WideOwnRewrite,
+    StreamWhole,
+    StreamInParts,
+    StreamInBytes,
 }
 
 impl Operation {
@@ -78,6 +81,9 @@ impl Operation {
             Operation::WideJoin => "wide join",
             Operation::WideSeparateRewrite => "wide rewrite separate",
             Operation::WideOwnRewrite => "wide rewrite own",
+            Operation::StreamWhole => "stream, one part",
+            Operation::StreamInParts => "stream, parts of 4096",
+            Operation::StreamInBytes => "stream, parts of 1",
         }
     }
 }

@@ -1,6 +1,9 @@
 //! A payload, and the names of all that are measured.
 
-use crate::{bytes, fixtures, made, pairs};
+use crate::{bytes, fixtures, made, modules, pairs};
+
+/// The name of the section with names.
+pub const NAMES: &str = "name";
 
 /// Which section a payload is of, and how it is measured.
 #[derive(Clone, Copy, PartialEq, Eq, Debug)]
@@ -16,15 +19,18 @@ pub enum Kind {
     Pair,
     /// Two payloads, by the wider edition.
     WidePair,
+    /// A whole module, by the walk and as it arrives.
+    Module,
 }
 
 impl Kind {
-    /// The name of the custom section that holds such a payload.
-    pub fn section(self) -> &'static str {
+    /// The name of the custom section that holds such a payload; none of a whole module.
+    fn section(self) -> Option<&'static str> {
         match self {
-            Kind::Names | Kind::WideNames | Kind::Pair | Kind::WidePair => "name",
-            Kind::Hints => "metadata.code.branch_hint",
-            Kind::OldHints => "branchHints",
+            Kind::Names | Kind::WideNames | Kind::Pair | Kind::WidePair => Some(NAMES),
+            Kind::Hints => Some("metadata.code.branch_hint"),
+            Kind::OldHints => Some("branchHints"),
+            Kind::Module => None,
         }
     }
 }
@@ -50,15 +56,19 @@ impl Payload {
         }
     }
 
-    /// The payload in a module without any other section.
+    /// The payload in a module without any other section, or the module that it is.
     pub fn module(&self) -> Vec<u8> {
-        bytes::module(self.kind.section(), &self.bytes)
+        match self.kind.section() {
+            Some(name) => bytes::module(&bytes::custom_section(name, &self.bytes)),
+            None => self.bytes.clone(),
+        }
     }
 }
 
-/// The names of all payloads: the made ones, the pairs of these, then those of the fixtures.
+/// The names of all payloads: the made ones, the pairs of these, whole modules, then those of the fixtures.
 pub fn names() -> Vec<String> {
-    let made = made::payloads().chain(pairs::all().map(|(name, _)| name));
+    let pairs = pairs::all().map(|(name, _)| name);
+    let made = made::payloads().chain(pairs).chain(modules::all());
     let of_fixtures = fixtures::payloads().into_iter().map(|payload| payload.name);
     made.map(str::to_string).chain(of_fixtures).collect()
 }
@@ -71,5 +81,6 @@ pub fn named(name: &str) -> Option<Payload> {
     };
     made::payload(name)
         .or_else(|| pairs::payload(name))
+        .or_else(|| modules::payload(name))
         .or_else(of_fixtures)
 }

@@ -46,6 +46,8 @@ of its id byte and the length of its contents; then `name OFFSET LENGTH` and `hi
 say where the payloads lie, or `name none` and `hints none`. The payloads are not judged here. For
 a module that is refused the line is `refused NUMBER OFFSET`; the words are on standard error.
 
+The module is read as it arrives and is not held, so that one of any size can come through a pipe.
+
 Example: wakemiono list app.wasm
   sections 1
   0 8 26
@@ -250,6 +252,9 @@ section, or refused: with the reason, the offset from the start of the module, a
 it. `old_hints` is the section branchHints. An accepted payload is `canonical already` where it equals
 its canonical form, and `not canonical` otherwise. The payloads of a module that is itself refused are not asked. The exit status is 1 where
 anything is refused; what is not canonical is not refused.
+
+The module is read as it arrives, and only the payloads are held, so that one of any size can come
+through a pipe.
 
   --wide   judge names in the wider edition; what it accepts the first edition accepts too
 
