@@ -1,7 +1,7 @@
 //! Every C call of the library, compared with the second reader on the same bytes.
 //!
 //! A slice is lent at the very end of mapped memory, so that a read past it cannot pass; what was lent is compared
-//! before and after; an output has guard bytes before it and nothing mapped behind it.
+//! before and after; an output, and the state of a stream, has guard bytes before it and nothing mapped behind it.
 
 #![deny(missing_docs)]
 

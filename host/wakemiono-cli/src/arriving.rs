@@ -190,35 +190,37 @@ impl Arriving {
         let bytes = self.kept.get(head_at..self.at).unwrap_or_default();
         match Head::of(bytes) {
             Head::Cut => {}
+            Head::Unacceptable => self.skip_all(),
             Head::Whole { id, .. } if id != CUSTOM && self.not_custom == MOST_NOT_CUSTOM => {
                 self.skip_all();
             }
-            Head::Unacceptable => self.skip_all(),
             Head::Whole {
                 id,
                 before_contents,
                 length,
                 name,
             } => {
-                let wanted = self
-                    .wanted
-                    .iter()
-                    .position(|it| Some(it.as_bytes()) == name);
-                let start = head_at + before_contents as u64;
-                let length = u64::from(length);
-                self.step = Step::Contents(Contents {
-                    place: start..start.saturating_add(length),
-                    whole: wanted.is_some(),
-                });
-                wanted.map(|position| self.wanted.swap_remove(position));
-                self.not_custom += usize::from(id != CUSTOM);
-                self.sections.push(Section {
+                let mut wanted = self.wanted.iter();
+                let wanted = wanted.position(|wanted| Some(wanted.as_bytes()) == name);
+                if let Some(position) = wanted {
+                    self.wanted.swap_remove(position);
+                }
+                let section = Section {
                     id,
                     offset: head_at,
-                    length,
-                });
+                    length: length.into(),
+                };
+                let start = head_at + before_contents as u64;
+                self.begin_contents(section, start, wanted.is_some());
             }
         }
+    }
+
+    fn begin_contents(&mut self, section: Section, start: u64, whole: bool) {
+        let place = start..start.saturating_add(section.length);
+        self.step = Step::Contents(Contents { place, whole });
+        self.not_custom += usize::from(section.id != CUSTOM);
+        self.sections.push(section);
     }
 
     /// The library will refuse what stands here or before, and no section behind it is of use.
@@ -313,8 +315,10 @@ mod tests {
                 return shows(arrived, bytes, refusal.offset());
             }
         };
-        let sections: Vec<Section> = module.sections().expect("accepted").collect();
-        assert_eq!(arrived.sections, sections);
+        for (position, section) in (0..).zip(&arrived.sections) {
+            assert_eq!(module.section(position), Ok(Some(*section)));
+        }
+        assert_eq!(module.section_count(), Ok(arrived.sections.len() as u64));
         let places = [walked.name, walked.hints, walked.old_hints];
         for (name, place) in ALL.into_iter().zip(places) {
             let payload = place.map(|place| arrived.payload(place).expect("it was kept"));
