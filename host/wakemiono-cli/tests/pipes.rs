@@ -16,9 +16,9 @@ const ZEROS: usize = 4_000_000_000;
 /// How many of them are written at once.
 const WRITTEN_AT_ONCE: usize = 1 << 20;
 
-/// The most memory that the program may take, in KiB, also where an emulator runs it, whose own memory
-/// then counts; and by how much it may grow from the first megabyte to the last.
-const MOST: u64 = 64 * 1_024;
+/// The most memory that the program may take, in KiB, also where an emulator runs it, which takes 15 MB
+/// for itself; and by how much it may grow from the first megabyte to the last.
+const MOST: u64 = 32 * 1_024;
 const MOST_GROWTH: u64 = 1_024;
 
 /// The most memory that a running process has taken so far, in KiB.
