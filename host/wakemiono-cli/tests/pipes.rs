@@ -13,7 +13,7 @@ use common::{fed, program, Run, BARE, MODULE};
 /// The bytes of contents that are left out of a module of 4 GB.
 const ZEROS: usize = 4_000_000_000;
 
-/// How many of them are written at once.
+/// How many of them are written at once: a megabyte.
 const WRITTEN_AT_ONCE: usize = 1 << 20;
 
 /// The most memory that the program may take, in KiB, also where an emulator runs it, which takes 15 MB
@@ -29,27 +29,31 @@ fn peak(child: &Child) -> u64 {
     words.map(str::parse).next().unwrap().unwrap()
 }
 
+fn write_zeros(to: &mut impl Write, count: usize) {
+    let zeros = vec![0; WRITTEN_AT_ONCE];
+    let mut left = count;
+    while left > 0 {
+        let length = left.min(WRITTEN_AT_ONCE);
+        to.write_all(&zeros[..length]).expect("it is read");
+        left -= length;
+    }
+}
+
 /// Runs the program on a module with so many zeros between its beginning and its end. It takes no more
-/// memory for the last of them than for the first.
+/// memory for the last of them than for the first megabyte.
 fn piped(arguments: &[&str], beginning: &[u8], zeros: usize, end: &[u8]) -> Run {
     let mut command = program(arguments);
     command.stdin(Stdio::piped());
     command.stdout(Stdio::piped()).stderr(Stdio::piped());
     let mut child = command.spawn().expect("the program starts");
     let mut stdin = child.stdin.take().expect("its input is a pipe");
-    stdin.write_all(beginning).unwrap();
-    let chunk = vec![0; WRITTEN_AT_ONCE];
-    let mut early = None;
-    let mut left = zeros;
-    while left > 0 {
-        let length = left.min(WRITTEN_AT_ONCE);
-        stdin.write_all(&chunk[..length]).unwrap();
-        early = early.or_else(|| Some(peak(&child)));
-        left -= length;
-    }
+    stdin.write_all(beginning).expect("it is read");
+    write_zeros(&mut stdin, WRITTEN_AT_ONCE);
+    let early = peak(&child);
+    write_zeros(&mut stdin, zeros - WRITTEN_AT_ONCE);
     // What it has not read yet is in the pipe, and it waits for more.
-    let (early, late) = (early.expect("zeros"), peak(&child));
-    stdin.write_all(end).unwrap();
+    let late = peak(&child);
+    stdin.write_all(end).expect("it is read");
     drop(stdin);
     println!("{arguments:?}: {early} KiB after {WRITTEN_AT_ONCE} bytes, {late} KiB after {zeros}");
     assert!(late <= MOST && late - early <= MOST_GROWTH);
