@@ -8,9 +8,6 @@ const DECLARED: &str = concat!(
     include_str!("../src/ffi/stream.rs")
 );
 
-/// How many numbers the state of a stream has behind its total, as the crate declares it.
-const REST: &str = "REST";
-
 /// What stands between two marks, the first time that the opening one occurs.
 fn between<'a>(text: &'a str, opening: &str, closing: &str) -> &'a str {
     let (_, behind) = text.split_once(opening).expect(opening);
@@ -42,15 +39,10 @@ fn parameter(c: &str) -> String {
     match &c[at..] {
         "type" => format!("type_: {type_}"),
         name => match name.split_once('[') {
-            Some((name, count)) => format!("{name}: [{type_}; {}", count.replace(&rest(), REST)),
+            Some((name, count)) => format!("{name}: [{type_}; {count}"),
             None => format!("{name}: {type_}"),
         },
     }
-}
-
-/// The number that the crate has for those of a state.
-fn rest() -> String {
-    between(DECLARED, &format!("const {REST}: usize = "), ";").to_owned()
 }
 
 /// The type of an answer of the header as Rust declares it.
@@ -126,6 +118,7 @@ fn the_structs_are_declared_as_the_header_has_them() {
     ] {
         let fields = fields(c);
         let declared = between(DECLARED, rust, "}").replace("pub(crate) ", "");
+        let declared = declared.replace("REST", between(DECLARED, "const REST: usize = ", ";"));
         let declared: Vec<&str> = declared.split_terminator(',').map(str::trim).collect();
         assert_eq!(declared[..fields.len()], fields);
         assert_eq!(declared[fields.len()..].concat(), "");
