@@ -182,7 +182,7 @@ fn modules_as_they_arrive() {
         }
     }
     println!("compared {} calls", tally.calls);
-    tally.assert_streams_met(&[0, 1, 2, 3, 4, 5, 6], LEAST);
+    tally.assert_streams_met(&[0, 1, 2, 4, 5, 6], LEAST);
 }
 
 /// What a subsection that the wider edition knows holds, with names under keys that are asked for.

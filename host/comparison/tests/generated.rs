@@ -76,7 +76,7 @@ fn modules_as_they_arrive() {
         tally.arrives(&module);
     }
     println!("compared {} calls", tally.calls);
-    tally.assert_streams_met(&[0, 1, 2, 4, 5, 6], LEAST);
+    tally.assert_streams_met(&[0, 1, 2, 4, 5], LEAST);
 }
 
 /// Payloads of either edition, each beside the one before, itself and nothing. Every third is damaged, so that each side is
