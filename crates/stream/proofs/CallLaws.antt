@@ -1,36 +1,33 @@
 -- A part and the finish: one law for each way through the code.
-use Prim.Native.Nat.{ℕ, zero, suc, _+_, _-_, _/_, _%_, _≤_, _<_}
-use mathlib.Core.Bool.{Bool, true, false, cond, not, _&&_}
-use mathlib.Core.List.{List, [], _∷_}
+use Prim.Native.Nat.{ℕ, zero, suc, _+_, _-_, _≤_, _<_}
+use mathlib.Core.Bool.{Bool, true, false, not}
+use mathlib.Core.List.{List}
 use mathlib.Core.Path.{_≡_, refl, sym, ap, _∙_}
 use native.Mathlib.Omega.{arith}
 use borrow.Author.Needs.{needs}
 use borrow.Author.Tests.{eqb-true, eqb-false, leb-true, leb-false, le-leb, lt-leb}
-use lib.Dec.{ltb, leb, eqb}
+use lib.Dec.{leb, eqb}
 use lib.ListN.{length, drop}
 use lib.Seq.{drop-cons}
-use Rattle.format.specs.Refusals.{numberOf}
-use Rattle.format.specs.Reading.{Judged, accepted, refused}
+use Rattle.format.specs.Reading.{accepted, refused}
 use Rattle.format.specs.Walk.{preamble}
 use Rattle.format.specs.Laws.Outcomes.{onBoth, byTest}
-use Rattle.format.specs.declared.Reason.{Reason}
 use Rattle.format.specs.declared.Reason.the-variants.{AfterFinish, TotalTooLarge}
-use Rattle.format.specs.declared.Verdict.the-variants.{Accepted, Refused}
+use Rattle.format.specs.declared.Verdict.the-variants.{Accepted}
 use Rattle.walk.specs.Sections.{bit}
 use Rattle.stream.specs.Contents.{Contents}
-use Rattle.stream.specs.Stream.{Summary, Done, Phase, starting, settled, measuring, skipping, inCustom, startEnd, end, State, begin, finish, steps}
+use Rattle.stream.specs.Stream.{Done, Phase, skipping, inCustom, startEnd, end, finish}
 use Rattle.stream.specs.Calls.{most, isOpen, notTaken, taken, toldOf, endingOf, ended}
-use Rattle.stream.specs.Fields.{placeFrom, doneFrom, held, over, overAt, stateFrom}
+use Rattle.stream.specs.Fields.{placeFrom, doneFrom, held, over, stateFrom}
 use Rattle.stream.specs.Phases.{blankAt, Fit, Feeding, Feeds}
-use Rattle.stream.specs.declared.Ended.{Ended}
 use Rattle.stream.specs.declared.Ending.{Ending}
 use Rattle.stream.specs.declared.Spot.{Spot}
 use Rattle.stream.specs.declared.Stream.{Stream}
 use Rattle.stream.specs.declared.Taken.{Taken}
 use Rattle.stream.specs.declared.Told.{Told}
 use Rattle.stream.specs.Laws.Calls.{part-taken, part-too-large, part-too-late, open-ends, shut-ends}
-use Rattle.stream.proofs.States.{at, as-starting, as-between, as-refused, as-measuring, as-skipping, as-custom, starting-below, measuring-at, skipping-left, skipping-at, custom-left, custom-at}
-use Rattle.stream.proofs.SectionLaws.{limit64}
+use Rattle.stream.proofs.States.{at, as-starting, as-between, as-refused, as-measuring, as-skipping, as-custom, measuring-at, skipping-left, skipping-at, custom-left, custom-at}
+use Rattle.stream.proofs.SectionLaws.{limit64, drop-all, blank-done}
 use Rattle.stream.proofs.HoldLaws.{in-custom}
 
 -- WHAT THE FINISH SAYS
@@ -45,6 +42,21 @@ end-at : (f : Stream) {p : Phase} → stateFrom f ≡ at (f .total) p → finish
 unfolding finish
 end-at f e = ap finish e
 
+-- in the preamble, and behind it where nobody began
+module _ {total : ℕ} {x : Ending} where
+  pub preamble-short : total < 8 → x ≡ endingOf (refused 1 0) → x ≡ endingOf (startEnd (drop total preamble))
+  unfolding startEnd preamble
+  preamble-short h e = e ∙ sym (ap (λ l. endingOf (startEnd l)) (drop-cons preamble total 0 h))
+
+  pub preamble-over : {g : Stream} → g ≡ blankAt total 1 → 8 ≤ total → x ≡ endingOf (finish (stateFrom g)) → x ≡ endingOf (startEnd (drop total preamble))
+  unfolding startEnd preamble end
+  preamble-over {g} is h e = e ∙ ap endingOf (end-at g (as-between g (rw is refl))) ∙ ap (λ d. endingOf (accepted (d .told))) (blank-done is) ∙ sym (ap (λ l. endingOf (startEnd l)) (drop-all preamble total h))
+
+pub blank-between : {g : Stream} {total : ℕ} → g ≡ blankAt total 1 → g .phase ≡ 1
+blank-between is = rw is refl
+
+pub ruleset preamble-endings = (preamble-short, preamble-over, blank-between, needs)
+
 module _ (f : Stream) where
   pub told-all : {name hints older : Told} → f .phase ≡ 1 → name ≡ toldOf (placeFrom (bit (f .there) 0) (f .name)) → hints ≡ toldOf (placeFrom (bit (f .there) 1) (f .hints)) → older ≡ toldOf (placeFrom (bit (f .there) 2) (f .older))
       → record { accepted = true; refusal = 0; offset = 0; count = f .count; name = name; hints = hints; older = older } ≡ endingOf (finish (stateFrom f))
@@ -55,9 +67,9 @@ module _ (f : Stream) where
   unfolding end
   ends-refused p e = e ∙ sym (ap endingOf (end-at f (as-refused f p)))
 
-  pub ends-starting : {x : Ending} → Fit f → f .phase ≡ 0 → x ≡ endingOf (refused 1 0) → x ≡ endingOf (finish (stateFrom f))
-  unfolding end startEnd preamble
-  ends-starting k p e = e ∙ sym (ap endingOf (end-at f (as-starting f p) ∙ ap startEnd (drop-cons preamble (f .total) 0 (starting-below k p))))
+  pub ends-starting : {x : Ending} → f .phase ≡ 0 → x ≡ endingOf (startEnd (drop (f .total) preamble)) → x ≡ endingOf (finish (stateFrom f))
+  unfolding end
+  ends-starting p e = e ∙ sym (ap endingOf (end-at f (as-starting f p)))
 
   skip-short : (d : Done) (id left o : ℕ) → 0 < left → end (skipping d id left) o ≡ refused 2 (suc id)
   unfolding end

@@ -1,32 +1,31 @@
 -- The contents of a custom section: one law for each way through the code.
 use Prim.Native.Nat.{ℕ, zero, suc, _+_, _-_, _≤_, _<_}
-use mathlib.Core.Bool.{Bool, true, false, cond, not, _&&_, _||_}
-use mathlib.Core.List.{List, [], _∷_}
-use mathlib.Core.Option.{Option, none, some}
+use mathlib.Core.Bool.{Bool, true, false, cond, _&&_, _||_}
+use mathlib.Core.List.{[]}
+use mathlib.Core.Option.{none, some}
 use mathlib.Core.Path.{_≡_, refl, sym, ap, _∙_}
 use native.Mathlib.Omega.{arith}
 use borrow.Author.Needs.{needs}
-use borrow.Author.Tests.{eq-eqb, ne-eqb, eqb-true, eqb-false, leb-true, ltb-true, lt-ltb}
+use borrow.Author.Tests.{eq-eqb, ne-eqb, eqb-true, eqb-false, leb-true, ltb-true}
 use denote.Enum.Declared.{tagOf}
 use lib.Dec.{ltb, leb, eqb}
 use lib.ListN.{length}
-use Rattle.format.specs.Options.{isSome, orElse}
+use Rattle.format.specs.Options.{orElse}
 use Rattle.format.specs.Refusals.{numberOf}
-use Rattle.format.specs.Reading.{got, Judged, accepted, refused}
-use Rattle.format.specs.Walk.{isCustom, isCode, rank, tracked, beforeCode, isRow, nameRules}
+use Rattle.format.specs.Reading.{got, accepted, refused}
+use Rattle.format.specs.Walk.{isCustom, isCode, rank, tracked, isRow, nameRules}
 use Rattle.format.specs.Laws.Outcomes.{byTest, onBoth, not-got, false-true}
-use Rattle.format.specs.declared.Place.{Place}
 use Rattle.format.specs.declared.Reason.{Reason}
-use Rattle.walk.specs.Sections.{bit, seenOf, ruling, rowCalled, InTable, NameRuled, ThereAfter, Sees}
+use Rattle.walk.specs.Sections.{bit, seenOf, ruling, NameRuled, Sees}
 use Rattle.walk.specs.declared.rules.Called.{Called}
 use Rattle.walk.specs.declared.rules.Called.the-variants.{Row, Other}
 use Rattle.walk.specs.declared.rules.Ruling.{Ruling}
-use Rattle.walk.specs.declared.rules.Ruling.the-variants.{Fine, Against}
+use Rattle.walk.specs.declared.rules.Ruling.the-variants.{Against}
 use Rattle.walk.specs.declared.rules.Seen.{Seen}
 use Rattle.walk.proofs.rules.Ruling as ruling-type
-use Rattle.stream.specs.Contents.{Called as CalledSo, Contents, sizing, naming, paying, failing, contentEnds}
-use Rattle.stream.specs.Stream.{Done, seenIn, place, placed, calledDone, kept, customDone, settled, inCustom, custom}
-use Rattle.stream.specs.Fields.{flag, placeFrom, rowFrom, doneFrom, contentsFrom, stateFrom}
+use Rattle.stream.specs.Contents.{Called as CalledSo, Contents, naming, contentEnds}
+use Rattle.stream.specs.Stream.{seenIn, place, placed, calledDone, kept, customDone, settled, custom}
+use Rattle.stream.specs.Fields.{flag, placeFrom, rowFrom, doneFrom, contentsFrom}
 use Rattle.stream.specs.Fits.{rowFits, textFits, contentsFit}
 use Rattle.stream.specs.Phases.{Refuses, Closing, Closes, CallsRow, payloadSpot, Placed, seenSo}
 use Rattle.stream.specs.declared.Spot.{Spot}

@@ -1,7 +1,7 @@
 -- A part, from its first byte to its last: one law for each way through the code.
 use Prim.Native.Nat.{ℕ, zero, suc, _+_, _-_, _≤_, _<_}
-use mathlib.Core.Bool.{Bool, true, false, cond, _&&_}
-use mathlib.Core.List.{List, [], _∷_}
+use mathlib.Core.Bool.{Bool, true, cond}
+use mathlib.Core.List.{List, _∷_}
 use mathlib.Core.Option.{Option, none, some}
 use mathlib.Core.Path.{_≡_, refl, sym, ap, _∙_}
 use native.Mathlib.Omega.{arith}
@@ -22,12 +22,12 @@ use Rattle.walk.specs.declared.rules.Called.the-variants.{Row, Other}
 use Rattle.walk.proofs.RowLaws.{row-below}
 use Rattle.walk.proofs.rules.Called as called-type
 use Rattle.stream.specs.Naming.{noneMet}
-use Rattle.stream.specs.Contents.{Contents, paying, failing, name, content}
-use Rattle.stream.specs.Stream.{Done, settled, skipping, inCustom, skip, custom, State, step, steps}
+use Rattle.stream.specs.Contents.{paying, failing, name, content}
+use Rattle.stream.specs.Stream.{settled, skipping, skip, custom, State, steps}
 use Rattle.stream.specs.Calls.{most}
 use Rattle.stream.specs.Fields.{rowNumber, rowFrom as rowOf, doneFrom, textFrom, namesFrom, contentsFrom, stateFrom}
 use Rattle.stream.specs.Fits.{rowFits, contentsFit, fits}
-use Rattle.stream.specs.Phases.{Fit, Steps, Closing, Closes, NameEnds, Passing, Passes, Reaches, Ready, Moves, Feeding, Feeds, wholeHere, WholeName, NameJudged}
+use Rattle.stream.specs.Phases.{Fit, Steps, Closing, Closes, NameEnds, Passing, Passes, Reaches, Ready, Moves, Feeding, Feeds, wholeHere, WholeName, NameJudged, InPreamble}
 use Rattle.stream.specs.Laws.Bulk.{standing, judgedName, name-many, skip-many, contents-many, paying-stays, failing-stays, refused-many, steps-between}
 use Rattle.stream.specs.Laws.Texts.{isText, restIsText}
 use Rattle.stream.specs.Laws.Naming.{rowNamed, meeting, meeting-first}
@@ -37,7 +37,7 @@ use Rattle.stream.specs.declared.Stream.{Stream}
 use Rattle.stream.specs.declared.feeding.JudgedName.{JudgedName}
 use Rattle.stream.specs.declared.feeding.Moved.{Moved}
 use Rattle.stream.proofs.States.{at, at-same, as-between, as-refused, as-skipping, as-custom, as-naming, as-paying, as-failing, skipping-left, custom-count, custom-left, custom-contents}
-use Rattle.stream.proofs.SectionLaws.{limit64, skip-on, custom-on}
+use Rattle.stream.proofs.SectionLaws.{limit64, skip-on, custom-on, blank-opens, opens-late}
 use Rattle.stream.proofs.NameLaws.{name-on}
 
 pub reaches-here : {here left : ℕ} → here < left → Reaches here left here
@@ -129,7 +129,12 @@ only-starting (suc (suc (suc (suc zero)))) h a b c d e = absurd (b refl)
 only-starting (suc (suc (suc (suc (suc zero))))) h a b c d e = absurd (e refl)
 only-starting (suc (suc (suc (suc (suc (suc p)))))) h a b c d e = absurd (omega arith)
 
-pub ruleset ones = (only-starting, needs)
+pub in-preamble : {f : Stream} → f .phase ≡ 0 → f .total < most → InPreamble f
+in-preamble p h = record { phase = p; countable = h }
+
+pub ruleset ones = (only-starting, in-preamble, needs)
+
+pub ruleset preambles = (blank-opens, opens-late, needs)
 
 -- A NAME THAT THE PART HAS WHOLE
 

@@ -1,23 +1,20 @@
 -- Whether a state is one that the code can count with: one law for each way through the code.
-use Prim.Native.Nat.{ℕ, zero, suc, _+_, _≤_, _<_}
-use mathlib.Core.Bool.{Bool, true, false, cond, not, _&&_}
-use mathlib.Core.List.{[], _∷_}
+use Prim.Native.Nat.{ℕ, zero, suc, _≤_, _<_}
+use mathlib.Core.Bool.{Bool, true, false, _&&_}
 use mathlib.Core.Path.{_≡_, refl, sym, ap, _∙_}
 use native.Mathlib.Omega.{arith}
 use borrow.Author.Needs.{needs}
-use borrow.Author.Tests.{le-leb, lt-leb, lt-ltb, le-ltb, leb-true, leb-false, eq-eqb, ne-eqb}
-use lib.Dec.{ltb, leb, eqb}
-use lib.ListN.{length, getD}
-use Rattle.format.specs.Walk.{preamble, tracked}
-use Rattle.format.specs.Laws.Outcomes.{byTest, and-false}
+use borrow.Author.Tests.{le-leb, lt-leb, lt-ltb, le-ltb, leb-true, leb-false, ne-eqb}
+use lib.Dec.{ltb, leb}
+use Rattle.format.specs.Laws.Outcomes.{byTest}
 use Rattle.stream.specs.Counting.{weight, mostFollowing}
 use Rattle.stream.specs.Contents.{Contents}
-use Rattle.stream.specs.Stream.{Phase, State}
+use Rattle.stream.specs.Stream.{Phase}
 use Rattle.stream.specs.Calls.{isOpen}
-use Rattle.stream.specs.Fields.{rowFrom, doneFrom, numberFrom, textFrom, contentsFrom, stateFrom}
+use Rattle.stream.specs.Fields.{rowFrom, numberFrom, textFrom, contentsFrom, stateFrom}
 use Rattle.stream.specs.Fits.{numberFits, pointLimit, textFits, rowFits, contentsFit, phaseFits, fits}
 use Rattle.stream.specs.declared.Stream.{Stream}
-use Rattle.stream.proofs.States.{at, as-starting, as-between, as-refused, as-measuring, as-skipping, as-custom, as-sizing, as-naming, as-paying, as-failing}
+use Rattle.stream.proofs.States.{at, as-starting, as-between, as-refused, as-measuring, as-skipping, as-custom, as-sizing, as-naming, as-paying}
 use Rattle.stream.proofs.HoldLaws.{in-custom}
 
 limit-none : (wanted : ℕ) → 4 ≤ wanted → pointLimit wanted ≡ 0
@@ -67,8 +64,7 @@ module _ (f : Stream) where
   unfolding fits
   fits-at e = ap fits (sym e)
 
-  pub starting-fits : f .phase ≡ 0 → ltb (f .total) 8 ≡ fits (stateFrom f)
-  unfolding preamble
+  pub starting-fits : f .phase ≡ 0 → true ≡ fits (stateFrom f)
   starting-fits p = fits-at (as-starting f p)
 
   pub between-fits : f .phase ≡ 1 → leb (f .count) (f .total) ≡ fits (stateFrom f)

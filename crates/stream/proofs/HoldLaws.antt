@@ -1,16 +1,15 @@
 -- The state as a caller holds it: one law for each way through the code.
-use Prim.Native.Nat.{ℕ, zero, suc, _+_, _*_, _/_, _%_, _≤_, _<_}
-use mathlib.Core.Bool.{Bool, true, false, cond, not, _&&_}
+use Prim.Native.Nat.{ℕ, zero, suc, _+_, _*_, _/_, _%_, _<_}
+use mathlib.Core.Bool.{Bool, true, false}
 use mathlib.Core.Path.{_≡_, refl, sym, ap, _∙_}
 use native.Mathlib.Omega.{arith}
 use borrow.Author.Needs.{needs}
 use borrow.Author.Tests.{eqb-true, eqb-false, leb-true, leb-false}
-use lib.Dec.{ltb, leb, eqb}
-use Rattle.format.specs.Options.{isSome}
+use lib.Dec.{leb, eqb}
 use Rattle.format.specs.Laws.Outcomes.{byTest}
 use Rattle.walk.specs.Sections.{bit}
 use Rattle.stream.specs.Contents.{Contents}
-use Rattle.stream.specs.Stream.{Phase, inCustom, State}
+use Rattle.stream.specs.Stream.{Phase, inCustom}
 use Rattle.stream.specs.Fields.{flag, spotOf, rowsThere, rowNumber, inPhase, held, placeFrom, rowFrom, doneFrom, contentsFrom, stateFrom}
 use Rattle.stream.specs.Phases.{blankAt, behindOf}
 use Rattle.stream.specs.declared.Met.{Met}

@@ -1,24 +1,24 @@
 -- A number, a text and the tracked names, byte by byte: one law for each way through the code.
 use Prim.Native.Nat.{ℕ, zero, suc, _+_, _*_, _-_, _%_, _≤_, _<_}
-use mathlib.Core.Bool.{Bool, true, false, cond, _&&_}
+use mathlib.Core.Bool.{Bool, true, false, cond}
 use mathlib.Core.List.{List, [], _∷_}
 use mathlib.Core.Path.{_≡_, refl, sym, ap, _∙_}
 use native.Mathlib.Nat.{mul-le-mul-left, mod-lt}
 use native.Mathlib.Omega.{arith}
 use borrow.Author.Needs.{needs}
 use borrow.Author.Tests.{lt-ltb, le-ltb, le-leb, lt-leb, leb-true, ltb-true, eq-eqb, ne-eqb}
-use lib.Dec.{ltb, leb, eqb}
+use lib.Dec.{ltb, leb}
 use lib.ListN.{length, getD}
 use Rattle.format.specs.Bytes.{ascii}
 use Rattle.format.specs.Numbers.{limit32}
 use Rattle.format.specs.Text.{isAllowed, isLater, withLater}
 use Rattle.format.specs.Walk.{nameSection, hintSection, olderHintSection}
 use Rattle.format.specs.Laws.Outcomes.{onBoth}
-use Rattle.stream.specs.Counting.{Number, weight, mostFollowing, counted}
+use Rattle.stream.specs.Counting.{weight, mostFollowing, counted}
 use Rattle.stream.specs.Texts.{firstByte, wanting, wantedByte, textByte}
-use Rattle.stream.specs.Naming.{Names, matchByte, matchEnds, meet, met}
+use Rattle.stream.specs.Naming.{matchByte, matchEnds, meet, met}
 use Rattle.stream.specs.Fields.{rowNumber}
-use Rattle.stream.specs.Fits.{numberFits, pointLimit, textFits}
+use Rattle.stream.specs.Fits.{pointLimit}
 use Rattle.stream.specs.Phases.{numberOf, Countable, countedOf, textOf, Spellable, metOf}
 use Rattle.stream.specs.declared.Met.{Met}
 use Rattle.stream.specs.declared.numbers.Counted.the-variants.{Whole, Partly, Over}

@@ -1,36 +1,36 @@
 -- The bytes of a custom section's name: one law for each way through the code.
 use Prim.Native.Nat.{ℕ, zero, suc, _+_, _-_, _≤_, _<_}
 use mathlib.Core.Bool.{Bool, true, false, cond, _&&_}
-use mathlib.Core.Option.{Option, none, some}
+use mathlib.Core.Option.{none}
 use mathlib.Core.Path.{_≡_, refl, sym, ap, _∙_}
 use native.Mathlib.Omega.{arith}
 use borrow.Author.Needs.{needs}
-use borrow.Author.Tests.{eqb-true, ltb-true, ne-eqb}
+use borrow.Author.Tests.{ltb-true, ne-eqb}
 use denote.Enum.Declared.{tagOf}
 use lib.Dec.{ltb, eqb}
 use Rattle.format.specs.Bytes.{ascii}
 use Rattle.format.specs.Walk.{nameSection, hintSection}
 use Rattle.format.specs.Laws.Outcomes.{onBoth}
-use Rattle.stream.specs.Counting.{Number, counted}
+use Rattle.stream.specs.Counting.{counted}
 use Rattle.stream.specs.Texts.{Text, noneWanted, textByte, nothingWanted, textEnds}
 use Rattle.stream.specs.Naming.{Names, noneMet, matchEnds, meet, met}
 use Rattle.stream.specs.Contents.{Contents, sizing, naming, paying, failing, named, name, sized, content}
-use Rattle.stream.specs.Stream.{Done, inCustom, custom, byte, State, step}
+use Rattle.stream.specs.Stream.{Done, inCustom, custom, byte}
 use Rattle.stream.specs.Calls.{most}
-use Rattle.stream.specs.Fields.{rowNumber, rowFrom, doneFrom, numberFrom, textFrom, namesFrom, contentsFrom, stateFrom}
+use Rattle.stream.specs.Fields.{rowNumber, rowFrom, doneFrom, numberFrom, textFrom, namesFrom, contentsFrom}
 use Rattle.stream.specs.Fits.{numberFits, textFits, contentsFit}
-use Rattle.stream.specs.Phases.{numberOf, Countable, countedOf, textOf, Spellable, metOf, Fit, Steps, Closing, Closes, Contains, NameBegins, NameSized, NameEnds, Spelling, Spells}
+use Rattle.stream.specs.Phases.{numberOf, Countable, countedOf, textOf, Spellable, metOf, Fit, Steps, Closing, Closes, NameBegins, NameSized, NameEnds, Spelling, Spells}
 use Rattle.stream.specs.Laws.Fields.{row-back}
 use Rattle.stream.specs.Laws.Fits.{name-fits, counted-fits, countedFits, text-fits}
 use Rattle.stream.specs.declared.Met.{Met}
 use Rattle.stream.specs.declared.Stream.{Stream}
 use Rattle.stream.specs.declared.numbers.Counted.{Counted}
-use Rattle.stream.specs.declared.numbers.Counted.the-variants.{Whole, Partly, Over}
+use Rattle.stream.specs.declared.numbers.Counted.the-variants.{Whole, Partly}
 use Rattle.stream.specs.declared.texts.Text.{Text as TextSo}
 use Rattle.stream.proofs.numbers.Counted as counted-type
 use Rattle.stream.proofs.Leaves.{come-most}
 use Rattle.stream.proofs.States.{at, at-same, as-custom, as-sizing, as-naming, as-paying, as-failing, custom-count, custom-left, custom-contents}
-use Rattle.stream.proofs.SectionLaws.{limit64, step-so, as-over}
+use Rattle.stream.proofs.SectionLaws.{step-so, as-over}
 
 -- WHAT A NAME COMES TO
 

@@ -1,6 +1,6 @@
 -- From section to section: one law for each way through the code.
 use Prim.Native.Nat.{ℕ, zero, suc, _+_, _-_, _≤_, _<_}
-use mathlib.Core.Bool.{Bool, true, false, cond, not, _&&_, _||_}
+use mathlib.Core.Bool.{Bool, true, false, cond, _||_}
 use mathlib.Core.List.{List, [], _∷_}
 use mathlib.Core.Option.{Option, none, some}
 use mathlib.Core.Path.{_≡_, refl, sym, ap, _∙_}
@@ -8,36 +8,36 @@ use native.Mathlib.Omega.{arith}
 use borrow.Author.Needs.{needs}
 use borrow.Author.Tests.{eq-eqb, ne-eqb}
 use denote.Enum.Declared.{tagOf}
-use lib.Dec.{ltb, leb, eqb}
+use lib.Dec.{eqb}
 use lib.ListN.{length, drop, getD}
 use lib.Seq.{drop-cons}
 use Rattle.format.specs.Options.{isSome, orElse}
 use Rattle.format.specs.Refusals.{numberOf}
-use Rattle.format.specs.Reading.{got, Judged, accepted, refused}
-use Rattle.format.specs.Walk.{preamble, isCustom, isCode, rank, idRules, nameRules}
+use Rattle.format.specs.Reading.{accepted, refused}
+use Rattle.format.specs.Walk.{preamble, isCustom, isCode, rank, idRules}
 use Rattle.format.specs.Laws.Refusals.{number-small}
 use Rattle.format.specs.declared.Place.{Place}
 use Rattle.format.specs.declared.Reason.{Reason}
 use Rattle.format.specs.declared.Reason.the-variants.{NoPreamble}
 use Rattle.walk.specs.Sections.{bit, seenOf, ruling, IdRuled, Sees}
-use Rattle.walk.specs.declared.rules.Called.the-variants.{Row, Other}
+use Rattle.walk.specs.declared.rules.Called.the-variants.{Other}
 use Rattle.walk.specs.declared.rules.Ruling.{Ruling}
 use Rattle.walk.specs.declared.rules.Ruling.the-variants.{Fine, Against}
 use Rattle.walk.specs.declared.rules.Seen.{Seen}
 use Rattle.walk.proofs.rules.Ruling as ruling-type
-use Rattle.stream.specs.Counting.{Number, fresh, counted}
+use Rattle.stream.specs.Counting.{fresh, counted}
 use Rattle.stream.specs.Contents.{Contents, sizing, contentEnds}
-use Rattle.stream.specs.Stream.{Done, nothingDone, thereIn, seenIn, plainDone, customDone, Phase, starting, settled, measuring, skipping, inCustom, skip, custom, enter, measured, admit, opening, start, startByte, byte, State, step}
+use Rattle.stream.specs.Stream.{Done, nothingDone, seenIn, plainDone, customDone, Phase, starting, settled, measuring, skipping, inCustom, skip, custom, enter, measured, admit, opening, start, startByte, byte, State, step}
 use Rattle.stream.specs.Calls.{most}
 use Rattle.stream.specs.Fields.{flag, placeFrom, doneFrom, numberFrom, contentsFrom, stateFrom}
-use Rattle.stream.specs.Phases.{numberOf as numberSo, Countable, countedOf, Fit, Steps, Refuses, Enters, Closing, Closes, seenSo}
+use Rattle.stream.specs.Phases.{numberOf as numberSo, Countable, countedOf, Fit, Steps, Refuses, Enters, seenSo, Starting, blankAt}
 use Rattle.stream.specs.declared.numbers.Counted.{Counted}
 use Rattle.stream.specs.declared.numbers.Counted.the-variants.{Whole, Partly, Over}
 use Rattle.stream.specs.declared.Spot.{Spot}
 use Rattle.stream.specs.declared.Stream.{Stream}
 use Rattle.stream.proofs.numbers.Counted as counted-type
 use Rattle.stream.proofs.Leaves.{come-most}
-use Rattle.stream.proofs.States.{at, at-same, as-starting, as-between, as-refused, as-measuring, as-skipping, as-custom, as-sizing, starting-below, measuring-count, measuring-at, measuring-number}
+use Rattle.stream.proofs.States.{at, at-same, as-starting, as-between, as-refused, as-measuring, as-skipping, as-custom, as-sizing, measuring-count, measuring-at, measuring-number}
 
 pub refuses : (f r : Stream) (number offset : ℕ) → r .phase ≡ 2 → r .total ≡ f .total → r .refusal ≡ number → r .text ≡ offset → Refuses f number offset r
 refuses f r number offset p t n o = record { means = as-refused r p ∙ at-same t (λ i. settled (refused (n i) (o i))) }
@@ -61,6 +61,12 @@ limit64 = 18_446_744_073_709_551_616
 
 -- THE PREAMBLE
 
+pub drop-all : (l : List ℕ) (k : ℕ) → length l ≤ k → drop k l ≡ []
+drop-all [] zero h = refl
+drop-all [] (suc k) h = refl
+drop-all (a ∷ l) zero h = absurd (omega arith)
+drop-all (a ∷ l) (suc k) h = drop-all l k (omega arith)
+
 next-wanted : (l : List ℕ) (o : ℕ) → suc o < length l → start (drop (suc o) l) ≡ starting
 unfolding start
 next-wanted l o h = rw (drop-cons l (suc o) 0 h)
@@ -68,12 +74,6 @@ next-wanted l o h = rw (drop-cons l (suc o) 0 h)
 all-come : (l : List ℕ) (o : ℕ) → length l ≤ suc o → start (drop (suc o) l) ≡ settled (accepted nothingDone)
 unfolding start
 all-come l o h = rw (drop-all l (suc o) h)
-  where
-    drop-all : (l : List ℕ) (k : ℕ) → length l ≤ k → drop k l ≡ []
-    drop-all [] zero h = refl
-    drop-all [] (suc k) h = refl
-    drop-all (a ∷ l) zero h = absurd (omega arith)
-    drop-all (a ∷ l) (suc k) h = drop-all l k (omega arith)
 
 abbrev preambleSo : List ℕ
 preambleSo = 0x00 ∷ 0x61 ∷ 0x73 ∷ 0x6D ∷ 0x01 ∷ 0x00 ∷ 0x00 ∷ 0x00 ∷ []
@@ -82,9 +82,9 @@ preamble-is : preamble ≡ preambleSo
 unfolding preamble
 preamble-is = refl
 
-module _ {f : Stream} (k : Fit f × (f .phase ≡ 0)) where
+module _ {f : Stream} (k : Starting f) where
   pub preamble-below : f .total < 8
-  preamble-below = starting-below (k .0) (k .1)
+  preamble-below = k .below
 
   -- no sum wraps
   pub preamble-adds : f .total + 1 < limit64
@@ -94,7 +94,7 @@ module _ {f : Stream} (k : Fit f × (f .phase ≡ 0)) where
   unfolding byte startByte
   here-wanted b =
       let h : f .total < 8 = preamble-below in
-      step-so f b (as-starting f (k .1)) ∙ rw (preamble-is, drop-cons preambleSo (f .total) 0 h)
+      step-so f b (as-starting f (k .phase)) ∙ rw (preamble-is, drop-cons preambleSo (f .total) 0 h)
 
   one : f .total + 1 ≡ suc (f .total)
   one = omega arith
@@ -109,6 +109,22 @@ module _ {f : Stream} (k : Fit f × (f .phase ≡ 0)) where
 
       pub preamble-whole : 8 ≤ f .total + 1 → r .phase ≡ 1 → doneFrom r ≡ nothingDone → Steps f b r
       preamble-whole h p d = record { means = as-between r p ∙ at-same (t ∙ one) (ap (λ x. settled (accepted x)) d) ∙ sym (here-wanted b ∙ rw (eq-eqb (getD preambleSo (f .total) 0) b e, all-come preambleSo (f .total) (omega arith))) }
+
+-- behind it, where nobody began
+pub blank-done : {g : Stream} {total : ℕ} → g ≡ blankAt total 1 → doneFrom g ≡ nothingDone
+blank-done is = rw is refl
+
+pub blank-opens : {g : Stream} {total : ℕ} → g ≡ blankAt total 1 → total < most → (g .phase ≡ 1) × (g .total < most)
+blank-opens is h = (rw is refl, rw is h)
+
+pub opens-late : {f g r : Stream} {b : ℕ} → g ≡ blankAt (f .total) 1 → f .phase ≡ 0 → 8 ≤ f .total → Steps g b r → Steps f b r
+unfolding byte startByte preamble
+opens-late {f} {g} {b = b} is p h s =
+    let there : step (stateFrom g) b ≡ at (suc (g .total)) (opening (accepted (doneFrom g)) (g .total) b) = step-so g b (as-between g (rw is refl)) in
+    let here : step (stateFrom f) b ≡ at (suc (f .total)) (startByte (drop (f .total) preamble) (f .total) b) = step-so f b (as-starting f p) in
+    let same : g .total ≡ f .total = ap (λ (x : Stream). x .total) is in
+    let none : startByte (drop (f .total) preamble) (f .total) b ≡ opening (accepted nothingDone) (f .total) b = ap (λ l. startByte l (f .total) b) (drop-all preamble (f .total) h) in
+    record { means = s .means ∙ there ∙ at-same (ap suc same) (λ i. opening (accepted (blank-done is i)) (same i) b) ∙ sym (here ∙ at-same refl none) }
 
 pub ruleset starts = (preamble-adds, refuses, number-fits, flag-yes, flag-no, preamble-below, preamble-wrong, preamble-next, preamble-whole, needs)
 

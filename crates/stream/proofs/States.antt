@@ -1,21 +1,17 @@
 -- Structs as states: what a struct in each phase is, and what follows of one that fits.
-use Prim.Native.Nat.{ℕ, zero, suc, _+_, _-_, _≤_, _<_}
-use mathlib.Core.Bool.{Bool, true, false, cond, _&&_, _||_}
-use mathlib.Core.List.{List, [], _∷_}
-use mathlib.Core.Option.{Option, none, some}
+use Prim.Native.Nat.{ℕ, _-_, _≤_, _<_}
+use mathlib.Core.Bool.{true, _&&_}
 use mathlib.Core.Path.{_≡_, refl, sym, ap, _∙_}
 use native.Mathlib.Omega.{arith}
 use borrow.Author.Tests.{leb-true, ltb-true, ne-eqb}
-use lib.Dec.{ltb, leb, eqb}
-use lib.ListN.{length}
-use Rattle.format.specs.Reading.{Judged, accepted, refused}
-use Rattle.format.specs.Walk.{preamble, tracked}
+use lib.Dec.{ltb}
+use Rattle.format.specs.Reading.{accepted, refused}
 use Rattle.format.specs.Laws.Outcomes.{onBoth}
-use Rattle.stream.specs.Contents.{Contents, sizing, naming, paying, failing}
-use Rattle.stream.specs.Stream.{Done, Phase, starting, settled, measuring, skipping, inCustom, State}
+use Rattle.stream.specs.Contents.{sizing, naming, paying, failing}
+use Rattle.stream.specs.Stream.{Phase, starting, settled, measuring, skipping, inCustom, State}
 use Rattle.stream.specs.Fields.{doneFrom, numberFrom, textFrom, namesFrom, rowFrom, contentsFrom, phaseFrom, stateFrom}
-use Rattle.stream.specs.Fits.{numberFits, textFits, rowFits, contentsFit, doneFits, phaseFits, fits}
-use Rattle.stream.specs.Phases.{numberOf, Countable, Fit}
+use Rattle.stream.specs.Fits.{contentsFit, doneFits, phaseFits, fits}
+use Rattle.stream.specs.Phases.{Countable, Fit}
 use Rattle.stream.specs.declared.Stream.{Stream}
 
 abbrev pub at : (total : ℕ) → Phase → State
@@ -71,10 +67,6 @@ module _ {f : Stream} (k : Fit f) where
   fit-at : {p : Phase} → stateFrom f ≡ at (f .total) p → phaseFits p (f .total) ≡ true
   unfolding fits
   fit-at e = sym (ap fits e) ∙ k .fits
-
-  pub starting-below : f .phase ≡ 0 → f .total < 8
-  unfolding preamble
-  starting-below e = ltb-true (f .total) 8 (fit-at (as-starting f e))
 
   module _ (e : f .phase ≡ 3) where
     pub measuring-count : f .count ≤ f .total

@@ -11,9 +11,8 @@ use Rattle.format.specs.Reading.{Judged, accepted, refused}
 use Rattle.format.specs.declared.Place.{Place}
 use Rattle.format.specs.declared.Reason.{Reason}
 use Rattle.format.specs.declared.Reason.the-variants.{AfterFinish, TotalTooLarge}
-use Rattle.format.specs.declared.Verdict.{Verdict}
 use Rattle.format.specs.declared.Verdict.the-variants.{Accepted, Refused}
-use Rattle.stream.specs.Stream.{Summary, begin, finish, steps}
+use Rattle.stream.specs.Stream.{Summary, finish, steps}
 use Rattle.stream.specs.Fields.{held, over, overAt, stateFrom}
 use Rattle.stream.specs.Fits.{fits}
 use Rattle.stream.specs.declared.Ended.{Ended}

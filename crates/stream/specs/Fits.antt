@@ -6,7 +6,7 @@ use mathlib.Core.Option.{Option, none, some}
 use lib.Dec.{ltb, leb}
 use lib.ListN.{length, getD}
 use Rattle.format.specs.Reading.{accepted, refused}
-use Rattle.format.specs.Walk.{preamble, tracked}
+use Rattle.format.specs.Walk.{tracked}
 use Rattle.stream.specs.Counting.{Number, weight, mostFollowing}
 use Rattle.stream.specs.Texts.{Text}
 use Rattle.stream.specs.Contents.{Contents, sizing, naming, paying, failing}
@@ -36,7 +36,7 @@ abbrev pub doneFits : Done → (total : ℕ) → Bool
 doneFits d total = leb (d .told .count) total
 
 abbrev pub phaseFits : Phase → (total : ℕ) → Bool
-phaseFits starting total = ltb total (length preamble)
+phaseFits starting total = true
 phaseFits (settled (accepted d)) total = doneFits d total
 phaseFits (settled (refused number offset)) total = true
 phaseFits (measuring d id at n) total = doneFits d total && (ltb at total && numberFits n)

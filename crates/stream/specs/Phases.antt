@@ -175,6 +175,16 @@ pub record WholeName (f : Stream) (part : List ℕ) (i : ℕ) : Type 0 where
   pub phase : f .phase ≡ 6
   pub whole : wholeHere f (length part - i) ≡ true
 
+-- in the preamble, or said to be
+pub record InPreamble (f : Stream) : Type 0 where
+  pub phase : f .phase ≡ 0
+  pub countable : f .total < most
+
+-- in the preamble
+pub record Starting (f : Stream) : Type 0 where
+  pub phase : f .phase ≡ 0
+  pub below : f .total < 8
+
 -- what a name comes to by the walk's rules
 pub record NameJudged (bs : List ℕ) (r : JudgedName) : Type 0 where
   pub valid : r .valid ≡ utf8 bs

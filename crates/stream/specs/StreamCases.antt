@@ -1,11 +1,11 @@
 -- K5. Cases of modules as they arrive (docs/DECISIONS.md): cut in awkward places, and what is refused. Computed by the checker. Assumes nothing.
 use Prim.Native.Nat.{ℕ}
-use mathlib.Core.List.{List, [], _∷_, _++_, map}
+use mathlib.Core.List.{List, [], _∷_}
 use mathlib.Core.Option.{none, some}
 use mathlib.Core.Path.{_≡_, refl}
 use Rattle.format.specs.Bytes.{ascii}
 use Rattle.format.specs.Examples.{digit, hex}
-use Rattle.format.specs.Reading.{Judged, accepted, refused}
+use Rattle.format.specs.Reading.{accepted, refused}
 use Rattle.format.specs.Walk.{preamble, nameSection, hintSection, greatestId, rank, isCustom, isCode, isData, idRules, nameRules}
 use Rattle.format.specs.declared.Reason.{Reason}
 use Rattle.format.specs.declared.Reason.the-variants.{AfterFinish, TotalTooLarge}
@@ -15,10 +15,10 @@ use Rattle.stream.specs.Counting.{weight, counted}
 use Rattle.stream.specs.Texts.{firstByte, wanting, wantedByte, textByte, nothingWanted, textEnds}
 use Rattle.stream.specs.Naming.{matchByte, matchEnds}
 use Rattle.stream.specs.Contents.{named, name, sized, content, nameEnds, contentEnds}
-use Rattle.stream.specs.Stream.{Summary, place, settled, customDone, skip, custom, enter, measured, admit, opening, start, startByte, startEnd, byte, end, State, begin, step, finish, steps}
+use Rattle.stream.specs.Stream.{place, settled, customDone, skip, custom, enter, measured, admit, opening, start, startByte, startEnd, byte, end, State, begin, step, finish, steps, starting}
 use Rattle.stream.specs.Fields.{held, contentsFrom, phaseFrom, stateFrom, overAt}
 use Rattle.stream.specs.Fits.{fits}
-use Rattle.stream.specs.Calls.{most, taken, ended, endingOf}
+use Rattle.stream.specs.Calls.{taken, ended, endingOf}
 use Rattle.stream.specs.declared.Ending.{Ending}
 use Rattle.stream.specs.declared.Stream.{Stream}
 
@@ -77,11 +77,17 @@ arriving-hold = refl
 abbrev refusedAt : ℕ → Stream
 refusedAt total = held (record { total = total; phase = settled (refused 1 0) })
 
+-- and one that was just begun, but for its total
+abbrev begunAt : ℕ → Stream
+begunAt total = held (record { total = total; phase = starting })
+
 pub verdicts : List Verdict
 verdicts =
     -- the total near its limit: three bytes below it, three are taken and four are not
     taken (refusedAt 18_446_744_073_709_551_612) (hex "00 00 00") .verdict ∷
     taken (refusedAt 18_446_744_073_709_551_612) (hex "00 00 00 00") .verdict ∷
+    taken (begunAt 18_446_744_073_709_551_612) (hex "00 00 00") .verdict ∷
+    taken (begunAt 18_446_744_073_709_551_612) (hex "00 00 00 00") .verdict ∷
     -- at it, a part of no length is taken
     taken (refusedAt 18_446_744_073_709_551_615) [] .verdict ∷
     taken (refusedAt 18_446_744_073_709_551_615) (hex "00") .verdict ∷
@@ -95,7 +101,7 @@ abbrev notTaken : Reason → Verdict
 notTaken why = Refused (record { reason = why; offset = record { 0 = 0 } })
 
 pub judged : List Verdict
-judged = Accepted ∷ notTaken TotalTooLarge ∷ Accepted ∷ notTaken TotalTooLarge ∷ notTaken AfterFinish ∷ notTaken AfterFinish ∷ notTaken AfterFinish ∷ []
+judged = Accepted ∷ notTaken TotalTooLarge ∷ Accepted ∷ notTaken TotalTooLarge ∷ Accepted ∷ notTaken TotalTooLarge ∷ notTaken AfterFinish ∷ notTaken AfterFinish ∷ notTaken AfterFinish ∷ []
 
 pub verdicts-hold : verdicts ≡ judged
 unfolding digit hex preamble held begin phaseFrom contentsFrom stateFrom fits taken ended verdicts judged

@@ -6,7 +6,7 @@ ghost use lib.Seq.{slice};
 ghost use Rattle.walk.specs.Sections.{rowCalled, InTable};
 ghost use Rattle.stream.specs.Calls.{most};
 ghost use Rattle.stream.specs.Fields.{rowNumber};
-ghost use Rattle.stream.specs.Phases.{Fit, Steps, Passing, Passes, Reaches, Ready, Moves, Feeding, Feeds, wholeHere, WholeName, NameJudged};
+ghost use Rattle.stream.specs.Phases.{Fit, Steps, Passing, Passes, Reaches, Ready, Moves, Feeding, Feeds, wholeHere, WholeName, NameJudged, InPreamble};
 use crate::BETWEEN;
 use crate::MEASURING;
 use crate::NAMING;
@@ -19,6 +19,8 @@ use crate::contents::close;
 use crate::contents::named;
 use crate::contents::naming_byte;
 use crate::contents::sizing_byte;
+use crate::holding::blank;
+use crate::sections::PREAMBLE_LENGTH;
 use crate::sections::measuring_byte;
 use crate::sections::opening_byte;
 use crate::sections::starting_byte;
@@ -70,6 +72,17 @@ fn pass(s: Stream, n: u32) -> Stream
     close(next)
 }
 
+// A byte of the preamble, or behind it where nobody began: so many bytes would have been the preamble.
+fn preamble_byte(s: Stream, b: u8) -> Stream
+    requires { ⌜ InPreamble s ⌝ }
+    ensures { λ r. ⌜ Steps s b r ⌝ }
+{
+    if s.total < PREAMBLE_LENGTH as u64 {
+        return starting_byte(s, b);
+    }
+    opening_byte(blank(s.total, BETWEEN), b)
+}
+
 // A byte where each one counts.
 fn one(s: Stream, b: u8) -> Stream
     requires { ⌜ Fit s × (s .total < most) × (s .phase < 6) × (s .phase ≡ 2 → ⊥) × (s .phase ≡ 4 → ⊥) ⌝ }
@@ -84,7 +97,7 @@ fn one(s: Stream, b: u8) -> Stream
     if s.phase == SIZING {
         return sizing_byte(s, b);
     }
-    starting_byte(s, b)
+    preamble_byte(s, b)
 }
 
 // What a name comes to by the walk's rules: whether it is text, and its row, counted from 1.

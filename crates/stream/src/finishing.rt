@@ -1,7 +1,9 @@
 // What the finish says.
 ghost use mathlib.Core.Path.{_≡_};
+ghost use lib.ListN.{drop};
 ghost use Rattle.format.specs.Reading.{refused};
-ghost use Rattle.stream.specs.Stream.{finish};
+ghost use Rattle.format.specs.Walk.{preamble};
+ghost use Rattle.stream.specs.Stream.{startEnd, finish};
 ghost use Rattle.stream.specs.Calls.{toldOf, endingOf};
 ghost use Rattle.stream.specs.Fields.{placeFrom, stateFrom};
 ghost use Rattle.stream.specs.Phases.{Fit};
@@ -12,8 +14,10 @@ use crate::STARTING;
 use crate::Spot;
 use crate::Stream;
 use crate::Told;
+use crate::holding::blank;
 use crate::sections::NO_PREAMBLE;
 use crate::sections::PAST_ITS_PART;
+use crate::sections::PREAMBLE_LENGTH;
 
 const NOTHING_TOLD: Told = Told {
     there: 0,
@@ -67,6 +71,17 @@ fn all_told(s: Stream) -> Ending
     }
 }
 
+// No byte more comes in the preamble.
+fn preamble_ending(total: u64) -> Ending
+    ensures { λ r. ⌜ r ≡ endingOf (startEnd (drop total preamble)) ⌝ }
+{
+    if total < PREAMBLE_LENGTH as u64 {
+        return refused_ending(NO_PREAMBLE, 0);
+    }
+    // nobody began such a state: so many bytes would have been the preamble
+    all_told(blank(total, BETWEEN))
+}
+
 // No byte more comes: what is not whole by now is refused.
 pub fn end(s: Stream) -> Ending
     requires { ⌜ Fit s ⌝ }
@@ -79,7 +94,7 @@ pub fn end(s: Stream) -> Ending
         return refused_ending(s.refusal, s.text);
     }
     if s.phase == STARTING {
-        return refused_ending(NO_PREAMBLE, 0);
+        return preamble_ending(s.total);
     }
     refused_ending(PAST_ITS_PART, s.at + 1)
 }

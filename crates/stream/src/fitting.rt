@@ -18,7 +18,6 @@ use crate::Stream;
 use crate::naming::OLDER_ROW;
 use crate::numbers::MOST_FOLLOWING;
 use crate::numbers::weight_of;
-use crate::sections::PREAMBLE_LENGTH;
 
 fn number_fits(s: Stream) -> bool
     ensures { λ r. ⌜ r ≡ numberFits (numberFrom s) ⌝ }
@@ -68,7 +67,7 @@ fn fit(s: Stream) -> bool
     ensures { λ r. ⌜ r ≡ fits (stateFrom s) ⌝ }
 {
     if s.phase == STARTING {
-        return s.total < PREAMBLE_LENGTH as u64;
+        return true;
     }
     if s.phase == BETWEEN {
         return s.count <= s.total;

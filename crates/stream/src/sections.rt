@@ -4,7 +4,7 @@ ghost use Prim.Native.Nat.{_<_};
 ghost use Rattle.format.specs.Refusals;
 ghost use Rattle.stream.specs.Calls.{most};
 ghost use Rattle.stream.specs.Fields;
-ghost use Rattle.stream.specs.Phases.{Fit, Steps, Refuses, Enters, seenSo};
+ghost use Rattle.stream.specs.Phases.{Fit, Steps, Refuses, Enters, seenSo, Starting};
 use crate::BETWEEN;
 use crate::MEASURING;
 use crate::REFUSED;
@@ -72,7 +72,7 @@ pub fn seen_by(s: Stream) -> Seen
 
 // A byte of the preamble.
 pub fn starting_byte(s: Stream, b: u8) -> Stream
-    requires { ⌜ Fit s × (s .phase ≡ 0) ⌝ }
+    requires { ⌜ Starting s ⌝ }
     ensures { λ r. ⌜ Steps s b r ⌝ }
 {
     let at = s.total as usize;

@@ -1,7 +1,6 @@
 -- K5: what the promises of the three calls come to.
 use Prim.Native.Nat.{ℕ, _+_, _≤_, _<_}
-use mathlib.Core.Bool.{true, false}
-use mathlib.Core.List.{List, [], _∷_}
+use mathlib.Core.List.{List}
 use mathlib.Core.Option.{Option, none, some}
 use mathlib.Core.Path.{_≡_, refl, sym, ap, _∙_}
 use native.Mathlib.Omega.{arith}
@@ -19,14 +18,14 @@ use Rattle.stream.specs.Stream.{Summary, begin, finish, steps}
 use Rattle.stream.specs.Walked.{summary, walked}
 use Rattle.stream.specs.Fields.{held, stateFrom}
 use Rattle.stream.specs.Calls.{most, isOpen, taken, toldOf, endingOf, ended, Parts, noPart, oneTaken, oneRefused, together}
-use Rattle.stream.specs.Laws.Calls.{part-taken, part-too-large, part-too-late, refused-stays, parts-begun, however-cut, parts-open, parts-ended, open-ends, shut-ends, ended-part, ended-again}
+use Rattle.stream.specs.Laws.Calls.{part-taken, part-too-large, refused-stays, parts-begun, however-cut, parts-open, parts-ended, open-ends, shut-ends, ended-part, ended-again}
 use Rattle.stream.specs.Laws.Fields.{held-total}
 use Rattle.stream.specs.Laws.Fits.{steps-total}
 use Rattle.stream.specs.declared.Stream.{Stream}
 use Rattle.stream.specs.declared.Told.{Told}
 use Rattle.wakemiono.specs.Arriving.{wmEnding}
 use Rattle.wakemiono.specs.Boundary.{wmNone, wmFound, wmRefused, wmCount, wmPlace, wmJudged}
-use Rattle.wakemiono.specs.Calls.{wm-walk, wm-custom, wm-stream-begin, wm-stream-part, wm-stream-finish}
+use Rattle.wakemiono.specs.Calls.{wm-walk, wm-custom, wm-stream-part, wm-stream-finish}
 use Rattle.wakemiono.specs.declared.WmAnswer.{WmAnswer}
 use Rattle.wakemiono.specs.declared.arriving.WmStreamAnswer.{WmStreamAnswer}
 use Rattle.promises.specs.Demands.{Arrives, nothingMore, found, notFound, Begun, walkFields, nameFields, hintFields, olderFields}

@@ -1,6 +1,6 @@
 -- Many bytes at once: where none matters, the code steps over all that a part has of them; and a name that a part has whole is judged at once.
 use Prim.Native.Nat.{ℕ, zero, suc, _+_, _-_, _≤_}
-use mathlib.Core.Bool.{Bool, cond}
+use mathlib.Core.Bool.{cond}
 use mathlib.Core.List.{List, [], _∷_, _++_}
 use mathlib.Core.Option.{Option}
 use mathlib.Core.Path.{_≡_, refl, sym, ap, ap₂, _∙_}
@@ -9,7 +9,7 @@ use lib.ListN.{length, take, drop}
 use Rattle.format.specs.Refusals.{numberOf}
 use Rattle.format.specs.Reading.{refused}
 use Rattle.format.specs.declared.Reason.the-variants.{NotText}
-use Rattle.stream.specs.Texts.{Text, textByte, textEnds}
+use Rattle.stream.specs.Texts.{Text, textByte}
 use Rattle.stream.specs.Naming.{Names, meet}
 use Rattle.stream.specs.Contents.{Contents, paying, failing, named, name, content}
 use Rattle.stream.specs.Stream.{Done, Phase, settled, skip, custom, opening, byte, State, step, steps}

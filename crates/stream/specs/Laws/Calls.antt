@@ -1,9 +1,8 @@
 -- What follows of parts one after the other: however they are cut, whatever was refused between them.
 use Prim.Native.Nat.{ℕ, _+_, _≤_, _<_}
-use mathlib.Core.Bool.{Bool, true, false, cond}
-use mathlib.Core.List.{List, [], _∷_, _++_}
+use mathlib.Core.Bool.{true, false}
+use mathlib.Core.List.{List}
 use mathlib.Core.Path.{_≡_, refl, sym, ap, _∙_}
-use native.Mathlib.Omega.{arith}
 use borrow.Author.Tests.{le-leb, lt-leb}
 use lib.Dec.{leb, eqb}
 use lib.ListN.{length}
@@ -22,7 +21,7 @@ use Rattle.stream.specs.Fits.{fits}
 use Rattle.stream.specs.Calls.{most, isOpen, notTaken, taken, endingOf, ended, Parts, noPart, oneTaken, oneRefused, together}
 use Rattle.stream.specs.Laws.Resumed.{read-as-walked, steps-append}
 use Rattle.stream.specs.Laws.Fields.{held-back}
-use Rattle.stream.specs.Laws.Fits.{both, steps-fit, begin-fits}
+use Rattle.stream.specs.Laws.Fits.{steps-fit, begin-fits}
 use Rattle.stream.specs.declared.Stream.{Stream}
 
 -- A state that bytes lead to is open

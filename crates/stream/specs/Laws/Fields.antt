@@ -8,7 +8,7 @@ use Rattle.format.specs.Reading.{accepted, refused}
 use Rattle.walk.specs.Sections.{bit}
 use Rattle.stream.specs.Contents.{Contents, sizing, naming, paying, failing}
 use Rattle.stream.specs.Stream.{Summary, Done, Phase, starting, settled, measuring, skipping, inCustom, State}
-use Rattle.stream.specs.Fields.{flag, spotOf, rowsThere, rowNumber, inPhase, held, placeFrom, rowFrom, doneFrom, contentsFrom, phaseFrom, stateFrom}
+use Rattle.stream.specs.Fields.{flag, spotOf, rowsThere, rowNumber, inPhase, held, placeFrom, rowFrom, contentsFrom, phaseFrom, stateFrom}
 use Rattle.format.specs.declared.Place.{Place}
 
 code-back : (b : Bool) → eqb (flag b) 1 ≡ b

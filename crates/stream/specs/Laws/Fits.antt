@@ -1,22 +1,21 @@
 -- A byte keeps what fits. So the code can count with every state that bytes lead to.
 use Prim.Native.Nat.{ℕ, zero, suc, _+_, _*_, _%_, _≤_, _<_}
-use mathlib.Core.Bool.{Bool, true, false, cond, _&&_}
+use mathlib.Core.Bool.{Bool, true, false, _&&_}
 use mathlib.Core.List.{List, [], _∷_}
-use mathlib.Core.Option.{Option, none, some}
-use mathlib.Core.Path.{_≡_, refl, sym, ap, _∙_}
+use mathlib.Core.Path.{_≡_, refl}
 use native.Mathlib.Nat.{mul-le-mul-left}
 use native.Mathlib.Omega.{arith}
-use borrow.Author.Tests.{lt-ltb, le-leb, ltb-true, ltb-false, leb-true}
+use borrow.Author.Tests.{lt-ltb, le-leb, ltb-true, leb-true}
 use lib.Dec.{ltb, leb, eqb}
-use lib.ListN.{length, drop, length-drop}
+use lib.ListN.{length, drop}
 use Rattle.format.specs.Reading.{Outcome, got, stop, Judged, accepted, refused}
 use Rattle.format.specs.Text.{isAllowed, isLater, withLater}
 use Rattle.format.specs.Walk.{preamble, nameSection, hintSection, olderHintSection, nameRules, idRules}
 use Rattle.format.specs.Laws.Outcomes.{byTest, onBoth}
 use Rattle.stream.specs.Counting.{Number, fresh, weight, mostFollowing, Counted, whole, partly, over, counted}
-use Rattle.stream.specs.Texts.{Text, noneWanted, noText, firstByte, wanting, wantedByte, textByte, textEnds}
+use Rattle.stream.specs.Texts.{Text, noneWanted, firstByte, wanting, wantedByte, textByte, textEnds}
 use Rattle.stream.specs.Naming.{Names, noneMet, meet, firstOf, met, matchEnds}
-use Rattle.stream.specs.Contents.{Called, Contents, sizing, naming, paying, failing, named, name, sized, content, nameEnds, contentEnds}
+use Rattle.stream.specs.Contents.{Called, Contents, sizing, naming, paying, failing, named, name, sized, content, contentEnds}
 use Rattle.stream.specs.Stream.{Done, seenIn, calledDone, kept, customDone, Phase, starting, settled, measuring, skipping, inCustom, skip, custom, enter, measured, admit, opening, start, startByte, byte, State, begin, step, steps}
 use Rattle.stream.specs.Fits.{numberFits, pointLimit, textFits, rowFits, contentsFit, doneFits, phaseFits, fits}
 
@@ -162,19 +161,19 @@ unfolding opening
 opening-fits (accepted d) o b f = admit-fits (idRules (seenIn d) o b 0 []) (measuring d b o fresh) (suc o) (both (done-later d o (suc o) f (omega arith)) (both (lt-ltb o (suc o) (omega arith)) fresh-fits))
 opening-fits (refused n at) o b f = refl
 
-start-fits : (xs : List ℕ) (o : ℕ) → suc (length xs) + o ≡ length preamble → phaseFits (start xs) (suc o) ≡ true
+start-fits : (xs : List ℕ) (o : ℕ) → phaseFits (start xs) (suc o) ≡ true
 unfolding start
-start-fits [] o h = le-leb 0 (suc o) (omega arith)
-start-fits (x ∷ xs) o h = lt-ltb (suc o) (length preamble) (omega arith)
+start-fits [] o = le-leb 0 (suc o) (omega arith)
+start-fits (x ∷ xs) o = refl
 
-start-byte-fits : (xs : List ℕ) (o b : ℕ) → length xs + o ≡ length preamble → phaseFits (startByte xs o b) (suc o) ≡ true
+start-byte-fits : (xs : List ℕ) (o b : ℕ) → phaseFits (startByte xs o b) (suc o) ≡ true
 unfolding startByte
-start-byte-fits [] o b h = opening-fits _ o b (le-leb 0 o (omega arith))
-start-byte-fits (x ∷ xs) o b h = byTest (eqb x b) (λ t. rw t (start-fits xs o (omega arith))) (λ t. rw t)
+start-byte-fits [] o b = opening-fits _ o b (le-leb 0 o (omega arith))
+start-byte-fits (x ∷ xs) o b = byTest (eqb x b) (λ t. rw t (start-fits xs o)) (λ t. rw t)
 
 byte-fits : (p : Phase) (o b : ℕ) → phaseFits p o ≡ true → phaseFits (byte p o b) (suc o) ≡ true
 unfolding byte
-byte-fits starting o b f = let h = ltb-true o (length preamble) f in start-byte-fits (drop o preamble) o b (omega (arith, length-drop o preamble))
+byte-fits starting o b f = start-byte-fits (drop o preamble) o b
 byte-fits (settled j) o b f = opening-fits j o b f
 byte-fits (measuring d id at n) o b f = onBoth (doneFits d o) _ f λ g f′. onBoth (ltb at o) (numberFits n) f′ λ h k. measured-fits d id at (counted n b) o g (let l = ltb-true at o h in omega arith) (counted-fits n b k)
 byte-fits (skipping d at zero) o b f = onBoth (doneFits d o) _ f λ g f′. opening-fits (accepted d) o b g
@@ -194,7 +193,7 @@ steps-fit s [] f = f
 steps-fit s (b ∷ bs) f = steps-fit (step s b) bs (step-fits s b f)
 
 pub begin-fits : fits begin ≡ true
-unfolding fits begin preamble
+unfolding fits begin
 begin-fits = refl
 
 -- every byte is counted

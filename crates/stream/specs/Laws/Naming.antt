@@ -2,7 +2,7 @@
 use Prim.Native.Nat.{ℕ}
 use mathlib.Core.List.{List, [], _∷_}
 use mathlib.Core.Option.{Option}
-use mathlib.Core.Path.{_≡_, refl}
+use mathlib.Core.Path.{_≡_}
 use Rattle.format.specs.Bytes.{same}
 use Rattle.format.specs.Walk.{nameSection, hintSection, olderHintSection, tracked, rowFrom}
 use Rattle.stream.specs.Naming.{Names, noneMet, meet, firstOf, met}

@@ -8,7 +8,7 @@ use native.Mathlib.Omega.{arith}
 use lib.Dec.{ltb, leb}
 use lib.ListN.{length, take, drop}
 use Rattle.format.specs.Reading.{_>>=_, _>>_, Outcome, got, stop, Reader, return, checked, Judged, accepted, refused, judge, mapJudged}
-use Rattle.format.specs.Options.{mapSome, orElse, isSome}
+use Rattle.format.specs.Options.{mapSome, orElse}
 use Rattle.format.specs.Numbers.{number}
 use Rattle.format.specs.Parts.{Part, placeOf, sized, goOn, inside}
 use Rattle.format.specs.Walk as Walk

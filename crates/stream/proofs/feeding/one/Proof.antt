@@ -20,11 +20,11 @@ sizing-byte-requires c κs = search ones
 returns-3 : tie.Need-returns-3
 returns-3 c = search ones
 
-starting-byte-requires : tie.Need-starting-byte-requires
-starting-byte-requires c κs = search ones
+preamble-byte-requires : tie.Need-preamble-byte-requires
+preamble-byte-requires c κs = search ones
 
 returns-4 : tie.Need-returns-4
 returns-4 c = search ones
 
 pub one-spec : {M : Type 1} → statement M
-one-spec = tie.close (tie.spec measuring-byte-requires returns opening-byte-requires returns-2 sizing-byte-requires returns-3 starting-byte-requires returns-4)
+one-spec = tie.close (tie.spec measuring-byte-requires returns opening-byte-requires returns-2 sizing-byte-requires returns-3 preamble-byte-requires returns-4)

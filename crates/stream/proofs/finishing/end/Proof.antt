@@ -14,8 +14,8 @@ refused-ending-requires c κs = search endings
 returns-2 : tie.Need-returns-2
 returns-2 c = search endings
 
-refused-ending-requires-2 : tie.Need-refused-ending-requires-2
-refused-ending-requires-2 c κs = search endings
+preamble-ending-requires : tie.Need-preamble-ending-requires
+preamble-ending-requires c κs = search endings
 
 returns-3 : tie.Need-returns-3
 returns-3 c = search endings
@@ -23,11 +23,11 @@ returns-3 c = search endings
 add-refused-ending : tie.Need-add-refused-ending
 add-refused-ending c = search endings
 
-refused-ending-requires-3 : tie.Need-refused-ending-requires-3
-refused-ending-requires-3 c κs = search endings
+refused-ending-requires-2 : tie.Need-refused-ending-requires-2
+refused-ending-requires-2 c κs = search endings
 
 returns-4 : tie.Need-returns-4
 returns-4 c = search endings
 
 pub end-spec : {M : Type 1} → statement M
-end-spec = tie.close (tie.spec all-told-requires returns refused-ending-requires returns-2 refused-ending-requires-2 returns-3 add-refused-ending refused-ending-requires-3 returns-4)
+end-spec = tie.close (tie.spec all-told-requires returns refused-ending-requires returns-2 preamble-ending-requires returns-3 add-refused-ending refused-ending-requires-2 returns-4)
