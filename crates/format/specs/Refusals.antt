@@ -1,7 +1,7 @@
 -- Refusal numbers: what each is given for. Where its offset points is said where it is given. Assumes nothing.
 use Prim.Native.Nat.{ℕ}
 use Rattle.format.specs.declared.Reason.{Reason}
-use Rattle.format.specs.declared.Reason.the-variants.{NoPreamble, PastItsPart, NumberTooLarge, NotText, SectionUnknown, SectionOrder, SectionTwice, SectionTooLate, SubsectionOrder, LeftOver, NotAbove, NotHint, OutputTooShort, ListsDisagree, SubsectionTooLarge, InputTooLarge, NotZero, AfterFinish, NotMarkers, TotalTooLarge}
+use Rattle.format.specs.declared.Reason.the-variants.{NoPreamble, PastItsPart, NumberTooLarge, NotText, SectionUnknown, SectionOrder, SectionTwice, SectionTooLate, SubsectionOrder, LeftOver, NotAbove, NotHint, OutputTooShort, ListsDisagree, SubsectionTooLarge, InputTooLarge, NotZero, AfterFinish, NoBody, NotReadable, NotOnBranch, NotMarkers, TotalTooLarge, NotImport}
 
 abbrev pub numberOf : Reason → ℕ
 -- preamble missing or different
@@ -40,7 +40,15 @@ numberOf InputTooLarge = 16
 numberOf NotZero = 17
 -- a part of an upload or its finish after the finish
 numberOf AfterFinish = 18
+-- a hint for a function that is imported or has no body
+numberOf NoBody = 19
+-- locals, or an instruction that starts before a hinted place, that version 1.0 of the core specification cannot read
+numberOf NotReadable = 20
+-- a hint on something else than br_if or if
+numberOf NotOnBranch = 21
 -- markers of unequal counts, with an end outside the payload, not rising, or not below the end
 numberOf NotMarkers = 22
 -- a part that takes the total above 18,446,744,073,709,551,615 bytes
 numberOf TotalTooLarge = 28
+-- an import kind above 3, or a limits flag above 1
+numberOf NotImport = 29

@@ -91,7 +91,7 @@ pub const FIELD_NAMES: u8 = 10;
 
 pub const TAG_NAMES: u8 = 11;
 
-// Why an input is refused, in the order of the numbers: 1 to 18, 22 (K8) and 28 (K5).
+// Why an input is refused, in the order of the numbers: 1 to 22, 28 (K5) and 29 (K6).
 pub enum Reason {
     NoPreamble,
     PastItsPart,
@@ -111,8 +111,12 @@ pub enum Reason {
     InputTooLarge,
     NotZero,
     AfterFinish,
+    NoBody,
+    NotReadable,
+    NotOnBranch,
     NotMarkers,
     TotalTooLarge,
+    NotImport,
 }
 
 pub struct Refusal {
@@ -221,8 +225,12 @@ impl Reason {
             Reason::InputTooLarge => 16,
             Reason::NotZero => 17,
             Reason::AfterFinish => 18,
+            Reason::NoBody => 19,
+            Reason::NotReadable => 20,
+            Reason::NotOnBranch => 21,
             Reason::NotMarkers => 22,
             Reason::TotalTooLarge => 28,
+            Reason::NotImport => 29,
         }
     }
 }

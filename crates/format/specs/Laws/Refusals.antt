@@ -12,14 +12,14 @@ use Rattle.format.specs.declared.Refusal.{Refusal}
 use Rattle.format.specs.declared.Verdict.{Verdict}
 use Rattle.format.specs.declared.Verdict.the-variants.{Accepted, Refused}
 use Rattle.format.specs.declared.Reason.{Reason}
-use Rattle.format.specs.declared.Reason.the-variants.{NoPreamble, PastItsPart, NumberTooLarge, NotText, SectionUnknown, SectionOrder, SectionTwice, SectionTooLate, SubsectionOrder, LeftOver, NotAbove, NotHint, OutputTooShort, ListsDisagree, SubsectionTooLarge, InputTooLarge, NotZero, AfterFinish, NotMarkers, TotalTooLarge}
+use Rattle.format.specs.declared.Reason.the-variants.{NoPreamble, PastItsPart, NumberTooLarge, NotText, SectionUnknown, SectionOrder, SectionTwice, SectionTooLate, SubsectionOrder, LeftOver, NotAbove, NotHint, OutputTooShort, ListsDisagree, SubsectionTooLarge, InputTooLarge, NotZero, AfterFinish, NoBody, NotReadable, NotOnBranch, NotMarkers, TotalTooLarge, NotImport}
 
 -- for numbers that are not given
 notGiven : Reason
 notGiven = NoPreamble
 
 reasons : List Reason
-reasons = NoPreamble ∷ PastItsPart ∷ NumberTooLarge ∷ NotText ∷ SectionUnknown ∷ SectionOrder ∷ SectionTwice ∷ SectionTooLate ∷ SubsectionOrder ∷ LeftOver ∷ NotAbove ∷ NotHint ∷ OutputTooShort ∷ ListsDisagree ∷ SubsectionTooLarge ∷ InputTooLarge ∷ NotZero ∷ AfterFinish ∷ notGiven ∷ notGiven ∷ notGiven ∷ NotMarkers ∷ notGiven ∷ notGiven ∷ notGiven ∷ notGiven ∷ notGiven ∷ TotalTooLarge ∷ []
+reasons = NoPreamble ∷ PastItsPart ∷ NumberTooLarge ∷ NotText ∷ SectionUnknown ∷ SectionOrder ∷ SectionTwice ∷ SectionTooLate ∷ SubsectionOrder ∷ LeftOver ∷ NotAbove ∷ NotHint ∷ OutputTooShort ∷ ListsDisagree ∷ SubsectionTooLarge ∷ InputTooLarge ∷ NotZero ∷ AfterFinish ∷ NoBody ∷ NotReadable ∷ NotOnBranch ∷ NotMarkers ∷ notGiven ∷ notGiven ∷ notGiven ∷ notGiven ∷ notGiven ∷ TotalTooLarge ∷ NotImport ∷ []
 
 -- the reason with a number, counted from 1
 numbered : ℕ → Reason
@@ -45,8 +45,12 @@ numbered-is SubsectionTooLarge = refl
 numbered-is InputTooLarge = refl
 numbered-is NotZero = refl
 numbered-is AfterFinish = refl
+numbered-is NoBody = refl
+numbered-is NotReadable = refl
+numbered-is NotOnBranch = refl
 numbered-is NotMarkers = refl
 numbered-is TotalTooLarge = refl
+numbered-is NotImport = refl
 
 -- a refusal's number is a byte
 pub number-small : (r : Reason) → numberOf r < 256
@@ -68,8 +72,12 @@ number-small SubsectionTooLarge = omega arith
 number-small InputTooLarge = omega arith
 number-small NotZero = omega arith
 number-small AfterFinish = omega arith
+number-small NoBody = omega arith
+number-small NotReadable = omega arith
+number-small NotOnBranch = omega arith
 number-small NotMarkers = omega arith
 number-small TotalTooLarge = omega arith
+number-small NotImport = omega arith
 
 pub told-apart : (r s : Reason) → numberOf r ≡ numberOf s → r ≡ s
 told-apart r s e = sym (numbered-is r) ∙ ap numbered e ∙ numbered-is s

@@ -62,6 +62,18 @@ enum-told-19 c = search numbers-told
 enum-told-20 : tie.Need-enum-told-20
 enum-told-20 c = search numbers-told
 
+enum-told-21 : tie.Need-enum-told-21
+enum-told-21 c = search numbers-told
+
+enum-told-22 : tie.Need-enum-told-22
+enum-told-22 c = search numbers-told
+
+enum-told-23 : tie.Need-enum-told-23
+enum-told-23 c = search numbers-told
+
+enum-told-24 : tie.Need-enum-told-24
+enum-told-24 c = search numbers-told
+
 returns : tie.Need-returns
 returns c = search numbers-told
 
@@ -122,5 +134,17 @@ returns-19 c = search numbers-told
 returns-20 : tie.Need-returns-20
 returns-20 c = search numbers-told
 
+returns-21 : tie.Need-returns-21
+returns-21 c = search numbers-told
+
+returns-22 : tie.Need-returns-22
+returns-22 c = search numbers-told
+
+returns-23 : tie.Need-returns-23
+returns-23 c = search numbers-told
+
+returns-24 : tie.Need-returns-24
+returns-24 c = search numbers-told
+
 pub number-spec : {M : Type 1} → statement M
-number-spec = tie.close (tie.spec enum-told enum-told-2 enum-told-3 enum-told-4 enum-told-5 enum-told-6 enum-told-7 enum-told-8 enum-told-9 enum-told-10 enum-told-11 enum-told-12 enum-told-13 enum-told-14 enum-told-15 enum-told-16 enum-told-17 enum-told-18 enum-told-19 enum-told-20 returns returns-2 returns-3 returns-4 returns-5 returns-6 returns-7 returns-8 returns-9 returns-10 returns-11 returns-12 returns-13 returns-14 returns-15 returns-16 returns-17 returns-18 returns-19 returns-20)
+number-spec = tie.close (tie.spec enum-told enum-told-2 enum-told-3 enum-told-4 enum-told-5 enum-told-6 enum-told-7 enum-told-8 enum-told-9 enum-told-10 enum-told-11 enum-told-12 enum-told-13 enum-told-14 enum-told-15 enum-told-16 enum-told-17 enum-told-18 enum-told-19 enum-told-20 enum-told-21 enum-told-22 enum-told-23 enum-told-24 returns returns-2 returns-3 returns-4 returns-5 returns-6 returns-7 returns-8 returns-9 returns-10 returns-11 returns-12 returns-13 returns-14 returns-15 returns-16 returns-17 returns-18 returns-19 returns-20 returns-21 returns-22 returns-23 returns-24)
