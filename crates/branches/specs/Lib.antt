@@ -1,0 +1,4 @@
+pub mod Imports
+pub mod Bodies
+pub mod Hints
+pub mod Branches

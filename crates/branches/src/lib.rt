@@ -1,0 +1,1 @@
+// K6: whether every branch hint of a module sits on br_if or if.
