@@ -2,3 +2,4 @@ pub mod Imports
 pub mod Bodies
 pub mod Hints
 pub mod Branches
+pub mod Cases
