@@ -3,3 +3,5 @@ pub mod Bodies
 pub mod Hints
 pub mod Branches
 pub mod Cases
+pub mod Grammar
+pub mod Laws
