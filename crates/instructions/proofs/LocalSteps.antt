@@ -21,9 +21,9 @@ use Rattle.instructions.specs.Immediates.{byteOf}
 use Rattle.instructions.specs.Locals.{localGroups, locals}
 use Rattle.instructions.specs.Ways.{Goes}
 use Rattle.instructions.specs.declared.pieces.ByteKind.the-variants.{ValueType}
-use Rattle.instructions.specs.declared.pieces.Way.{Way}
-use Rattle.instructions.specs.declared.pieces.Way.the-variants.{Behind, Unreadable}
-use Rattle.instructions.proofs.pieces.Way as way-type
+use Rattle.instructions.specs.declared.Way.{Way}
+use Rattle.instructions.specs.declared.Way.the-variants.{Behind, Unreadable}
+use Rattle.instructions.proofs.Way as way-type
 use Rattle.instructions.proofs.PieceSteps.{Still}
 use Rattle.instructions.proofs.WayLaws.{as-unreadable, as-no-number, went, halted, goes-far, goes-inside, number-stops, number-goes}
 

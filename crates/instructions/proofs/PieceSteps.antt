@@ -21,9 +21,9 @@ use Rattle.reading.proofs.Laws.{number-means, number-end, number-inside, number
 use Rattle.instructions.specs.Immediates.{isOf, byteOf, bytes, index, indices, signed}
 use Rattle.instructions.specs.Ways.{passing, Goes, bytesOn}
 use Rattle.instructions.specs.declared.pieces.ByteKind.{ByteKind}
-use Rattle.instructions.specs.declared.pieces.Way.{Way}
-use Rattle.instructions.specs.declared.pieces.Way.the-variants.{Behind, Unreadable}
-use Rattle.instructions.proofs.pieces.Way as way-type
+use Rattle.instructions.specs.declared.Way.{Way}
+use Rattle.instructions.specs.declared.Way.the-variants.{Behind, Unreadable}
+use Rattle.instructions.proofs.Way as way-type
 use Rattle.instructions.proofs.WayLaws.{as-unreadable, as-no-number, went, halted, goes-far, goes-inside, end-joined}
 
 abbrev pub oneOn : Cursor → Cursor

@@ -22,11 +22,11 @@ use Rattle.instructions.specs.Immediates.{byteOf, bytes, index, indices,
 use Rattle.instructions.specs.Opcodes.{shapeOf}
 use Rattle.instructions.specs.Ways.{Goes, bytesOn}
 use Rattle.instructions.specs.declared.pieces.ByteKind.the-variants.{BlockType, Zero as ZeroByte, LastOf32, LastOf64}
-use Rattle.instructions.specs.declared.pieces.Way.{Way}
-use Rattle.instructions.specs.declared.pieces.Way.the-variants.{Behind, Unreadable}
+use Rattle.instructions.specs.declared.Way.{Way}
+use Rattle.instructions.specs.declared.Way.the-variants.{Behind, Unreadable}
 use Rattle.instructions.specs.declared.shapes.Shape.{Shape}
 use Rattle.instructions.specs.declared.shapes.Shape.the-variants.{Plain, Block, Index, Table, Indirect, Memory, Zero, Const32, Const64, Float32, Float64, Unknown}
-use Rattle.instructions.proofs.pieces.Way as way-type
+use Rattle.instructions.proofs.Way as way-type
 use Rattle.instructions.proofs.shapes.Shape as shape-type
 use Rattle.instructions.proofs.PieceSteps.{oneOn, byte-there}
 use Rattle.instructions.proofs.WayLaws.{goes-inside, goes-then, goes-stops, end-joined, number-stops, number-goes}

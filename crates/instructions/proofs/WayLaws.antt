@@ -14,9 +14,9 @@ use Rattle.reading.specs.declared.NumberRead.the-variants.{Value, Refused as No
 use Rattle.reading.proofs.NumberRead as number-type
 use Rattle.reading.proofs.Laws.{number-means, number-inside, number-end, number-moves}
 use Rattle.instructions.specs.Ways.{behind, unreadable, passing, wayEnd, Goes}
-use Rattle.instructions.specs.declared.pieces.Way.{Way}
-use Rattle.instructions.specs.declared.pieces.Way.the-variants.{Behind, Unreadable}
-use Rattle.instructions.proofs.pieces.Way as way-type
+use Rattle.instructions.specs.declared.Way.{Way}
+use Rattle.instructions.specs.declared.Way.the-variants.{Behind, Unreadable}
+use Rattle.instructions.proofs.Way as way-type
 
 pub as-unreadable : (w : Way) → tagOf way-type.the-type w ≡ 1 → w ≡ Unreadable
 as-unreadable (Behind next) h = absurd (omega arith)

@@ -7,8 +7,8 @@ use lib.Dec.{leb}
 use Rattle.format.specs.Reading.{Outcome, got, stop, Reader}
 use Rattle.reading.specs.Cursors.{left}
 use Rattle.reading.specs.declared.Cursor.{Cursor}
-use Rattle.instructions.specs.declared.pieces.Way.{Way}
-use Rattle.instructions.specs.declared.pieces.Way.the-variants.{Behind, Unreadable}
+use Rattle.instructions.specs.declared.Way.{Way}
+use Rattle.instructions.specs.declared.Way.the-variants.{Behind, Unreadable}
 
 -- the offset behind what was read and the bytes left there; why something cannot be read does not count
 pub data Passing : Type 0 where

@@ -4,7 +4,6 @@ ghost use Rattle.instructions.specs.Immediates.{labels, indirect, memory
 ghost use Rattle.instructions.specs.Ways.{Goes};
 ghost use Rattle.instructions.specs.Promises.{instructions-step};
 use crate::pieces::ByteKind;
-use crate::pieces::Way;
 use crate::pieces::byte_of;
 use crate::pieces::bytes_on;
 use crate::pieces::index;
@@ -16,8 +15,14 @@ use reading::Cursor;
 use reading::NumberRead;
 
 pub mod locals;
-pub mod pieces;
-pub mod shapes;
+mod pieces;
+mod shapes;
+
+// What reading a piece of a body comes to: the cursor behind it, or that version 1.0 cannot read it.
+pub enum Way {
+    Behind(Cursor),
+    Unreadable,
+}
 
 // How many bytes may follow the first of a signed number of 32 and of 64 bits.
 const FOLLOWING_32: u32 = 4;

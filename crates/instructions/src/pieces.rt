@@ -2,16 +2,12 @@
 ghost use Prim.Native.Nat.{_≤_};
 ghost use mathlib.Core.Path.{_≡_};
 ghost use Rattle.reading.specs.Cursors.{Inside};
-ghost use Rattle.instructions.specs.Immediates.{isValueType, isBlockType, isLastOf32, isLastOf64, isOf};
-ghost use Rattle.instructions.specs.Promises.{instructions-byte-of, instructions-bytes-on, instructions-index, instructions-indices, instructions-signed};
+ghost use Rattle.instructions.specs.Immediates;
+ghost use Rattle.instructions.specs.Immediates.{isValueType, isBlockType, isLastOf32, isLastOf64, isOf, byteOf};
+ghost use Rattle.instructions.specs.Ways.{Goes, bytesOn};
+use crate::Way;
 use reading::Cursor;
 use reading::NumberRead;
-
-// What reading a piece comes to: the cursor behind it, or that version 1.0 cannot read it.
-pub enum Way {
-    Behind(Cursor),
-    Unreadable,
-}
 
 // What one byte has to be.
 pub enum ByteKind {
@@ -99,7 +95,7 @@ fn is_of(kind: ByteKind, b: u8) -> bool
 // One byte of a kind.
 pub fn byte_of(c: Cursor, s: &[u8], kind: ByteKind) -> Way
     requires { ⌜ Inside (now s) c ⌝ }
-    ensures { λ r. ⌜ instructions-byte-of c (now (s .entry)) kind r ⌝ }
+    ensures { λ r. ⌜ Goes (byteOf kind) (now (s .entry)) c r ⌝ }
 {
     let at = c.at;
     let end = c.end;
@@ -115,7 +111,7 @@ pub fn byte_of(c: Cursor, s: &[u8], kind: ByteKind) -> Way
 // So many bytes of any kind.
 pub fn bytes_on(c: Cursor, n: usize) -> Way
     requires { ⌜ c .at ≤ c .end ⌝ }
-    ensures { λ r. ⌜ instructions-bytes-on c n r ⌝ }
+    ensures { λ r. ⌜ r ≡ bytesOn c n ⌝ }
 {
     let at = c.at;
     let end = c.end;
@@ -128,7 +124,7 @@ pub fn bytes_on(c: Cursor, n: usize) -> Way
 // An index, or another unsigned number of 32 bits.
 pub fn index(c: Cursor, s: &[u8]) -> Way
     requires { ⌜ Inside (now s) c ⌝ }
-    ensures { λ r. ⌜ instructions-index c (now (s .entry)) r ⌝ }
+    ensures { λ r. ⌜ Goes Immediates.index (now (s .entry)) c r ⌝ }
 {
     match c.number(s) {
         NumberRead::Refused(_) => Way::Unreadable,
@@ -139,7 +135,7 @@ pub fn index(c: Cursor, s: &[u8]) -> Way
 // So many of them.
 pub fn indices(c: Cursor, s: &[u8], n: u32) -> Way
     requires { ⌜ Inside (now s) c ⌝ }
-    ensures { λ r. ⌜ instructions-indices c (now (s .entry)) n r ⌝ }
+    ensures { λ r. ⌜ Goes (Immediates.indices n) (now (s .entry)) c r ⌝ }
 {
     let mut next = c;
     let mut more = n;
@@ -160,7 +156,7 @@ pub fn indices(c: Cursor, s: &[u8], n: u32) -> Way
 // A signed number, of which so many bytes may follow the first; the one behind these is of a kind.
 pub fn signed(c: Cursor, s: &[u8], following: u32, last: ByteKind) -> Way
     requires { ⌜ Inside (now s) c ⌝ }
-    ensures { λ r. ⌜ instructions-signed c (now (s .entry)) following last r ⌝ }
+    ensures { λ r. ⌜ Goes (Immediates.signed following last) (now (s .entry)) c r ⌝ }
 {
     let end = c.end;
     let mut i = c.at;

@@ -1,5 +1,6 @@
 // Which immediates stand behind an opcode.
-ghost use Rattle.instructions.specs.Promises.{instructions-shape-of};
+ghost use mathlib.Core.Path.{_≡_};
+ghost use Rattle.instructions.specs.Opcodes.{shapeOf};
 
 // The shapes that immediates have in core specification 1.0. Unknown is the shape of no instruction.
 pub enum Shape {
@@ -19,7 +20,7 @@ pub enum Shape {
 
 // The shape by the opcode, in the order in which the specification lists opcodes.
 pub fn shape_of(op: u8) -> Shape
-    ensures { λ r. ⌜ instructions-shape-of op r ⌝ }
+    ensures { λ r. ⌜ r ≡ shapeOf op ⌝ }
 {
     match op {
         // unreachable, nop, else, end, return, drop, select

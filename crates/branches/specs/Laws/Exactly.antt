@@ -52,6 +52,7 @@ module _ {A : Type 0} {first : Reader A} {second : A → Reader (Unit {0})} {G :
             is = one .is ∙ ap (λ x. one .front ++ x) (two .is) ∙ sym (append-assoc (one .front) (two .front) _);
             means = both (one .means) (two .means);
           }
+
       complete : {front : List ℕ} {w : Unit {0}} → Both G H front → (o : ℕ) (rest : List ℕ) → Accepts (λ o bs. andThen (first o bs) second) (λ x. x) front w o rest
       complete (both {a = a} {b = b} {v = v} g k) o rest =
           let one = exact .complete g o (b ++ rest) in
@@ -85,6 +86,7 @@ byte-exact k = record { sound = sound; complete = complete }
         byTest (Read.isOf k b)
         (λ t. rw (← got-rest (rw t at e)) (record { front = b ∷ []; is = refl; means = one t }))
         (λ t. absurd (not-got (rw t at e)))
+
     complete : {front : List ℕ} {w : Unit {0}} → One (λ b. Read.isOf k b ≡ true) front → (o : ℕ) (rest : List ℕ) → Accepts (Read.byteOf k) (λ x. x) front w o rest
     complete (one t) o rest = record { value = tt; next = suc o; reads = rw t; same = refl }
 
@@ -97,6 +99,7 @@ bytes-exact n = record { sound = sound; complete = complete }
     sound o bs h e =
         passed (leb n (length bs)) _ _ _ _ _ e λ t e₁.
         rw (← got-rest e₁) (record { front = take n bs; is = sym (take-append-drop n bs); means = length-take-le n bs (leb-true n (length bs) t) })
+
     complete : {front : List ℕ} {w : Unit {0}} → length front ≡ n → (o : ℕ) (rest : List ℕ) → Accepts (Read.bytes n) (λ x. x) front w o rest
     complete {front} is o rest = record {
       value = tt;
@@ -125,12 +128,14 @@ indices-sound zero o bs h e = ([], rw (← got-rest e) (record { front = []; is 
 indices-sound (suc n) o bs h e =
     inTurn (Read.index o bs) _ e λ u o₂ r₂ e₃ e₄. inTurn (number o bs) _ e₃ λ k o₁ r₁ e₁ e₅.
     let first = number-sound o bs h e₁ in
-    let (ns, more) = indices-sound n o₁ r₁ (left-bytes first h) (rw (← got-next e₅, ← got-rest e₅) at e₄) in
-    (k ∷ ns, record {
-      front = first .front ++ more .front;
-      is = first .is ∙ ap (λ x. first .front ++ x) (more .is) ∙ sym (append-assoc (first .front) (more .front) _);
-      means = oneMore (first .means) (more .means);
-    })
+    let (ns, more) = indices-sound n o₁ r₁ (left-bytes first h) (rw (← got-next e₅, ← got-rest e₅) at e₄) in (
+      k ∷ ns,
+      record {
+        front = first .front ++ more .front;
+        is = first .is ∙ ap (λ x. first .front ++ x) (more .is) ∙ sym (append-assoc (first .front) (more .front) _);
+        means = oneMore (first .means) (more .means);
+      },
+    )
 
 indices-complete : {n : ℕ} {bs ns : List ℕ} → Times U32 n bs ns → (o : ℕ) (rest : List ℕ) {w : Unit {0}} → Accepts (Read.indices n) (λ x. x) bs w o rest
 unfolding Read.indices
@@ -158,9 +163,13 @@ module _ (k : ByteKind) (w : ℕ) (some-bits : 1 ≤ w) (last : Reads (Read.byte
       let wide = pow-mono {i = 7} {j = N - 1} (omega arith) in
       byTest (ltb b 128)
       (λ t. let small = ltb-true b 128 t in
-      rw (← got-rest (rw t at e)) (record { front = b ∷ []; is = refl; means = byTest (ltb b 64)
-      (λ u. positive {N = N} (ltb-true b 64 u) (le-trans small wide))
-      (λ u. negative {N = N} (ltb-false b 64 u) small (omega (arith, wide))) }))
+      rw (← got-rest (rw t at e)) (record {
+        front = b ∷ [];
+        is = refl;
+        means = byTest (ltb b 64)
+            (λ u. positive {N = N} (ltb-true b 64 u) (le-trans small wide))
+            (λ u. negative {N = N} (ltb-false b 64 u) small (omega (arith, wide)));
+      }))
       (λ t. let more′ = signed-sound more (N - 7) (suc o) bs (omega arith) (λ i. h (suc i)) (rw t at e) in
       let byte = h 0 in
       record { front = b ∷ more′ .front; is = ap (λ x. b ∷ x) (more′ .is); means = followed {N = N} byte (ltb-false b 128 t) (omega arith) (more′ .means) })
@@ -317,6 +326,7 @@ instruction-exact = record { sound = sound; complete = complete }
     sound o (op ∷ bs) h e =
         let s = immediates-exact (shapeOf op) .sound (suc o) bs (λ i. h (suc i)) e in
         record { front = op ∷ s .front; is = ap (λ x. op ∷ x) (s .is); means = instruction (s .means) }
+
     complete : {front : List ℕ} {w : Unit {0}} → Instruction front → (o : ℕ) (rest : List ℕ) → Accepts Read.instruction (λ x. x) front w o rest
     complete (instruction {op = op} g) o rest =
         let a = immediates-exact (shapeOf op) .complete g (suc o) rest in
@@ -334,12 +344,15 @@ groups-sound (suc n) before o bs {rest = rest} small h e =
     inTurn (Read.byteOf kind.ValueType o₁ r₁) _ e₃ λ u o₂ r₂ e₄ e₅.
     let count = number-sound o bs h e₁ in
     let type = byte-exact kind.ValueType .sound o₁ r₁ (left-bytes count h) e₄ in
-    let (ns, few, more) = groups-sound n (before + k) o₂ r₂ (ltb-true (before + k) limit32 t) (left-bytes type (left-bytes count h)) e₅ in
-    (k ∷ ns, omega (arith, few), record {
-      front = (count .front ++ type .front) ++ more .front;
-      is = count .is ∙ ap (λ x. count .front ++ x) (type .is) ∙ sym (append-assoc (count .front) (type .front) r₂) ∙ ap (λ x. (count .front ++ type .front) ++ x) (more .is) ∙ sym (append-assoc (count .front ++ type .front) (more .front) rest);
-      means = oneMore (group-of (count .means) (type .means)) (more .means);
-    })
+    let (ns, few, more) = groups-sound n (before + k) o₂ r₂ (ltb-true (before + k) limit32 t) (left-bytes type (left-bytes count h)) e₅ in (
+      k ∷ ns,
+      omega (arith, few),
+      record {
+        front = (count .front ++ type .front) ++ more .front;
+        is = count .is ∙ ap (λ x. count .front ++ x) (type .is) ∙ sym (append-assoc (count .front) (type .front) r₂) ∙ ap (λ x. (count .front ++ type .front) ++ x) (more .is) ∙ sym (append-assoc (count .front ++ type .front) (more .front) rest);
+        means = oneMore (group-of (count .means) (type .means)) (more .means);
+      },
+    )
 
 groups-complete : {n : ℕ} {bs ns : List ℕ} → Times LocalGroup n bs ns → (before : ℕ) → before + sum ns < limit32 → (o : ℕ) (rest : List ℕ) {w : Unit {0}} → Accepts (localGroups n before) (λ x. x) bs w o rest
 unfolding localGroups Read.byteOf
@@ -367,6 +380,7 @@ locals-exact = record { sound = sound; complete = complete }
           is = count .is ∙ ap (λ x. count .front ++ x) (more .is) ∙ sym (append-assoc (count .front) (more .front) _);
           means = locals (vector (count .means) (more .means)) (omega (arith, few));
         }
+
     complete : {front : List ℕ} {w : Unit {0}} → Locals front → (o : ℕ) (rest : List ℕ) → Accepts localsHere (λ x. x) front w o rest
     complete (locals {ns = ns} (vector {count = a} {entries = b} n m) few) o rest =
         let more = groups-complete m 0 (omega (arith, few)) (o + length a) rest in

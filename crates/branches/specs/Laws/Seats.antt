@@ -133,16 +133,19 @@ module _ (body : Part) (offset : ℕ) (h : Bytes (body .bytes)) where
       inSeat (locals (body .at) (body .bytes)) (λ o bs. seatWithin (length bs) (body .at + offset) o bs) e λ v o r e₁ e₂.
       let ls = locals-exact .sound (body .at) (body .bytes) h e₁ in
       let found = seat-sound (length r) (body .at + offset) o r (left-bytes ls h) e₂ in
-      let far = locals-far (body .at) (body .bytes) e₁ in
-      (found .op, found .is-branch, record {
-        locals-bytes = ls .front;
-        instructions-bytes = found .before;
-        others = found .others;
-        are-locals = ls .means;
-        are-instructions = found .are-instructions;
-        body-is = ls .is ∙ ap (λ x. ls .front ++ x) (found .is);
-        begins-there = omega (arith, found .there, far, ap length (ls .is), length-append (ls .front) r);
-      })
+      let far = locals-far (body .at) (body .bytes) e₁ in (
+        found .op,
+        found .is-branch,
+        record {
+          locals-bytes = ls .front;
+          instructions-bytes = found .before;
+          others = found .others;
+          are-locals = ls .means;
+          are-instructions = found .are-instructions;
+          body-is = ls .is ∙ ap (λ x. ls .front ++ x) (found .is);
+          begins-there = omega (arith, found .there, far, ap length (ls .is), length-append (ls .front) r);
+        },
+      )
 
   branch-complete : (op : ℕ) → isBranch op ≡ true → Begins (body .bytes) offset op → seatIn body offset ≡ onBranch
   unfolding seatIn
