@@ -24,22 +24,33 @@ limits = do
   checked (leb flag 1) NotImport at
   bounds flag
 
--- what stands behind the kind: of a function its type, of a table a type byte and limits, of a memory limits, of a global two bytes
+-- tabletype ::= elemtype limits, globaltype ::= valtype mut: their bytes go unchecked
+unfoldable pub tableType : Reader ℕ
+tableType = byte >> limits
+
+unfoldable pub globalType : Reader ℕ
+globalType = byte >> byte
+
+-- what stands behind the kind: of a function its type, of a memory its limits
 unfoldable pub description : (kind : ℕ) → Reader ℕ
 description zero = number
-description (suc zero) = byte >> limits
+description (suc zero) = tableType
 description (suc (suc zero)) = limits
-description (suc (suc (suc kind))) = byte >> byte
+description (suc (suc (suc kind))) = globalType
+
+unfoldable pub kindByte : Reader ℕ
+kindByte = do
+  at ← here
+  kind ← byte
+  checked (leb kind 3) NotImport at
+  return kind
 
 -- two names and the kind
 unfoldable pub importKind : Reader ℕ
 importKind = do
   name
   name
-  at ← here
-  kind ← byte
-  checked (leb kind 3) NotImport at
-  return kind
+  kindByte
 
 unfoldable pub importEntry : Reader ℕ
 importEntry = do

@@ -1,1 +1,3 @@
 // K6: whether every branch hint of a module sits on br_if or if.
+mod imports;
+mod reads;
