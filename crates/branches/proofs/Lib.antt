@@ -1,2 +1,4 @@
 pub mod ReadLaws
 pub mod ImportSteps
+pub mod SectionSteps
+pub mod BodySteps

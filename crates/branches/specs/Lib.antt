@@ -4,5 +4,7 @@ pub mod Hints
 pub mod Branches
 pub mod Cases
 pub mod Reads
+pub mod Sections
+pub mod Lists
 pub mod Grammar
 pub mod Laws

@@ -1,3 +1,5 @@
 // K6: whether every branch hint of a module sits on br_if or if.
+mod bodies;
 mod imports;
 mod reads;
+mod sections;
