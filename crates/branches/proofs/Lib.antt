@@ -2,3 +2,4 @@ pub mod ReadLaws
 pub mod ImportSteps
 pub mod SectionSteps
 pub mod BodySteps
+pub mod SeatSteps

@@ -6,5 +6,6 @@ pub mod Cases
 pub mod Reads
 pub mod Sections
 pub mod Lists
+pub mod Seats
 pub mod Grammar
 pub mod Laws

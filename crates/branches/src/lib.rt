@@ -2,4 +2,5 @@
 mod bodies;
 mod imports;
 mod reads;
+mod seats;
 mod sections;
