@@ -3,3 +3,5 @@ pub mod ImportSteps
 pub mod SectionSteps
 pub mod BodySteps
 pub mod SeatSteps
+pub mod RowLaws
+pub mod HintSteps

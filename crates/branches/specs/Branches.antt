@@ -44,15 +44,16 @@ seatJudged at onBranch = accepted tt
 seatJudged at notReadable = refused (numberOf NotReadable) at
 seatJudged at elsewhere = refused (numberOf NotOnBranch) at
 
-unfoldable pub eachHint : Part → Hints → Judged (Unit {0})
-eachHint body [] = accepted tt
-eachHint body (h ∷ hs) = judgedThen (seatJudged (h .at) (seatIn body (h .number))) (λ _. eachHint body hs)
+-- the hints of a function, by what stands at each offset of its body
+unfoldable pub eachHint : (ℕ → Seat) → Hints → Judged (Unit {0})
+eachHint seat [] = accepted tt
+eachHint seat (h ∷ hs) = judgedThen (seatJudged (h .at) (seat (h .number))) (λ _. eachHint seat hs)
 
 -- "per hint 19, no body for that function, at the function index": a function without hints is not looked for
 abbrev pub hintsOf : (at : ℕ) → Option Part → Hints → Judged (Unit {0})
 hintsOf at found [] = accepted tt
 hintsOf at none (h ∷ hs) = refused (numberOf NoBody) at
-hintsOf at (some body) (h ∷ hs) = eachHint body (h ∷ hs)
+hintsOf at (some body) (h ∷ hs) = eachHint (seatIn body) (h ∷ hs)
 
 unfoldable pub oneFunction : (first : ℕ) → List Part → Placed Hints → Judged (Unit {0})
 oneFunction first parts f = hintsOf (f .at) (bodyOf first parts (f .number)) (f .value)

@@ -7,5 +7,6 @@ pub mod Reads
 pub mod Sections
 pub mod Lists
 pub mod Seats
+pub mod Sitting
 pub mod Grammar
 pub mod Laws
