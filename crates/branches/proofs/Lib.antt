@@ -5,3 +5,4 @@ pub mod BodySteps
 pub mod SeatSteps
 pub mod RowLaws
 pub mod HintSteps
+pub mod LookLaws
