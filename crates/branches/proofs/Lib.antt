@@ -6,3 +6,4 @@ pub mod SeatSteps
 pub mod RowLaws
 pub mod HintSteps
 pub mod LookLaws
+pub mod FunctionSteps

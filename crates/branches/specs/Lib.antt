@@ -8,5 +8,6 @@ pub mod Sections
 pub mod Lists
 pub mod Seats
 pub mod Sitting
+pub mod Functions
 pub mod Grammar
 pub mod Laws
