@@ -7,3 +7,4 @@ pub mod RowLaws
 pub mod HintSteps
 pub mod LookLaws
 pub mod FunctionSteps
+pub mod CheckSteps

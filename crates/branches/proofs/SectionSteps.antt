@@ -38,7 +38,7 @@ use Rattle.branches.specs.declared.sections.Spot.{Spot}
 use Rattle.branches.specs.declared.sections.Spot.the-variants.{Nowhere, At}
 use Rattle.branches.proofs.sections.Spot as spot-type
 
-as-nowhere : (x : Spot) → tagOf spot-type.the-type x ≡ 0 → x ≡ Nowhere
+pub as-nowhere : (x : Spot) → tagOf spot-type.the-type x ≡ 0 → x ≡ Nowhere
 as-nowhere Nowhere h = refl
 as-nowhere (At c) h = absurd (omega arith)
 

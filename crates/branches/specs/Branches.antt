@@ -63,14 +63,17 @@ unfoldable pub eachFunction : (first : ℕ) → List Part → List (Placed Hints
 eachFunction first parts [] = accepted tt
 eachFunction first parts (f ∷ fs) = judgedThen (oneFunction first parts f) (λ _. eachFunction first parts fs)
 
--- "Refusals, after all of document 01's for module and payload: faults in the import list, then in the list of sized bodies ..; then per hint"
-unfoldable pub payloadOnBranches : List ℕ → Part → Judged (Unit {0})
-payloadOnBranches m p =
-    judgedThen (judgeMetadata hintItem (p .at) (p .bytes)) λ _.
+-- "faults in the import list, then in the list of sized bodies ..; then per hint"
+unfoldable pub hintsChecked : List ℕ → Part → Judged (Unit {0})
+hintsChecked m p =
     judgedThen (importedFunctions m) λ first.
     judgedThen (functionBodies m) λ parts.
     judgedThen (judge (allHints (p .at) (p .bytes))) λ fs.
     eachFunction first parts fs
+
+-- "Refusals, after all of document 01's for module and payload"
+unfoldable pub payloadOnBranches : List ℕ → Part → Judged (Unit {0})
+payloadOnBranches m p = judgedThen (judgeMetadata hintItem (p .at) (p .bytes)) (λ _. hintsChecked m p)
 
 -- "An accepted module without the hint section is accepted, imports unread."
 abbrev pub unlessNone : Option Part → (Part → Judged (Unit {0})) → Judged (Unit {0})

@@ -19,7 +19,7 @@ use Rattle.instructions.specs.Opcodes.{opcodes, among, shapeOf}
 use Rattle.branches.specs.Imports.{byte, bounds, limits, tableType, globalType, description, kindByte, importKind, importEntry, importEntries, importList, imports}
 use Rattle.branches.specs.Bodies.{bodies, bodyOf, isBranch, seatWithin, seatFrom, seatIn}
 use Rattle.branches.specs.Hints.{placedRow, placedRows, functionHints, allHints}
-use Rattle.branches.specs.Branches.{contentsIn, contentsOf, importedFunctions, functionBodies, seatJudged, eachHint, oneFunction, eachFunction, payloadOnBranches, hintsOnBranches}
+use Rattle.branches.specs.Branches.{contentsIn, contentsOf, importedFunctions, functionBodies, seatJudged, eachHint, oneFunction, eachFunction, hintsChecked, payloadOnBranches, hintsOnBranches}
 
 -- A body and the offset of a hint in it: accepted, or 20 or 21
 hintIn : String → ℕ → Result
@@ -191,5 +191,5 @@ overModules =
     []
 
 pub modules-hold : map computed overModules ≡ map stated overModules
-unfolding overModules computed stated ordinary theHints checkIs branching importing hex digit of ascii same number groups shortest fewest utf8 characters character completes sized name remaining rows table preamble begins greatestId isCustom isCode isData rank custom isCalled nameSection hintSection nothing seeing idRules nameRules section sections framing walk payloadOf payloadIn customPayload hintOf hintItem metadata judgeMetadata writePart times vector isValueType isBlockType isLastOf32 isLastOf64 byteOf bytes indices signed labels indirect memory immediates instruction localGroups locals opcodes among shapeOf byte bounds limits tableType globalType description kindByte importKind importEntry importEntries importList imports bodies bodyOf isBranch seatWithin seatFrom seatIn placedRow placedRows functionHints allHints contentsIn contentsOf importedFunctions functionBodies eachHint oneFunction eachFunction payloadOnBranches hintsOnBranches
+unfolding overModules computed stated ordinary theHints checkIs branching importing hex digit of ascii same number groups shortest fewest utf8 characters character completes sized name remaining rows table preamble begins greatestId isCustom isCode isData rank custom isCalled nameSection hintSection nothing seeing idRules nameRules section sections framing walk payloadOf payloadIn customPayload hintOf hintItem metadata judgeMetadata writePart times vector isValueType isBlockType isLastOf32 isLastOf64 byteOf bytes indices signed labels indirect memory immediates instruction localGroups locals opcodes among shapeOf byte bounds limits tableType globalType description kindByte importKind importEntry importEntries importList imports bodies bodyOf isBranch seatWithin seatFrom seatIn placedRow placedRows functionHints allHints contentsIn contentsOf importedFunctions functionBodies eachHint oneFunction eachFunction hintsChecked payloadOnBranches hintsOnBranches
 modules-hold = refl

@@ -11,3 +11,4 @@ pub mod Sitting
 pub mod Functions
 pub mod Grammar
 pub mod Laws
+pub mod Promises

@@ -12,6 +12,7 @@ use Rattle.reading.specs.Cursors.{Inside, left, partOf}
 use Rattle.reading.specs.Standing.{Stands}
 use Rattle.reading.specs.declared.Cursor.{Cursor}
 use Rattle.branches.specs.Bodies.{bodies, bodyOf}
+use Rattle.branches.specs.Branches.{functionBodies}
 use Rattle.branches.specs.declared.bodies.Bodies.{Bodies}
 use Rattle.branches.specs.declared.bodies.BodiesRead.{BodiesRead}
 use Rattle.branches.specs.declared.bodies.BodiesRead.the-variants.{All, Refused}
@@ -35,6 +36,10 @@ bodiesSaid s judged (Refused r) = judged ≡ refused (numberOf (r .reason)) (r .
 
 pub record JudgesBodies (s : List ℕ) (c : Cursor) (r : BodiesRead) : Type 0 where
   pub says : bodiesSaid s (judge (bodies (c .at) (left s c))) r
+
+-- all bodies of a module
+pub record AllBodies (m : List ℕ) (r : BodiesRead) : Type 0 where
+  pub says : bodiesSaid m (functionBodies m) r
 
 -- The bodies that are still to come stand there; there are not so many that a function's index is not one of 32 bits and one more
 pub record Kept (s : List ℕ) (all : Bodies) : Type 0 where
