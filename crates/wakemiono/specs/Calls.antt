@@ -24,6 +24,7 @@ use Rattle.stream.specs.Fields.{held}
 use Rattle.stream.specs.Stream.{begin}
 use Rattle.stream.specs.declared.Stream.{Stream}
 use Rattle.wakemiono.specs.Arriving.{turnedBy, overBy}
+use Rattle.branches.specs.Branches.{hintsOnBranches}
 use Rattle.wakemiono.specs.Boundary.{wmCount, wmSection, wmPlace, wmJudged, wmHint, wmYes, WmWrites, WmMakes}
 use Rattle.wakemiono.specs.Pairs.{wmPair, WmJoins}
 use Rattle.wakemiono.specs.Why.{wmWhy}
@@ -161,3 +162,6 @@ wm-stream-part before part after a = (after ≡ turnedBy before part .state) × 
 
 abbrev pub wm-stream-finish : (before after : Stream) → WmStreamAnswer → Type 0
 wm-stream-finish before after a = (after ≡ overBy before .state) × (a ≡ overBy before .answer)
+-- K6: every hint sits on br_if or if
+abbrev pub wm-hints-on-branches : List ℕ → WmAnswer → Type 0
+wm-hints-on-branches bytes a = a ≡ wmJudged (length bytes) (hintsOnBranches bytes)

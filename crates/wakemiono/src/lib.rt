@@ -30,6 +30,7 @@ use walk::survey::SectionAnswer;
 
 pub mod arriving;
 pub mod beside;
+pub mod branching;
 pub mod old_hints;
 pub mod quick;
 pub mod why;
