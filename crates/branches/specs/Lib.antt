@@ -11,4 +11,5 @@ pub mod Sitting
 pub mod Functions
 pub mod Grammar
 pub mod Laws
+pub mod Theorems
 pub mod Promises

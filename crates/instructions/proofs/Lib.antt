@@ -4,3 +4,4 @@ pub mod WayLaws
 pub mod PieceSteps
 pub mod LocalSteps
 pub mod Steps
+pub mod Same

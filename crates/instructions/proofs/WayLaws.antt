@@ -22,7 +22,7 @@ pub as-unreadable : (w : Way) → tagOf way-type.the-type w ≡ 1 → w ≡ Unre
 as-unreadable (Behind next) h = absurd (omega arith)
 as-unreadable Unreadable h = refl
 
-not-behind : {o : ℕ} {bs : List ℕ} → unreadable ≡ behind o bs → ⊥
+pub not-behind : {o : ℕ} {bs : List ℕ} → unreadable ≡ behind o bs → ⊥
 not-behind e = let z : _≡_ {A = ℕ} 0 1 = cc in omega arith
 
 -- what was passed was read, and what was not stopped

@@ -15,6 +15,8 @@ pub mod Out_of_order
 pub mod Reordering
 pub mod Rewrite
 pub mod Through
+pub mod Instructions
+pub mod Branches
 pub mod Neighbours
 pub mod Markers
 pub mod Pairs
