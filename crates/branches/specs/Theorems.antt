@@ -7,14 +7,17 @@ use mathlib.Core.Option.{Option, none, some}
 use mathlib.Core.Path.{_≡_, refl, sym, ap, _∙_}
 use Rattle.format.specs.Bytes.{Bytes}
 use Rattle.format.specs.Parts.{Part}
-use Rattle.format.specs.Reading.{accepted, judgedThen}
+use Rattle.format.specs.Metadata.{hintItem, judgeMetadata}
+use Rattle.format.specs.Reading.{accepted, judge}
+use Rattle.format.specs.Tables.{Table}
+use Rattle.format.specs.Walk.{hintSection, customPayload}
 use Rattle.format.specs.Laws.Options.{not-some, some-is}
 use Rattle.format.specs.Laws.Outcomes.{not-accepted, followed}
 use Rattle.grammar.specs.Modules.{Among, here, further}
 use Rattle.branches.specs.Bodies.{bodyOf, Seat, onBranch, notReadable, elsewhere, isBranch, seatIn}
-use Rattle.branches.specs.Branches.{seatJudged, eachHint, hintsOf, oneFunction, eachFunction}
+use Rattle.branches.specs.Branches.{importedFunctions, functionBodies, seatJudged, eachHint, hintsOf, oneFunction, eachFunction, hintsChecked, payloadOnBranches, hintsOnBranches}
 use Rattle.branches.specs.Grammar.{Begins}
-use Rattle.branches.specs.Hints.{Placed, Hints}
+use Rattle.branches.specs.Hints.{Placed, Hints, allHints}
 use Rattle.branches.specs.Laws.Seats.{branch-exactly}
 
 -- a hint sits on a branch: its function has a body, of which a br_if or an if begins at its offset
@@ -84,3 +87,17 @@ module _ (first : ℕ) (parts : List Part) (bytes : (f : ℕ) (body : Part) → 
   -- "accept when every hint's offset begins one of those two"
   pub all-sit-exactly : (fs : List (Placed Hints)) → (eachFunction first parts fs ≡ accepted tt) ↔ AllSit first parts fs
   all-sit-exactly fs = (functions-sound fs, functions-complete fs)
+
+-- The check over a module: where the walk, the payload, the import list and the list of bodies are accepted, every hint decides
+module _ (m : List ℕ) {p : Part} {t : Table (Table Part)} {first : ℕ} {parts : List Part} {fs : List (Placed Hints)} (found : customPayload hintSection m ≡ accepted (some p)) (payload : judgeMetadata hintItem (p .at) (p .bytes) ≡ accepted t) (imported : importedFunctions m ≡ accepted first) (listed : functionBodies m ≡ accepted parts) (placed : judge (allHints (p .at) (p .bytes)) ≡ accepted fs) where
+  check-is : hintsOnBranches m ≡ eachFunction first parts fs
+  unfolding hintsOnBranches payloadOnBranches hintsChecked
+  check-is = rw (found, payload, imported, listed, placed)
+
+  pub module-exactly : ((f : ℕ) (body : Part) → bodyOf first parts f ≡ some body → Bytes (body .bytes)) → (hintsOnBranches m ≡ accepted tt) ↔ AllSit first parts fs
+  module-exactly bytes = (λ e. functions-sound first parts bytes fs (sym check-is ∙ e), λ s. check-is ∙ functions-complete first parts bytes fs s)
+
+-- "An accepted module without the hint section is accepted, imports unread."
+pub without-hints : (m : List ℕ) → customPayload hintSection m ≡ accepted none → hintsOnBranches m ≡ accepted tt
+unfolding hintsOnBranches
+without-hints m e = rw e
