@@ -162,6 +162,7 @@ wm-stream-part before part after a = (after ≡ turnedBy before part .state) × 
 
 abbrev pub wm-stream-finish : (before after : Stream) → WmStreamAnswer → Type 0
 wm-stream-finish before after a = (after ≡ overBy before .state) × (a ≡ overBy before .answer)
+
 -- K6: every hint sits on br_if or if
 abbrev pub wm-hints-on-branches : List ℕ → WmAnswer → Type 0
 wm-hints-on-branches bytes a = a ≡ wmJudged (length bytes) (hintsOnBranches bytes)
