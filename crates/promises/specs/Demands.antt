@@ -19,8 +19,8 @@ use Rattle.format.specs.Through.{metadataSection}
 use Rattle.wakemiono.specs.declared.WmAnswer.{WmAnswer}
 use Rattle.wakemiono.specs.Boundary.{wmNone, wmFound, wmRefused, wmPlace}
 -- WHAT THE RULES REFUSE, each with its number and its offset, as the rules are written down in `crates/format/specs`, one file a topic: `Judged A` is `accepted v`, with what was read, or `refused number offset`. `judgeModule m` judges a module, `judgeNames knownKind at p` a name payload that begins at an offset of what was lent, `judgeNames widerKind at p` one by the wider edition, `judgeMetadata anyItem at p` metadata of any format, and `judgeMetadata hintItem at p` branch hints; `itemOf format` is `hintItem` for the format branch_hint and else `anyItem`; `judgeOlder at p` judges hints of the older edition. Of what was read, `rewriteNames` and `rewriteMetadata` are the bytes of the canonical rewriting, and of older hints `writeOlder (sortedFrom nil es)`.
-use Rattle.format.specs.Reading.{Judged, accepted, refused}
-use Rattle.format.specs.Walk.{walk as judgeModule}
+use Rattle.format.specs.Reading.{Judged, accepted, refused, judge}
+use Rattle.format.specs.Walk.{walk as judgeModule, customPayload}
 use Rattle.format.specs.Names.{knownKind, widerKind, judgeNames}
 use Rattle.format.specs.Metadata.{anyItem, hintItem, judgeMetadata}
 use Rattle.format.specs.Through.{itemOf}
@@ -80,7 +80,11 @@ use Rattle.format.specs.declared.Question.the-variants.{ModuleName, FunctionNam
 -- Of metadata and hints: `ItemQuestion` is a function and an offset, each a record of one number; `ItemInRange q` says that both are below 4,294,967,296. `OlderInRange q` says it of a question for a hint of the older edition.
 use Rattle.format.specs.Theorems.{ItemQuestion, ItemInRange, OlderInRange}
 -- THE CALLS, each by its promise: `wm-walk bytes a` says that the answer a is one that the promise of wm_walk allows for these bytes. It is the promise itself, the one name that stands in the `ensures` of the call in crates/wakemiono/src. What the promises come to is said below, so that nothing has to be known of how they are put. `wm-name q` is the promise of the call that asks q: wm_module_name asks `ModuleName`, wm_function_name `FunctionName` of its function, wm_type_name `TypeName` of its index, wm_tag_name `TagName` of its tag, wm_local_name `LocalName` of its function and its local, wm_field_name `FieldName` of its index and its field, wm_kept `KeptContents` of its id; `wm-name-in q` is that of the same call with `_in`, which is lent a module. `wm-wide-name q` and `wm-wide-name-in q` are those of the wider edition, wm_wide_module_name and so on, which has six more: wm_wide_label_name asks `LabelName` of its function and its label, wm_wide_table_name `TableName`, wm_wide_memory_name `MemoryName`, wm_wide_global_name `GlobalName`, wm_wide_element_name `ElementName` and wm_wide_data_name `DataName`. The calls that write are promised of the output before and after, too: `old` and `new`. `wm-markers p is os is′ os′ a` is promised of both lists before the call, `is` and `os`, and after it; `wm-quick-function-name p is os end function a` of a payload, two lists, an end and the function asked. `wm-pair q separate own a` is the promise of the call that asks q over two payloads, wm_pair_module_name and so on, and `wm-wide-pair` that of the wider edition; `wm-pair-join separate own old new a` is the join's. `wm-stream-part s p t a` is promised of the state before the call, s, a part, the state after the call, t, and the answer; `wm-stream-finish s t a` of both states and the answer; `wm-stream-begin b` of the state that comes back.
-use Rattle.wakemiono.specs.Calls.{wm-walk, wm-section, wm-custom, wm-names-judge, wm-name, wm-metadata-judge, wm-metadata, wm-hints-judge, wm-hint, wm-name-in, wm-metadata-in, wm-hint-in, wm-names-canonical, wm-metadata-canonical, wm-hints-canonical, wm-function-names-write, wm-names-is-canonical, wm-metadata-is-canonical, wm-hints-is-canonical, wm-wide-names-judge, wm-wide-name, wm-wide-name-in, wm-wide-names-canonical, wm-wide-names-is-canonical, wm-old-hints-judge, wm-old-hint, wm-old-hint-in, wm-old-hints-canonical, wm-old-hints-is-canonical, wm-why-function, wm-why-local, wm-markers, wm-quick-function-name, wm-pair, wm-wide-pair, wm-pair-join, wm-wide-pair-join, wm-stream-begin, wm-stream-part, wm-stream-finish}
+use Rattle.wakemiono.specs.Calls.{wm-walk, wm-section, wm-custom, wm-names-judge, wm-name, wm-metadata-judge, wm-metadata, wm-hints-judge, wm-hint, wm-name-in, wm-metadata-in, wm-hint-in, wm-names-canonical, wm-metadata-canonical, wm-hints-canonical, wm-function-names-write, wm-names-is-canonical, wm-metadata-is-canonical, wm-hints-is-canonical, wm-wide-names-judge, wm-wide-name, wm-wide-name-in, wm-wide-names-canonical, wm-wide-names-is-canonical, wm-old-hints-judge, wm-old-hint, wm-old-hint-in, wm-old-hints-canonical, wm-old-hints-is-canonical, wm-why-function, wm-why-local, wm-markers, wm-quick-function-name, wm-pair, wm-wide-pair, wm-pair-join, wm-wide-pair-join, wm-stream-begin, wm-stream-part, wm-stream-finish, wm-hints-on-branches}
+use Rattle.branches.specs.Branches.{importedFunctions, functionBodies, hintsOnBranches}
+use Rattle.branches.specs.Hints.{Placed, Hints, allHints}
+use Rattle.branches.specs.Theorems.{AllSit}
+use Rattle.wakemiono.specs.Calls.{wm-walk, wm-section, wm-custom, wm-names-judge, wm-name, wm-metadata-judge, wm-metadata, wm-hints-judge, wm-hint, wm-name-in, wm-metadata-in, wm-hint-in, wm-names-canonical, wm-metadata-canonical, wm-hints-canonical, wm-function-names-write, wm-names-is-canonical, wm-metadata-is-canonical, wm-hints-is-canonical, wm-wide-names-judge, wm-wide-name, wm-wide-name-in, wm-wide-names-canonical, wm-wide-names-is-canonical, wm-old-hints-judge, wm-old-hint, wm-old-hint-in, wm-old-hints-canonical, wm-old-hints-is-canonical, wm-hints-on-branches, wm-why-function, wm-why-local, wm-markers, wm-quick-function-name, wm-pair, wm-wide-pair, wm-pair-join, wm-wide-pair-join}
 -- THE NUMBER READER of the library, by its promise: from the cursor c over the bytes s it reads the number v, says `told`, and stands at `next`; `left s c` are the bytes from c to the end of the innermost part, and `shortest v` is the shortest form of v. `Inside s c`: the cursor lies in what was lent.
 use Rattle.format.specs.Numbers.{shortest}
 use Rattle.reading.specs.Cursors.{Inside, left}
@@ -585,6 +589,14 @@ pub record K11 : Type 0 where
   pub other-hints : Another wm-hints-judge (λ q. wm-hint (q .0 .0) (q .1 .0)) ItemInRange (λ _ _ a b. a ≡ b) wm-hints-canonical (hex "01 02 01 05 01 01") (hex "01 02 01 05 81 00 01") 6 7
   -- likely at offset 5 of function 0 and unlikely at offset 7 of function 3, the functions the other way round: as long, and not canonical
   pub other-old-hints : Another wm-old-hints-judge (λ q. wm-old-hint (q .0 .0) (q .1 .0)) OlderInRange (λ _ _ a b. a ≡ b) wm-old-hints-canonical (hex "02 00 00 01 01 05 03 00 01 00 07") (hex "02 03 00 01 00 07 00 00 01 01 05") 11 11
+
+-- K6. "Hints that sit on a branch. .. Add a check over the whole module: count imported functions, find each hinted body, step over its locals, then its instructions by the immediates of core specification 1.0, and accept when every hint's offset begins one of those two. .. An accepted module without the hint section is accepted, imports unread." `AllSit first parts fs` says of the hints fs that each begins a `br_if` or an `if` of its function's body, by the grammar of the specification (crates/branches/specs/Theorems.antt and Grammar.antt): `first` functions are imported, and `parts` are the bodies. Proved as `k6` in Proved.antt.
+pub record K6 : Type 0 where
+  pub accepts : (m : List ℕ) (a : WmAnswer) → wm-hints-on-branches m a → (a ≡ wmFound 0 0 (length m)) ↔ (hintsOnBranches m ≡ accepted tt)
+  pub refuses : (m : List ℕ) (a : WmAnswer) → wm-hints-on-branches m a → (n at : ℕ) → hintsOnBranches m ≡ refused n at → a ≡ wmRefused n at
+  pub without-hints : (m : List ℕ) → customPayload hintSection m ≡ accepted none → hintsOnBranches m ≡ accepted tt
+  -- "accept when every hint's offset begins one of those two"
+  pub exactly : (m : List ℕ) (p : Part) (t : Table (Table Part)) (first : ℕ) (parts : List Part) (fs : List (Placed Hints)) → customPayload hintSection m ≡ accepted (some p) → judgeMetadata hintItem (p .at) (p .bytes) ≡ accepted t → importedFunctions m ≡ accepted first → functionBodies m ≡ accepted parts → judge (allHints (p .at) (p .bytes)) ≡ accepted fs → ((f : ℕ) (body : Part) → bodyOf first parts f ≡ some body → Bytes (body .bytes)) → (hintsOnBranches m ≡ accepted tt) ↔ AllSit first parts fs
 
 -- K7. "Why has this function no name? For an accepted payload and a function or local question answered none, a tool names one reason: no such subsection; a subsection without a group for that function; or a map without that index, with the nearest mapped index below and above, if any. For a name found it gives the subsection and the entry's position in its map, from 0. Exactly one reason is true of each such question, and it is the one given." Proved as `k7` in Proved.antt.
 

@@ -73,7 +73,10 @@ use Rattle.promises.specs.Laws.Pairs.{asks-pairs, hands-back}
 use Rattle.promises.specs.Laws.Joins.{joins-pairs}
 use Rattle.promises.specs.Laws.Walking.{walked, walk-counts, section-found, section-first, section-none, section-refused, custom-tells, custom-refused}
 use Rattle.wakemiono.specs.Calls.{wm-walk, wm-metadata-judge, wm-hints-judge, wm-metadata-canonical, wm-hints-canonical, wm-function-names-write, wm-old-hints-judge, wm-old-hints-canonical}
-use Rattle.promises.specs.Demands.{Verdict, Reply, SectionReply, HintReply, Answers, RefusedBy, RefusedThrough, RefusedOrShort, ListsRefused, NeedsRoom, Writing, Demand1, HoldsName, HoldsData, JudgesExactly, AnswersNames, AnswersMetadata, AnswersHints, Walks, Demand2, SameAnswer, Rewritten, Rewrites, Demand3, yes, no, replyNone, replyFound, replyRefused, sectionNone, sectionFound, sectionRefused, hintNone, hintUnlikely, hintLikely, hintRefused, byTheWalk, byItsPayload, asJudged, tooShort, listsDisagree, notAbove, notText, subsectionTooLarge, outputTooShort, TellsCanonical, K10, K9, OlderRefused, AnswersOlder, K2, olderJudged, olderTooLong, olderTooShort, K11, K7, K8, K3, Leaves, K5}
+use Rattle.promises.specs.Demands.{Verdict, Reply, SectionReply, HintReply, Answers, RefusedBy, RefusedThrough, RefusedOrShort, ListsRefused, NeedsRoom, Writing, Demand1, HoldsName, HoldsData, JudgesExactly, AnswersNames, AnswersMetadata, AnswersHints, Walks, Demand2, SameAnswer, Rewritten, Rewrites, Demand3, yes, no, replyNone, replyFound, replyRefused, sectionNone, sectionFound, sectionRefused, hintNone, hintUnlikely, hintLikely, hintRefused, byTheWalk, byItsPayload, asJudged, tooShort, listsDisagree, notAbove, notText, subsectionTooLarge, outputTooShort, TellsCanonical, K10, K9, OlderRefused, AnswersOlder, K2, olderJudged, olderTooLong, olderTooShort, K11, K7, K8, K3, Leaves, K5, K6}
+use Rattle.branches.specs.Branches.{hintsOnBranches}
+use Rattle.branches.specs.Theorems.{module-exactly, without-hints}
+use Rattle.promises.specs.Answers.{saysVerdict, verdict-said}
 
 -- Demand 1
 judged-verdict : (n : ℕ) (j : Judged (Unit {0})) → Verdict (wmJudged n j)
@@ -422,6 +425,14 @@ k11 = record {
   other-metadata = other-metadata;
   other-hints = other-hints;
   other-old-hints = other-old-hints;
+}
+
+pub k6 : K6
+k6 = record {
+  accepts = λ m a e. (λ is. sym (verdict-said (length m) (hintsOnBranches m)) ∙ ap saysVerdict (sym e ∙ is), λ is. e ∙ ap (wmJudged (length m)) is);
+  refuses = λ m a e n at is. e ∙ ap (wmJudged (length m)) is;
+  without-hints = without-hints;
+  exactly = λ m p t first parts fs. module-exactly m;
 }
 
 pub k7 : K7
