@@ -81,10 +81,11 @@ use Rattle.format.specs.declared.Question.the-variants.{ModuleName, FunctionNam
 use Rattle.format.specs.Theorems.{ItemQuestion, ItemInRange, OlderInRange}
 -- THE CALLS, each by its promise: `wm-walk bytes a` says that the answer a is one that the promise of wm_walk allows for these bytes. It is the promise itself, the one name that stands in the `ensures` of the call in crates/wakemiono/src. What the promises come to is said below, so that nothing has to be known of how they are put. `wm-name q` is the promise of the call that asks q: wm_module_name asks `ModuleName`, wm_function_name `FunctionName` of its function, wm_type_name `TypeName` of its index, wm_tag_name `TagName` of its tag, wm_local_name `LocalName` of its function and its local, wm_field_name `FieldName` of its index and its field, wm_kept `KeptContents` of its id; `wm-name-in q` is that of the same call with `_in`, which is lent a module. `wm-wide-name q` and `wm-wide-name-in q` are those of the wider edition, wm_wide_module_name and so on, which has six more: wm_wide_label_name asks `LabelName` of its function and its label, wm_wide_table_name `TableName`, wm_wide_memory_name `MemoryName`, wm_wide_global_name `GlobalName`, wm_wide_element_name `ElementName` and wm_wide_data_name `DataName`. The calls that write are promised of the output before and after, too: `old` and `new`. `wm-markers p is os is′ os′ a` is promised of both lists before the call, `is` and `os`, and after it; `wm-quick-function-name p is os end function a` of a payload, two lists, an end and the function asked. `wm-pair q separate own a` is the promise of the call that asks q over two payloads, wm_pair_module_name and so on, and `wm-wide-pair` that of the wider edition; `wm-pair-join separate own old new a` is the join's. `wm-stream-part s p t a` is promised of the state before the call, s, a part, the state after the call, t, and the answer; `wm-stream-finish s t a` of both states and the answer; `wm-stream-begin b` of the state that comes back.
 use Rattle.wakemiono.specs.Calls.{wm-walk, wm-section, wm-custom, wm-names-judge, wm-name, wm-metadata-judge, wm-metadata, wm-hints-judge, wm-hint, wm-name-in, wm-metadata-in, wm-hint-in, wm-names-canonical, wm-metadata-canonical, wm-hints-canonical, wm-function-names-write, wm-names-is-canonical, wm-metadata-is-canonical, wm-hints-is-canonical, wm-wide-names-judge, wm-wide-name, wm-wide-name-in, wm-wide-names-canonical, wm-wide-names-is-canonical, wm-old-hints-judge, wm-old-hint, wm-old-hint-in, wm-old-hints-canonical, wm-old-hints-is-canonical, wm-why-function, wm-why-local, wm-markers, wm-quick-function-name, wm-pair, wm-wide-pair, wm-pair-join, wm-wide-pair-join, wm-stream-begin, wm-stream-part, wm-stream-finish, wm-hints-on-branches}
+-- HINTS ON BRANCHES, by crates/branches/specs: of a module `importedFunctions` counts the functions that are imported, and `functionBodies` are the bodies; `bodyOf first parts f` is the body of function f. `allHints` are the hints of a payload with their places: `Placed` has a `number`, where it stands, `at`, and its `value`. `AllSit first parts fs`: every hint of fs has a body of which, by the grammar of core specification 1.0, a br_if or an if begins at its offset.
+use Rattle.branches.specs.Bodies.{bodyOf}
 use Rattle.branches.specs.Branches.{importedFunctions, functionBodies, hintsOnBranches}
 use Rattle.branches.specs.Hints.{Placed, Hints, allHints}
 use Rattle.branches.specs.Theorems.{AllSit}
-use Rattle.wakemiono.specs.Calls.{wm-walk, wm-section, wm-custom, wm-names-judge, wm-name, wm-metadata-judge, wm-metadata, wm-hints-judge, wm-hint, wm-name-in, wm-metadata-in, wm-hint-in, wm-names-canonical, wm-metadata-canonical, wm-hints-canonical, wm-function-names-write, wm-names-is-canonical, wm-metadata-is-canonical, wm-hints-is-canonical, wm-wide-names-judge, wm-wide-name, wm-wide-name-in, wm-wide-names-canonical, wm-wide-names-is-canonical, wm-old-hints-judge, wm-old-hint, wm-old-hint-in, wm-old-hints-canonical, wm-old-hints-is-canonical, wm-hints-on-branches, wm-why-function, wm-why-local, wm-markers, wm-quick-function-name, wm-pair, wm-wide-pair, wm-pair-join, wm-wide-pair-join}
 -- THE NUMBER READER of the library, by its promise: from the cursor c over the bytes s it reads the number v, says `told`, and stands at `next`; `left s c` are the bytes from c to the end of the innermost part, and `shortest v` is the shortest form of v. `Inside s c`: the cursor lies in what was lent.
 use Rattle.format.specs.Numbers.{shortest}
 use Rattle.reading.specs.Cursors.{Inside, left}
