@@ -33,10 +33,14 @@
  *       payload for markers, or for the quick question, exceeds them        0
  *   17  in older hints the byte behind a function is not zero               that byte
  *   18  a part or a finish of a stream after its finish                     0
+ *   19  no body for a hinted function                                       the function index
+ *   20  locals, or an instruction before a hint, not readable by 1.0        the hint's offset number
+ *   21  hint not on br_if or if                                             the hint's offset number
  *   22  no markers: lists of unequal length                                 the shorter's length
  *       else an end outside the payload                                     the length of the lists
  *       else a list that does not rise, or an offset not below the end      the first such position in the lists, from 0
  *   28  a part that takes a stream above 18,446,744,073,709,551,615 bytes   0
+ *   29  import kind above 3, or limits flag above 1                         that byte
  *
  * 16 is given by no call: the program that lists has it for its own input.
  */
@@ -281,6 +285,15 @@ wm_answer wm_markers(const uint8_t *payload, size_t payload_len, uint32_t *indic
 /* A function's name by markers: the lists of wm_markers at their true length, and the end. Refusals: 15, 22. */
 wm_answer wm_quick_function_name(const uint8_t *payload, size_t payload_len, const uint32_t *indices, size_t indices_len,
                                  const uint32_t *offsets, size_t offsets_len, uint64_t end, uint32_t function);
+
+/* Does every hint of a module's section `metadata.code.branch_hint` stand on a branch? FOUND with offset 0 and the module's
+ * length where each offset, counted from the first byte of its function's locals, begins a br_if (0x0D) or an if (0x04); so,
+ * too, without the section, whatever the imports are. Code is read by core specification 1.0.
+ * Refusals in this order: the walk's; the hint payload's; the import list's and then the list of bodies', 2, 3, 4 and 10,
+ * with 29 at an import kind above 3 or a limits flag above 1; then hint by hint 19, no body for the function, at its index,
+ * and at the hint's offset number 20, the locals or an instruction that starts before the place cannot be read, or 21, no
+ * branch begins there. All offsets count from the module's first byte. */
+wm_answer wm_hints_on_branches(const uint8_t *module, size_t module_len);
 
 /* Names that travel beside a stripped module: one question over two name payloads, a separate one and the module's own,
  * which for a stripped module is empty. The separate payload answers unless it gives none, else the module's own. A

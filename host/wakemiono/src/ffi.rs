@@ -217,6 +217,7 @@ extern "C" {
         end: u64,
         function: u32,
     ) -> Answer;
+    fn wm_hints_on_branches(module: *const u8, module_len: usize) -> Answer;
 }
 
 pub(crate) fn walk(module: &[u8]) -> Answer {
@@ -484,6 +485,11 @@ impl Wider {
         pub(crate) fn element_name_in(element: u32) -> Answer = wm_wide_element_name_in;
         pub(crate) fn data_name_in(data: u32) -> Answer = wm_wide_data_name_in;
     }
+}
+
+pub(crate) fn hints_on_branches(module: &[u8]) -> Answer {
+    // SAFETY: pointer and length of one live slice, lent.
+    unsafe { wm_hints_on_branches(module.as_ptr(), module.len()) }
 }
 
 // The calls of the older edition of hints.

@@ -429,6 +429,30 @@ impl<'a, E: Edition> Module<'a, E> {
         ffi::old_hint_in(self.0, function.0, at.0).hint()
     }
 
+    /// Whether every hint of the section `metadata.code.branch_hint` stands on a `br_if` or an `if` of its
+    /// function's body; so, too, without the section. Code is read by core specification 1.0.
+    ///
+    /// ```
+    /// use wakemiono::{Module, Reason};
+    ///
+    /// let mut bytes = b"\0asm\x01\0\0\0\x01\x04\x01\x60\0\0\x03\x02\x01\0".to_vec();
+    /// bytes.extend(b"\0\x20\x19metadata.code.branch_hint\x01\0\x01\x03\x01\x01");
+    /// bytes.extend(b"\x0A\x09\x01\x07\0\x41\x01\x04\x40\x0B\x0B"); // an if at 3, counted from the locals
+    /// assert_eq!(Module::new(&bytes).hints_on_branches(), Ok(()));
+    /// bytes[49] = 1; // i32.const
+    /// let refusal = Module::new(&bytes).hints_on_branches().unwrap_err();
+    /// assert_eq!((refusal.reason(), refusal.offset()), (Reason::NotOnABranch, 49));
+    /// ```
+    ///
+    /// # Errors
+    ///
+    /// The walk's; the hint payload's; those of the import list and of the list of bodies; then, hint by
+    /// hint, [`NoBody`](crate::Reason::NoBody), [`UnreadableCode`](crate::Reason::UnreadableCode) or
+    /// [`NotOnABranch`](crate::Reason::NotOnABranch).
+    pub fn hints_on_branches(&self) -> Result<(), Refusal> {
+        ffi::hints_on_branches(self.0).length().map(drop)
+    }
+
     pub(crate) fn name(&self, answer: ffi::Answer) -> Result<Option<Name<'a>>, Refusal> {
         Ok(answer.part(self.0)?.map(Name::from))
     }

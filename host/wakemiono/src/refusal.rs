@@ -64,6 +64,13 @@ pub enum Reason {
     /// 18: a part or a finish came after the finish of the stream. A [`Stream`](crate::Stream) cannot be
     /// used so; the call of the C header can.
     StreamFinished = 18,
+    /// 19: a hinted function has no body in the module. The offset is that of its index.
+    NoBody = 19,
+    /// 20: the locals of a hinted function, or an instruction that starts before the hinted place,
+    /// cannot be read by version 1.0. The offset is that of the hint's offset.
+    UnreadableCode = 20,
+    /// 21: a hint does not stand on `br_if` or `if`. The offset is that of the hint's offset.
+    NotOnABranch = 21,
     /// 22: what the quick question is given are no markers of a payload. The lists have unequal
     /// lengths, and the offset is the shorter's length; else the end lies outside the payload, and
     /// it is the length of the lists; else one of the lists does not rise, or an offset is not below
@@ -71,6 +78,8 @@ pub enum Reason {
     NotMarkers = 22,
     /// 28: a part takes the stream above 18,446,744,073,709,551,615 bytes.
     StreamTooLong = 28,
+    /// 29: an import's kind is above 3, or the flag of its limits above 1. The offset is that of the byte.
+    UnknownImport = 29,
 }
 
 impl Reason {
@@ -100,8 +109,12 @@ impl Reason {
         Reason::SubsectionTooLong,
         Reason::NotZero,
         Reason::StreamFinished,
+        Reason::NoBody,
+        Reason::UnreadableCode,
+        Reason::NotOnABranch,
         Reason::NotMarkers,
         Reason::StreamTooLong,
+        Reason::UnknownImport,
     ];
 
     /// The refusal number.
@@ -178,9 +191,21 @@ impl Reason {
                 "no hints of the older edition, or a damaged file: take it from its producer again"
             }
             Reason::StreamFinished => "the stream is over: begin another for the next module",
+            Reason::NoBody => {
+                "the hints are those of another build: strip them, or take both from one build"
+            }
+            Reason::UnreadableCode => {
+                "code of a later version of WebAssembly, or a damaged file: its hints cannot be checked"
+            }
+            Reason::NotOnABranch => {
+                "the code was changed after its hints were written: strip them, or write them anew"
+            }
             Reason::NotMarkers => "the markers are not those of the payload: make them anew",
             Reason::StreamTooLong => {
                 "more bytes than can be counted: finish, and begin another stream"
+            }
+            Reason::UnknownImport => {
+                "an import of a later version of WebAssembly, or a damaged file: its hints cannot be checked"
             }
         }
     }
@@ -220,12 +245,20 @@ impl fmt::Display for Reason {
             }
             Reason::NotZero => "the byte behind a function of older hints is not zero",
             Reason::StreamFinished => "a part or a finish came after the finish of the stream",
+            Reason::NoBody => "a hinted function has no body in the module",
+            Reason::UnreadableCode => {
+                "the locals or an instruction before a hint cannot be read by version 1.0"
+            }
+            Reason::NotOnABranch => "a hint does not stand on br_if or if",
             Reason::NotMarkers => {
                 "the lists are no markers: their lengths differ, the end lies outside the payload, \
                  or a position does not rise or is not below the end"
             }
             Reason::StreamTooLong => {
                 "a part takes the stream above 18,446,744,073,709,551,615 bytes"
+            }
+            Reason::UnknownImport => {
+                "an import's kind is above 3, or the flag of its limits above 1"
             }
         })
     }
@@ -422,6 +455,9 @@ impl fmt::Display for Refusal {
             (Reason::SectionTooLate, _) => "the id of the later section stands at",
             (Reason::LeftOver, _) => "the first of them stands at",
             (Reason::NotAHint, _) => "its size, or its kind, stands at",
+            (Reason::NoBody, _) => "the function's index starts at",
+            (Reason::UnreadableCode | Reason::NotOnABranch, _) => "the hint's offset starts at",
+            (Reason::UnknownImport, _) => "the kind, or the flag, stands at",
         };
         write!(f, "{}: {place} byte {at:#X} ({at})", self.reason)
     }

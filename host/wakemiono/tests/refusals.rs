@@ -191,6 +191,37 @@ fn of_streams() {
     assert_eq!(said, sentence);
 }
 
+/// A module of one function, `i32.const 1`, `if`, `end`, `end`, with one hint. The function's index
+/// stands at byte 47 of the module, the hint's offset at 49.
+#[test]
+fn of_hints_on_branches() {
+    let with = |function: u8, offset: u8, code: u8| {
+        let mut bytes = b"\0asm\x01\0\0\0\x01\x04\x01\x60\0\0\x03\x02\x01\0".to_vec();
+        bytes.extend(b"\0\x20\x19metadata.code.branch_hint\x01");
+        bytes.extend([function, 1, offset, 1, 1]);
+        bytes.extend([0x0A, 9, 1, 7, 0, code, 1, 0x04, 0x40, 0x0B, 0x0B]);
+        Module::new(&bytes).hints_on_branches()
+    };
+    const I32_CONST: u8 = 0x41;
+    assert_eq!(with(0, 3, I32_CONST), Ok(()));
+    says(
+        with(1, 3, I32_CONST),
+        Reason::NoBody,
+        "a hinted function has no body in the module: the function's index starts at byte 0x2F (47)",
+    );
+    says(
+        with(0, 3, 0xFF),
+        Reason::UnreadableCode,
+        "the locals or an instruction before a hint cannot be read by version 1.0: the hint's \
+         offset starts at byte 0x31 (49)",
+    );
+    says(
+        with(0, 1, I32_CONST),
+        Reason::NotOnABranch,
+        "a hint does not stand on br_if or if: the hint's offset starts at byte 0x31 (49)",
+    );
+}
+
 #[test]
 fn of_pairs() {
     let (accepted, left_over) = (
@@ -248,16 +279,19 @@ fn as_errors() {
 }
 
 #[test]
-fn their_numbers_are_1_to_15_17_18_22_and_28() {
+fn their_numbers_are_1_to_15_17_to_22_28_and_29() {
     let numbers: Vec<u32> = Reason::ALL.iter().map(|reason| reason.number()).collect();
     assert_eq!(
         numbers,
-        (1..=15).chain([17, 18, 22, 28]).collect::<Vec<u32>>()
+        (1..=15)
+            .chain(17..=22)
+            .chain([28, 29])
+            .collect::<Vec<u32>>()
     );
     for reason in Reason::ALL {
         assert_eq!(Reason::from_number(reason.number()), Some(*reason));
     }
-    for none in [0, 16, 19, 21, 23, 27, 29, u32::MAX] {
+    for none in [0, 16, 23, 27, 30, u32::MAX] {
         assert_eq!(Reason::from_number(none), None);
     }
 }
