@@ -23,19 +23,19 @@ use Rattle.walk.proofs.RowLaws.{row-below}
 use Rattle.walk.proofs.rules.Called as called-type
 use Rattle.stream.specs.Naming.{noneMet}
 use Rattle.stream.specs.Contents.{paying, failing, name, content}
-use Rattle.stream.specs.Stream.{settled, skipping, skip, custom, State, steps}
+use Rattle.stream.specs.Stream.{settled, skipping, skip, custom, State, standing, steps}
 use Rattle.stream.specs.Calls.{most}
 use Rattle.stream.specs.Fields.{rowNumber, rowFrom as rowOf, doneFrom, textFrom, namesFrom, contentsFrom, stateFrom}
 use Rattle.stream.specs.Fits.{rowFits, contentsFit, fits}
 use Rattle.stream.specs.Phases.{Fit, Steps, Closing, Closes, NameEnds, Passing, Passes, Reaches, Ready, Moves, Feeding, Feeds, wholeHere, WholeName, NameJudged, InPreamble}
-use Rattle.stream.specs.Laws.Bulk.{standing, judgedName, name-many, skip-many, contents-many, paying-stays, failing-stays, refused-many, steps-between}
+use Rattle.stream.specs.Laws.Bulk.{judgedName, name-many, skip-many, contents-many, paying-stays, failing-stays, refused-many, steps-between}
 use Rattle.stream.specs.Laws.Texts.{isText, restIsText}
 use Rattle.stream.specs.Laws.Naming.{rowNamed, meeting, meeting-first}
 use Rattle.stream.specs.Laws.Fields.{row-back}
 use Rattle.stream.specs.Laws.Fits.{both, steps-fit, steps-total}
 use Rattle.stream.specs.declared.Stream.{Stream}
 use Rattle.stream.specs.declared.feeding.JudgedName.{JudgedName}
-use Rattle.stream.specs.declared.feeding.Moved.{Moved}
+use Rattle.stream.specs.declared.heads.Moved.{Moved}
 use Rattle.stream.proofs.States.{at, at-same, as-between, as-refused, as-skipping, as-custom, as-naming, as-paying, as-failing, skipping-left, custom-count, custom-left, custom-contents}
 use Rattle.stream.proofs.SectionLaws.{limit64, skip-on, custom-on, blank-opens, opens-late}
 use Rattle.stream.proofs.NameLaws.{name-on}

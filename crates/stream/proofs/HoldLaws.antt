@@ -12,63 +12,16 @@ use Rattle.stream.specs.Contents.{Contents}
 use Rattle.stream.specs.Stream.{Phase, inCustom}
 use Rattle.stream.specs.Fields.{flag, spotOf, rowsThere, rowNumber, inPhase, held, placeFrom, rowFrom, doneFrom, contentsFrom, stateFrom}
 use Rattle.stream.specs.Phases.{blankAt, behindOf}
+use Rattle.stream.specs.Known.{knownIn, betweenAt}
 use Rattle.stream.specs.declared.Met.{Met}
 use Rattle.stream.specs.declared.Spot.{Spot}
 use Rattle.stream.specs.declared.Stream.{Stream}
+use Rattle.stream.specs.declared.known.Known.{Known}
 use Rattle.stream.proofs.States.{at, at-same, as-starting, as-between, as-refused, as-measuring, as-skipping, as-custom, as-sizing, as-naming, as-paying, as-failing}
-use Rattle.stream.proofs.SectionLaws.{some-so}
+use Rattle.stream.proofs.SectionLaws.{mixed}
 
-pub spot-kept : {there : Bool} (p : Spot) → there ≡ true → p ≡ spotOf (placeFrom there p)
-spot-kept p e = rw e
-
-pub spot-dropped : {there : Bool} (p : Spot) → there ≡ false → record { offset = 0; length = 0 } ≡ spotOf (placeFrom there p)
-spot-dropped p e = rw e
-
-pub ruleset spots = (spot-kept, spot-dropped, needs)
-
--- a digit and its flag
-digit : (n : ℕ) → flag (eqb (n % 2) 1) ≡ n % 2
-digit n =
-    byTest (eqb (n % 2) 1)
-    (λ t. rw t (sym (eqb-true (n % 2) 1 t)))
-    (λ t. rw t (let h = eqb-false (n % 2) 1 t in omega arith))
-
-rows-kept : (f : Stream) → rowsThere (doneFrom f .told) ≡ f .there % 8
-rows-kept f =
-    (λ i. flag (some-so (bit (f .there) 0) (f .name) i) + 2 * flag (some-so (bit (f .there) 1) (f .hints) i) + 4 * flag (some-so (bit (f .there) 2) (f .older) i))
-    ∙ (λ i. digit (f .there) i + 2 * digit (f .there / 2) i + 4 * digit (f .there / 2 / 2) i)
-    ∙ omega arith
-
-module _ (f : Stream) {x : Stream} (e : x ≡ blankAt (f .total) 1) where
-  abbrev kept : (name hints older : Spot) (code : ℕ) → Stream
-  kept name hints older code = record {
-    total = x .total;
-    count = f .count;
-    name = name;
-    hints = hints;
-    older = older;
-    at = x .at;
-    begins = x .begins;
-    text = x .text;
-    left = x .left;
-    rest = x .rest;
-    low = x .low;
-    least = x .least;
-    point = x .point;
-    phase = x .phase;
-    refusal = x .refusal;
-    rank = f .rank;
-    code = code;
-    there = f .there % 8;
-    id = x .id;
-    come = x .come;
-    wanted = x .wanted;
-    met = x .met;
-    row = x .row;
-  }
-
-  pub behind-is : {name hints older : Spot} {code : ℕ} → code ≡ flag (eqb (f .code) 1) → name ≡ spotOf (placeFrom (bit (f .there) 0) (f .name)) → hints ≡ spotOf (placeFrom (bit (f .there) 1) (f .hints)) → older ≡ spotOf (placeFrom (bit (f .there) 2) (f .older)) → kept name hints older code ≡ behindOf f
-  behind-is c n h o = rw (c, n, h, o, rows-kept f, e)
+pub behind-is : (f : Stream) {x : Stream} {k : Known} → k ≡ knownIn f 0 → x ≡ betweenAt (f .total) k → x ≡ behindOf f
+behind-is f e q = q ∙ ap (betweenAt (f .total)) e
 
 pub ruleset behinds = (behind-is, needs)
 
@@ -77,34 +30,6 @@ pub ruleset behinds = (behind-is, needs)
 held-at : (f : Stream) {p : Phase} → stateFrom f ≡ at (f .total) p → held (stateFrom f) ≡ inPhase (f .total) p
 unfolding held
 held-at f e = ap held e
-
--- a struct of which these fields are known, and those of the sections behind are another's
-abbrev mixed : (x : Stream) (phase id at left come low begins text rest wanted least point : ℕ) → Met → (row refusal : ℕ) → Stream
-mixed x phase id at left come low begins text rest wanted least point met row refusal = record {
-  total = x .total;
-  count = x .count;
-  name = x .name;
-  hints = x .hints;
-  older = x .older;
-  at = at;
-  begins = begins;
-  text = text;
-  left = left;
-  rest = rest;
-  low = low;
-  least = least;
-  point = point;
-  phase = phase;
-  refusal = refusal;
-  rank = x .rank;
-  code = x .code;
-  there = x .there;
-  id = id;
-  come = come;
-  wanted = wanted;
-  met = met;
-  row = row;
-}
 
 module _ (f : Stream) where
   pub tidy-starting : {x : Stream} → x ≡ blankAt (f .total) 0 → f .phase ≡ 0 → x ≡ held (stateFrom f)

@@ -1,8 +1,10 @@
 pub mod Leaves
 pub mod States
 pub mod SectionLaws
+pub mod KnownLaws
 pub mod ContentLaws
 pub mod NameLaws
+pub mod HeadLaws
 pub mod FeedLaws
 pub mod HoldLaws
 pub mod FitLaws

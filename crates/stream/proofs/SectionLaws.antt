@@ -33,11 +33,40 @@ use Rattle.stream.specs.Fields.{flag, placeFrom, doneFrom, numberFrom, c
 use Rattle.stream.specs.Phases.{numberOf as numberSo, Countable, countedOf, Fit, Steps, Refuses, Enters, seenSo, Starting, blankAt}
 use Rattle.stream.specs.declared.numbers.Counted.{Counted}
 use Rattle.stream.specs.declared.numbers.Counted.the-variants.{Whole, Partly, Over}
+use Rattle.stream.specs.declared.Met.{Met}
 use Rattle.stream.specs.declared.Spot.{Spot}
 use Rattle.stream.specs.declared.Stream.{Stream}
 use Rattle.stream.proofs.numbers.Counted as counted-type
 use Rattle.stream.proofs.Leaves.{come-most}
 use Rattle.stream.proofs.States.{at, at-same, as-starting, as-between, as-refused, as-measuring, as-skipping, as-custom, as-sizing, measuring-count, measuring-at, measuring-number}
+
+-- a struct of which these fields are known, and those of the sections behind are another's
+abbrev pub mixed : (x : Stream) (phase id at left come low begins text rest wanted least point : ℕ) → Met → (row refusal : ℕ) → Stream
+mixed x phase id at left come low begins text rest wanted least point met row refusal = record {
+  total = x .total;
+  count = x .count;
+  name = x .name;
+  hints = x .hints;
+  older = x .older;
+  at = at;
+  begins = begins;
+  text = text;
+  left = left;
+  rest = rest;
+  low = low;
+  least = least;
+  point = point;
+  phase = phase;
+  refusal = refusal;
+  rank = x .rank;
+  code = x .code;
+  there = x .there;
+  id = id;
+  come = come;
+  wanted = wanted;
+  met = met;
+  row = row;
+}
 
 pub refuses : (f r : Stream) (number offset : ℕ) → r .phase ≡ 2 → r .total ≡ f .total → r .refusal ≡ number → r .text ≡ offset → Refuses f number offset r
 refuses f r number offset p t n o = record { means = as-refused r p ∙ at-same t (λ i. settled (refused (n i) (o i))) }
@@ -197,7 +226,7 @@ pub record Places : Type 0 where
 abbrev pub placesOf : Stream → Places
 placesOf f = record { name = doneFrom f .told .name; hints = doneFrom f .told .hints; older = doneFrom f .told .older }
 
-enter-plain : (d : Done) (id at n o : ℕ) → (id ≡ 0 → ⊥) → enter d id at n o ≡ skip (plainDone d id) at n
+pub enter-plain : (d : Done) (id at n o : ℕ) → (id ≡ 0 → ⊥) → enter d id at n o ≡ skip (plainDone d id) at n
 unfolding enter
 enter-plain d zero at n o h = absurd (h refl)
 enter-plain d (suc id) at n o h = refl

@@ -13,3 +13,4 @@ pub mod Fields
 pub mod Fits
 pub mod Calls
 pub mod Bulk
+pub mod Heads

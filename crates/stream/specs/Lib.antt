@@ -8,6 +8,7 @@ pub mod Fields
 pub mod Fits
 pub mod Calls
 pub mod Phases
+pub mod Known
 pub mod Laws
 pub mod StreamCases
 pub mod Promises

@@ -27,7 +27,7 @@ use Rattle.stream.specs.Fits.{numberFits, textFits, contentsFit, fits}
 use Rattle.stream.specs.declared.Spot.{Spot}
 use Rattle.stream.specs.declared.Stream.{Stream}
 use Rattle.stream.specs.declared.feeding.JudgedName.{JudgedName}
-use Rattle.stream.specs.declared.feeding.Moved.{Moved}
+use Rattle.stream.specs.declared.heads.Moved.{Moved}
 use Rattle.stream.specs.declared.Met.{Met}
 use Rattle.stream.specs.declared.numbers.Counted.{Counted as CountedSo}
 use Rattle.stream.specs.declared.numbers.Counted.the-variants.{Whole, Partly, Over}

@@ -151,6 +151,9 @@ pub record State : Type 0 where
   pub total : ℕ
   pub phase : Phase
 
+abbrev pub standing : ℕ → Phase → State
+standing o p = record { total = o; phase = p }
+
 unfoldable pub begin : State
 begin = record { total = 0; phase = starting }
 

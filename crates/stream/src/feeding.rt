@@ -19,6 +19,9 @@ use crate::contents::close;
 use crate::contents::named;
 use crate::contents::naming_byte;
 use crate::contents::sizing_byte;
+use crate::heads::Moved;
+use crate::heads::reach;
+use crate::heads::row_number;
 use crate::holding::blank;
 use crate::sections::PREAMBLE_LENGTH;
 use crate::sections::measuring_byte;
@@ -27,24 +30,6 @@ use crate::sections::starting_byte;
 use reading::Cursor;
 use reading::text::is_text;
 use walk::rows::called;
-use walk::rules::Called;
-
-// A state, and how far in the part it stands.
-pub struct Moved {
-    pub stream: Stream,
-    pub at: usize,
-}
-
-// How many of the bytes that are here belong to what is left.
-fn reach(here: usize, left: u32) -> u32
-    ensures { λ r. ⌜ Reaches here left r ⌝ }
-{
-    let all = left as usize;
-    if here < all {
-        return here as u32;
-    }
-    left
-}
 
 // Bytes of contents that nobody reads.
 fn skip(s: Stream, n: u32) -> Stream
@@ -104,16 +89,6 @@ fn one(s: Stream, b: u8) -> Stream
 pub struct JudgedName {
     pub valid: bool,
     pub row: u8,
-}
-
-fn row_number(called: Called) -> u8
-    requires { ⌜ InTable called ⌝ }
-    ensures { λ r. ⌜ r ≡ rowNumber (rowCalled called) ⌝ }
-{
-    match called {
-        Called::Other => 0,
-        Called::Row(row) => row + 1,
-    }
 }
 
 fn judge_whole(part: &[u8], from: usize, to: usize) -> JudgedName

@@ -1,7 +1,7 @@
 // The state as a caller holds it: what a phase has no use for is 0.
 ghost use mathlib.Core.Path.{_≡_};
 ghost use Prim.Native.Nat.{_<_};
-ghost use Rattle.stream.specs.Fields.{placeFrom, spotOf, held, stateFrom};
+ghost use Rattle.stream.specs.Fields.{held, stateFrom};
 ghost use Rattle.stream.specs.Phases.{blankAt, behindOf};
 use crate::BETWEEN;
 use crate::FAILING;
@@ -14,9 +14,9 @@ use crate::REFUSED;
 use crate::SIZING;
 use crate::SKIPPING;
 use crate::STARTING;
-use crate::Spot;
 use crate::Stream;
-use crate::sections::flag;
+use crate::known::between;
+use crate::known::known_in;
 
 // A state in a phase that has use for the total alone.
 pub fn blank(total: u64, phase: u8) -> Stream
@@ -49,34 +49,11 @@ pub fn blank(total: u64, phase: u8) -> Stream
     }
 }
 
-fn spot_there(there: bool, spot: Spot) -> Spot
-    ensures { λ r. ⌜ r ≡ spotOf (placeFrom there spot) ⌝ }
-{
-    if there {
-        return spot;
-    }
-    NOWHERE
-}
-
-// What is known of the sections behind, between two of them. Of `there` the three low bits are rows.
+// What is known of the sections behind, between two of them.
 fn behind(s: Stream) -> Stream
     ensures { λ r. ⌜ r ≡ behindOf s ⌝ }
 {
-    let name = s.name;
-    let hints = s.hints;
-    let older = s.older;
-    let mut next = blank(s.total, BETWEEN);
-    next.count = s.count;
-    next.rank = s.rank;
-    next.code = flag(s.code == 1);
-    next.there = s.there % 8;
-    let named = spot_there(s.there % 2 == 1, name);
-    next.name = named;
-    let hinted = spot_there(s.there / 2 % 2 == 1, hints);
-    next.hints = hinted;
-    let hinted_before = spot_there(s.there / 2 / 2 % 2 == 1, older);
-    next.older = hinted_before;
-    next
+    between(known_in(s, 0), s.total)
 }
 
 // A custom section that is read, behind which so much is known.

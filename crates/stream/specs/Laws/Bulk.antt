@@ -6,19 +6,17 @@ use mathlib.Core.Option.{Option}
 use mathlib.Core.Path.{_≡_, refl, sym, ap, ap₂, _∙_}
 use native.Mathlib.Omega.{arith}
 use lib.ListN.{length, take, drop}
+use lib.Seq.{slice, take-take}
 use Rattle.format.specs.Refusals.{numberOf}
 use Rattle.format.specs.Reading.{refused}
 use Rattle.format.specs.declared.Reason.the-variants.{NotText}
 use Rattle.stream.specs.Texts.{Text, textByte}
 use Rattle.stream.specs.Naming.{Names, meet}
 use Rattle.stream.specs.Contents.{Contents, paying, failing, named, name, content}
-use Rattle.stream.specs.Stream.{Done, Phase, settled, skip, custom, opening, byte, State, step, steps}
+use Rattle.stream.specs.Stream.{Done, Phase, settled, skip, custom, opening, byte, State, standing, step, steps}
 use Rattle.stream.specs.Laws.Texts.{isText, text-byte, text-ends}
 use Rattle.stream.specs.Laws.Naming.{meeting, meeting-byte, meeting-ends}
 use Rattle.stream.specs.Laws.Resumed.{steps-append}
-
-abbrev pub standing : ℕ → Phase → State
-standing o p = record { total = o; phase = p }
 
 one-fewer : (left n : ℕ) → left - n ≡ suc left - suc n
 one-fewer left n = omega arith
@@ -98,3 +96,9 @@ cut-at (suc i) (suc j) (b ∷ l) h = cut-at i j l (omega arith)
 
 pub steps-between : (s : State) (i j : ℕ) (part : List ℕ) → i ≤ j → steps s (drop i part) ≡ steps (steps s (drop i (take j part))) (drop j part)
 steps-between s i j part h = ap (steps s) (cut-at i j part h) ∙ steps-append s (drop i (take j part)) (drop j part)
+
+-- from one offset to another, by way of a third
+pub steps-slices : (s : State) (part : List ℕ) (a b c : ℕ) → a ≤ b → b ≤ c → steps s (slice a c part) ≡ steps (steps s (slice a b part)) (slice b c part)
+steps-slices s part a b c h k =
+    steps-between s a b (take c part) h
+    ∙ ap (λ l. steps (steps s (drop a l)) (slice b c part)) (take-take b c part k)

@@ -1,4 +1,4 @@
-use Rattle.stream.proofs.HoldLaws.{spots}
+use Rattle.stream.proofs.KnownLaws.{spots}
 use Rattle.stream.proofs.holding.blank.Statement.{statement}
 use Rattle.stream.proofs.holding.blank.Tie as tie
 

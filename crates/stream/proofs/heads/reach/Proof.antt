@@ -1,6 +1,6 @@
 use Rattle.stream.proofs.FeedLaws.{reaching}
-use Rattle.stream.proofs.feeding.reach.Statement.{statement}
-use Rattle.stream.proofs.feeding.reach.Tie as tie
+use Rattle.stream.proofs.heads.reach.Statement.{statement}
+use Rattle.stream.proofs.heads.reach.Tie as tie
 
 cast-result : tie.Need-cast-result
 cast-result c = search reaching

@@ -1,6 +1,6 @@
 use Rattle.stream.proofs.FeedLaws.{judging}
-use Rattle.stream.proofs.feeding.row_number.Statement.{statement}
-use Rattle.stream.proofs.feeding.row_number.Tie as tie
+use Rattle.stream.proofs.heads.row_number.Statement.{statement}
+use Rattle.stream.proofs.heads.row_number.Tie as tie
 
 enum-told : tie.Need-enum-told
 enum-told c = search judging
