@@ -16,10 +16,10 @@ use Rattle.format.specs.declared.Reason.the-variants.{AfterFinish, TotalTooLarg
 use Rattle.format.specs.declared.Verdict.the-variants.{Accepted}
 use Rattle.walk.specs.Sections.{bit}
 use Rattle.stream.specs.Contents.{Contents}
-use Rattle.stream.specs.Stream.{Done, Phase, skipping, inCustom, startEnd, end, finish}
+use Rattle.stream.specs.Stream.{Done, Phase, skipping, inCustom, startEnd, end, finish, steps}
 use Rattle.stream.specs.Calls.{most, isOpen, notTaken, taken, toldOf, endingOf, ended}
 use Rattle.stream.specs.Fields.{placeFrom, doneFrom, held, over, stateFrom}
-use Rattle.stream.specs.Phases.{blankAt, Fit, Feeding, Feeds}
+use Rattle.stream.specs.Phases.{blankAt, Fit, Feeding}
 use Rattle.stream.specs.declared.Ending.{Ending}
 use Rattle.stream.specs.declared.Spot.{Spot}
 use Rattle.stream.specs.declared.Stream.{Stream}
@@ -117,8 +117,8 @@ module _ (f : Stream) (part : List ℕ) {open′ : Bool} (e : open′ ≡ isOpen
       pub part-feeds : room ≡ true → Feeding f part
       part-feeds h = record { fit = open-fit f (sym e ∙ t); room = leb-true (f .total + length part) most (sym n ∙ h) }
 
-      pub takes : {x y : Stream} → room ≡ true → Feeds f part x → y ≡ held (stateFrom x) → record { stream = y; verdict = Accepted } ≡ taken f part
-      takes {x} {y} h u q = (λ i. record { stream = (q ∙ ap held (u .means)) i; verdict = Accepted }) ∙ sym (part-taken f part (sym e ∙ t) (leb-true (f .total + length part) most (sym n ∙ h)))
+      pub takes : {x : Stream} → room ≡ true → x ≡ held (steps (stateFrom f) part) → record { stream = x; verdict = Accepted } ≡ taken f part
+      takes h q = (λ i. record { stream = q i; verdict = Accepted }) ∙ sym (part-taken f part (sym e ∙ t) (leb-true (f .total + length part) most (sym n ∙ h)))
 
       pub takes-not : {x : Taken} → room ≡ false → x ≡ notTaken f TotalTooLarge → x ≡ taken f part
       takes-not h q = q ∙ sym (part-too-large f part (sym e ∙ t) (leb-false (f .total + length part) most (sym n ∙ h)))

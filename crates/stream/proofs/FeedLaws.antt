@@ -1,52 +1,35 @@
 -- A part, from its first byte to its last: one law for each way through the code.
 use Prim.Native.Nat.{ℕ, zero, suc, _+_, _-_, _≤_, _<_}
-use mathlib.Core.Bool.{Bool, true, cond}
+use mathlib.Core.Bool.{true}
 use mathlib.Core.List.{List, _∷_}
-use mathlib.Core.Option.{Option, none, some}
 use mathlib.Core.Path.{_≡_, refl, sym, ap, _∙_}
 use native.Mathlib.Omega.{arith}
 use borrow.Author.Needs.{needs}
-use borrow.Author.Tests.{le-leb, leb-true, lt-ltb, ltb-true, eqb-true, eqb-false}
-use lib.Dec.{ltb, leb, eqb}
+use borrow.Author.Tests.{le-leb, leb-true, eqb-true, eqb-false}
+use lib.Dec.{leb, eqb}
 use lib.ListN.{length, getD, drop, drop-of-length-le}
 use lib.Seq.{slice, slice-cons, slice-empty, length-slice}
-use denote.Enum.Declared.{tagOf}
-use Rattle.format.specs.Bytes.{same}
 use Rattle.format.specs.Reading.{accepted, refused}
-use Rattle.format.specs.Text.{utf8}
-use Rattle.format.specs.Walk.{tracked, rowFrom}
 use Rattle.format.specs.Laws.Outcomes.{onBoth, byTest}
-use Rattle.walk.specs.Sections.{rowCalled, InTable, Calls}
-use Rattle.walk.specs.declared.rules.Called.{Called}
-use Rattle.walk.specs.declared.rules.Called.the-variants.{Row, Other}
-use Rattle.walk.proofs.RowLaws.{row-below}
-use Rattle.walk.proofs.rules.Called as called-type
-use Rattle.stream.specs.Naming.{noneMet}
 use Rattle.stream.specs.Contents.{paying, failing, name, content}
 use Rattle.stream.specs.Stream.{settled, skipping, skip, custom, State, standing, steps}
 use Rattle.stream.specs.Calls.{most}
-use Rattle.stream.specs.Fields.{rowNumber, rowFrom as rowOf, doneFrom, textFrom, namesFrom, contentsFrom, stateFrom}
-use Rattle.stream.specs.Fits.{rowFits, contentsFit, fits}
-use Rattle.stream.specs.Phases.{Fit, Steps, Closing, Closes, NameEnds, Passing, Passes, Reaches, Ready, Moves, Feeding, Feeds, wholeHere, WholeName, NameJudged, InPreamble}
-use Rattle.stream.specs.Laws.Bulk.{judgedName, name-many, skip-many, contents-many, paying-stays, failing-stays, refused-many, steps-between}
-use Rattle.stream.specs.Laws.Texts.{isText, restIsText}
-use Rattle.stream.specs.Laws.Naming.{rowNamed, meeting, meeting-first}
-use Rattle.stream.specs.Laws.Fields.{row-back}
-use Rattle.stream.specs.Laws.Fits.{both, steps-fit, steps-total}
+use Rattle.stream.specs.Fields.{rowFrom as rowOf, doneFrom, textFrom, namesFrom, contentsFrom, held, stateFrom}
+use Rattle.stream.specs.Fits.{rowFits, textFits, contentsFit, fits}
+use Rattle.stream.specs.Phases.{textOf, metOf, Fit, Steps, Closing, Closes, SpelledBy, Spelling, Spells, Passing, Passes, Reaches, Ready, Moves, Feeding, FeedingFrom, InPreamble}
+use Rattle.stream.specs.Known.{knownIn, skippingAt, stands, Begins, Sectioned, Led, Leads}
+use Rattle.stream.specs.Laws.Bulk.{skip-many, contents-many, paying-stays, failing-stays, refused-many, name-some, steps-between}
+use Rattle.stream.specs.Laws.Fields.{held-back}
+use Rattle.stream.specs.Laws.Fits.{both, texts-fit, steps-fit, steps-total}
 use Rattle.stream.specs.declared.Stream.{Stream}
-use Rattle.stream.specs.declared.feeding.JudgedName.{JudgedName}
+use Rattle.stream.specs.declared.contents.Spelled.{Spelled}
 use Rattle.stream.specs.declared.heads.Moved.{Moved}
-use Rattle.stream.proofs.States.{at, at-same, as-between, as-refused, as-skipping, as-custom, as-naming, as-paying, as-failing, skipping-left, custom-count, custom-left, custom-contents}
+use Rattle.stream.specs.declared.known.Known.{Known}
+use Rattle.stream.specs.declared.leading.Lead.{Lead}
+use Rattle.stream.specs.declared.leading.Lead.the-variants as lead
+use Rattle.stream.proofs.States.{at, at-same, as-between, as-refused, as-skipping, as-custom, as-naming, as-paying, as-failing, between-count, skipping-left, custom-count, custom-left, custom-contents}
 use Rattle.stream.proofs.SectionLaws.{limit64, skip-on, custom-on, blank-opens, opens-late}
-use Rattle.stream.proofs.NameLaws.{name-on}
-
-pub reaches-here : {here left : ℕ} → here < left → Reaches here left here
-reaches-here h = record { inside = omega arith; lent = omega arith; moves = λ a b. a }
-
-pub reaches-left : {here left : ℕ} → left ≤ here → Reaches here left left
-reaches-left h = record { inside = omega arith; lent = h; moves = λ a b. b }
-
-pub ruleset reaching = (reaches-here, reaches-left, needs)
+use Rattle.stream.proofs.NameLaws.{name-on, name-text, name-rest}
 
 -- CONTENTS THAT NOBODY READS
 
@@ -136,105 +119,6 @@ pub ruleset ones = (only-starting, in-preamble, needs)
 
 pub ruleset preambles = (blank-opens, opens-late, needs)
 
--- A NAME THAT THE PART HAS WHOLE
-
-pub row-none : (x : Called) → tagOf called-type.the-type x ≡ 1 → 0 ≡ rowNumber (rowCalled x)
-row-none (Row row) e = absurd (omega arith)
-row-none Other e = refl
-
-pub row-some : {x : Called} {row : ℕ} → x ≡ Row row → row + 1 ≡ rowNumber (rowCalled x)
-row-some {row = row} e = let one : row + 1 ≡ suc row = omega arith in rw (e, one)
-
-pub row-adds : {x : Called} {row : ℕ} → InTable x → x ≡ Row row → row + 1 < 256
-row-adds {row = row} h e = let t : row < length tracked = rw e at h in omega arith
-
-pub found-known : (bs : List ℕ) {x : Called} → Calls bs x → InTable x
-found-known bs {x} q = known x (q .row-is)
-  where
-    known : (x : Called) → rowFrom 0 tracked (λ x. same x bs) ≡ rowCalled x → InTable x
-    known (Row row) e = row-below 0 tracked (λ x. same x bs) e
-    known Other e = tt
-
-pub judged-whole : {bs : List ℕ} {valid : Bool} {row : ℕ} {x : Called} → valid ≡ utf8 bs → Calls bs x → row ≡ rowNumber (rowCalled x) → NameJudged bs (record { valid = valid; row = row })
-judged-whole v q e = record { valid = v; row = e ∙ ap rowNumber (sym (q .row-is)) }
-
-pub ruleset judging = (row-none, row-some, row-adds, found-known, judged-whole, needs)
-
-module _ {f : Stream} {part : List ℕ} {i : ℕ} (k : WholeName f part i) where
-  -- the six tests
-  tests {ℓ} : {C : Type ℓ} → (f .wanted ≡ 0 → namesFrom f ≡ noneMet → f .rest ≤ f .left → f .rest ≤ length part - i → C) → C
-  tests g =
-      onBoth (eqb (f .wanted) 0) _ (k .whole) λ a e₁. onBoth (eqb (f .met .name) 0) _ e₁ λ b e₂. onBoth (eqb (f .met .hints) 0) _ e₂ λ c e₃. onBoth (eqb (f .met .older) 0) _ e₃ λ d e₄. onBoth (leb (f .rest) (f .left)) _ e₄ λ l h.
-      g (eqb-true (f .wanted) 0 a) (λ j. record { name = eqb-true (f .met .name) 0 b j; hints = eqb-true (f .met .hints) 0 c j; older = eqb-true (f .met .older) 0 d j }) (leb-true (f .rest) (f .left) l) (leb-true (f .rest) (length part - i) h)
-
-  pub whole-end : i + f .rest ≤ length part
-  whole-end = let h = k .ready .here in tests λ _ _ _ l. omega arith
-
-  pub whole-left : f .rest ≤ f .left
-  whole-left = tests λ _ _ l _. l
-
-  pub whole-total : f .total + f .rest ≤ most
-  whole-total = let h = k .ready .room in tests λ _ _ _ l. omega arith
-
-  pub whole-adds : f .total + f .rest < limit64
-  whole-adds = let h = whole-total in omega arith
-
-  inside-it : 4 < f .phase
-  inside-it = let p = k .phase in omega arith
-
-  abbrev bytes : List ℕ
-  bytes = slice i (i + f .rest) part
-
-  bytes-long : length bytes ≡ f .rest
-  bytes-long = let l = length-slice i (i + f .rest) part whole-end in omega arith
-
-  some-rest : 0 < f .rest
-  some-rest = onBoth (ltb 0 (f .rest)) _ (sym (ap (λ c. contentsFit c (f .total)) (as-naming f (k .phase))) ∙ custom-contents (k .ready .fit) inside-it) λ l _. ltb-true 0 (f .rest) l
-
-  -- text and row as the walk has them
-  as-text : isText (textFrom f) bytes ≡ utf8 bytes
-  unfolding isText restIsText
-  as-text = tests λ z _ _ _. rw z
-
-  as-row : meeting (namesFrom f) bytes ≡ rowNamed bytes
-  as-row = tests λ _ m _ _. ap (λ n. meeting n bytes) m ∙ sym (meeting-first bytes)
-
-  whole-steps : steps (stateFrom f) bytes ≡ standing (f .total + f .rest) (custom (doneFrom f) (f .at) (f .left - f .rest) (cond (utf8 bytes) (paying (rowNamed bytes) (f .total + f .rest)) (failing 4 (f .text))) (f .total + f .rest))
-  whole-steps =
-      let r = some-rest in let l = whole-left in
-      let first : contentsFrom f ≡ name (f .begins) (f .text) (length bytes) (textFrom f) (namesFrom f) (f .total) = as-naming f (k .phase) ∙ name-on f (f .begins) (f .text) (f .rest) (textFrom f) (namesFrom f) (f .total) (λ z. omega arith) ∙ ap (λ n. name (f .begins) (f .text) n (textFrom f) (namesFrom f) (f .total)) (sym bytes-long) in
-      ap (λ (s : State). steps s bytes) (as-custom f inside-it ∙ at-same refl (sym (custom-on (doneFrom f) (f .at) (f .left) (contentsFrom f) (f .total) (λ z. omega arith)) ∙ ap (λ c. custom (doneFrom f) (f .at) (f .left) c (f .total)) first))
-      ∙ name-many (f .begins) (f .text) (doneFrom f) (f .at) (f .left) (f .total) (textFrom f) (namesFrom f) bytes (let n = bytes-long in omega arith)
-      ∙ ap (λ n. standing (f .total + n) (custom (doneFrom f) (f .at) (f .left - n) (judgedName (f .text) (textFrom f) (namesFrom f) bytes (f .total + n)) (f .total + n))) bytes-long
-      ∙ (λ j. standing (f .total + f .rest) (custom (doneFrom f) (f .at) (f .left - f .rest) (cond (as-text j) (paying (as-row j) (f .total + f .rest)) (failing 4 (f .text))) (f .total + f .rest)))
-
-  module _ (g : Stream) {h : Stream} {y : JudgedName} (q : NameJudged bytes y) (c : NameEnds g (y .valid) (y .row) h) (w : (g .total ≡ f .total + f .rest) × (g .left ≡ f .left - f .rest) × (g .text ≡ f .text) × (doneFrom g ≡ doneFrom f) × (g .at ≡ f .at)) where
-    contents-so : contentsFrom h ≡ cond (utf8 bytes) (paying (rowNamed bytes) (f .total + f .rest)) (failing 4 (f .text))
-    contents-so = c .contains .contents ∙ (λ j. cond (q .valid j) (paying ((ap rowOf (q .row) ∙ row-back (rowNamed bytes)) j) (w .0 j)) (failing 4 (w .2 j)))
-
-    row-fits : (x : Option ℕ) → rowNamed bytes ≡ x → rowFits x ≡ true
-    row-fits none e = refl
-    row-fits (some row) e = lt-ltb row (length tracked) (row-below 0 tracked (λ x. same x bytes) e)
-
-    fit-so : contentsFit (cond (utf8 bytes) (paying (rowNamed bytes) (f .total + f .rest)) (failing 4 (f .text))) (f .total + f .rest) ≡ true
-    fit-so = byTest (utf8 bytes) (λ t. rw t (both (le-leb (f .total + f .rest) (f .total + f .rest) (omega arith)) (row-fits (rowNamed bytes) refl))) (λ t. rw t)
-
-    pub whole-closing : Closing h
-    whole-closing =
-        let d = c .contains in
-        let e : h .count ≡ f .count = ap (λ x. x .told .count) (d .done ∙ w .3) in
-        let n = custom-count (k .ready .fit) inside-it in
-        let t = d .total in let u = w .0 in let r = some-rest in
-        record { inside = d .inside; behind = omega arith; fits = (λ j. contentsFit (contents-so j) ((d .total ∙ w .0) j)) ∙ fit-so }
-
-    pub whole-means : {r : Stream} → Closes h r → Moves f part i (record { stream = r; at = i + f .rest })
-    whole-means u =
-        let d = c .contains in
-        let n = some-rest in
-        record { moves = omega arith; within = whole-end; means = u .means ∙ at-same (d .total ∙ w .0) (λ j. custom ((d .done ∙ w .3) j) ((d .at ∙ w .4) j) ((d .left ∙ w .1) j) (contents-so j) ((d .total ∙ w .0) j)) ∙ sym whole-steps }
-
-pub ruleset wholes = (whole-end, whole-left, whole-adds, whole-closing, whole-means, needs)
-
 -- AS FAR AS ONE STEP GOES
 
 module _ {f : Stream} {part : List ℕ} {i : ℕ} (k : Ready f part i) where
@@ -294,33 +178,95 @@ module _ {f : Stream} {part : List ℕ} {i : ℕ} (k : Ready f part i) where
             ∙ sym (ap (λ (s : State). steps s (slice i (length part) part)) (as-refused f p) ∙ refused-many (f .refusal) (f .text) (f .total) (slice i (length part) part) ∙ ap (λ n. standing (f .total + n) (settled (refused (f .refusal) (f .text)))) long);
       }
 
-  module _ {whole : Bool} (p : f .phase ≡ 6) (e : whole ≡ wholeHere f (length part - i)) (t : whole ≡ true) where
-    pub name-whole : WholeName f part i
-    name-whole = record { ready = k; phase = p; whole = sym e ∙ t }
+  module _ (p : f .phase ≡ 6) {inside n : ℕ} (r : Reaches (length part - i) (f .left) inside) (s : Reaches inside (f .rest) n) where
+    in-name : 4 < f .phase
+    in-name = omega arith
 
-pub ruleset moving = (here-adds, one-room, moves-one, reach-end, reach-room, skip-some, moves-skipped, pass-ready, moves-passed, moves-refused, name-whole, one-end, needs)
+    pub name-some-here : 0 < n
+    name-some-here = s .moves (r .moves (let h = k .here in omega arith) (custom-left (k .fit) in-name)) (name-rest (k .fit, p))
+
+    pub name-end : i + n ≤ length part
+    name-end = let l = r .lent in let m = s .lent in let h = k .here in omega arith
+
+    abbrev bytes : List ℕ
+    bytes = slice i (i + n) part
+
+    bytes-long : length bytes ≡ n
+    bytes-long = let l = length-slice i (i + n) part name-end in omega arith
+
+    module _ {x : Spelled} (b : SpelledBy f bytes x) where
+      pub name-spelling : Spelling f n x
+      name-spelling =
+          let l = r .lent in let m = s .lent in let v = r .inside in let w = k .room in
+          record {
+            phase = p;
+            some = name-some-here;
+            room = omega arith;
+            left = omega arith;
+            rest = s .inside;
+            count = custom-count (k .fit) in-name;
+            fits = ap textFits (b .text) ∙ texts-fit (textFrom f) bytes (name-text (k .fit, p));
+          }
+
+      spelt-steps : steps (stateFrom f) bytes ≡ standing (f .total + n) (custom (doneFrom f) (f .at) (f .left - n) (name (f .begins) (f .text) (f .rest - n) (textOf (x .text)) (metOf (x .met)) (f .total + n)) (f .total + n))
+      spelt-steps =
+          let g = name-spelling in let l = g .left in let q = g .rest in let e = bytes-long in let t = name-some-here in
+          ap (λ (s : State). steps s bytes) (as-custom f in-name ∙ at-same refl (sym (custom-on (doneFrom f) (f .at) (f .left) (contentsFrom f) (f .total) (λ z. omega arith)) ∙ ap (λ c. custom (doneFrom f) (f .at) (f .left) c (f .total)) (as-naming f p ∙ name-on f (f .begins) (f .text) (f .rest) (textFrom f) (namesFrom f) (f .total) (λ z. omega arith))))
+          ∙ name-some (f .begins) (f .text) (f .rest) (doneFrom f) (f .at) (f .left) (f .total) (textFrom f) (namesFrom f) bytes (omega arith) (omega arith)
+          ∙ (λ j. standing (f .total + e j) (custom (doneFrom f) (f .at) (f .left - e j) (name (f .begins) (f .text) (f .rest - e j) (sym (b .text) j) (sym (b .met) j) (f .total + e j)) (f .total + e j)))
+
+      pub moves-named : {r : Stream} → Spells f n x r → Moves f part i (record { stream = r; at = i + n })
+      moves-named u = let t = name-some-here in record { moves = omega arith; within = name-end; means = u .means ∙ sym spelt-steps }
+
+pub ruleset moving = (here-adds, one-room, moves-one, reach-end, reach-room, skip-some, moves-skipped, pass-ready, moves-passed, moves-refused, name-some-here, name-end, name-spelling, moves-named, one-end, needs)
+
+-- OVER ALL SECTIONS WHOSE HEADS ARE WHOLE
+
+-- what is held of a state is that state
+held-means : {x : Stream} {s : State} → x ≡ held s → stateFrom x ≡ s
+held-means {s = s} e = ap stateFrom e ∙ held-back s
+
+module _ {f : Stream} {part : List ℕ} {i : ℕ} (base : ℕ) (k : Ready f part i × (f .total ≡ base + i)) (p : f .phase ≡ 1) {g : Known} (e : g ≡ knownIn f i) where
+  pub between-begins : Begins base part g
+  between-begins =
+      let h = k .0 .here in let r = k .0 .room in let t = k .1 in
+      let c = between-count (k .0 .fit) p in
+      rw e (record { within = omega arith; counted = omega arith; room = omega arith })
+
+  stands-so : stands base g ≡ stateFrom f
+  stands-so = ap (stands base) e ∙ at-same (sym (k .1)) refl ∙ sym (as-between f p)
+
+  pub between-moves : {r : Moved} → Sectioned base part g r → i < r .at → Moves f part i r
+  between-moves {r} s h =
+      let a : g .at ≡ i = ap (λ g. g .at) e in
+      record { moves = h; within = s .within; means = held-means (s .means) ∙ (λ j. steps (stands-so j) (slice (a j) (r .at) part)) }
+
+pub ruleset betweens = (between-begins, between-moves, needs)
 
 -- FROM STEP TO STEP
 
-pub record Turn (f : Stream) (part : List ℕ) (now : Stream) (i : ℕ) : Type 0 where
+pub record Turn (f : Stream) (part : List ℕ) (from base : ℕ) (now : Stream) (i : ℕ) : Type 0 where
   pub within : i ≤ length part
   pub fit : Fit now
-  pub total : now .total ≡ f .total + i
-  pub same : steps (stateFrom f) part ≡ steps (stateFrom now) (drop i part)
+  pub total : now .total ≡ base + i
+  pub same : steps (stateFrom f) (drop from part) ≡ steps (stateFrom now) (drop i part)
 
-pub turn-first : {f : Stream} {part : List ℕ} → Feeding f part → Turn f part f 0
-turn-first k = record { within = omega arith; fit = k .fit; total = omega arith; same = refl }
+pub turn-first : {f : Stream} {part : List ℕ} {from base : ℕ} → FeedingFrom f part from base → Turn f part from base f from
+turn-first k = record { within = k .within; fit = k .fit; total = k .total; same = refl }
 
 total-from : (f : Stream) → stateFrom f .total ≡ f .total
 unfolding stateFrom
 total-from f = refl
 
-module _ {f : Stream} {part : List ℕ} {now : Stream} {i : ℕ} (t : Turn f part now i) where
-  pub turn-ready : Feeding f part → i < length part → Ready now part i
+module _ {f : Stream} {part : List ℕ} {from base : ℕ} {now : Stream} {i : ℕ} (t : Turn f part from base now i) where
+  pub turn-ready : FeedingFrom f part from base → i < length part → Ready now part i
   turn-ready k h = let r = k .room in let e = t .total in let w = t .within in record { fit = t .fit; here = h; room = omega arith }
 
+  pub turn-total : now .total ≡ base + i
+  turn-total = t .total
+
   module _ {r : Moved} (m : Moves now part i r) where
-    pub turn-on : Turn f part (r .stream) (r .at)
+    pub turn-on : Turn f part from base (r .stream) (r .at)
     turn-on =
         let h = m .moves in let w = m .within in
         let long = length-slice i (r .at) part (m .within) in
@@ -336,8 +282,76 @@ module _ {f : Stream} {part : List ℕ} {now : Stream} {i : ℕ} (t : Turn f par
     pub turn-less : length part - r .at < length part - i
     turn-less = let h = m .moves in let w = m .within in omega arith
 
-  pub turn-end : length part ≤ i → Feeds f part now
+  pub turn-end : {r : Stream} → length part ≤ i → r ≡ held (stateFrom now) → r ≡ held (steps (stateFrom f) (drop from part))
   unfolding steps
-  turn-end h = record { means = sym (t .same ∙ ap (steps (stateFrom now)) (drop-of-length-le part h)) }
+  turn-end h e = e ∙ ap held (sym (t .same ∙ ap (steps (stateFrom now)) (drop-of-length-le part h)))
 
-pub ruleset turns = (turn-first, turn-ready, turn-on, turn-less, turn-end, needs)
+pub ruleset turns = (turn-first, turn-ready, turn-total, turn-on, turn-less, turn-end, needs)
+
+-- ALL OF A PART
+
+module _ {base : ℕ} {part : List ℕ} {k : Known} (b : Begins base part k) {r : Moved} (s : Sectioned base part k r) where
+  behind : steps (stands base k) (drop (k .at) part) ≡ steps (stateFrom (r .stream)) (drop (r .at) part)
+  behind = steps-between (stands base k) (k .at) (r .at) part (s .onward) ∙ ap (λ x. steps x (drop (r .at) part)) (sym (held-means (s .means)))
+
+  stands-fit : fits (stands base k) ≡ true
+  unfolding fits
+  stands-fit = le-leb (k .count) (base + k .at) (b .counted)
+
+  pub feeding-on : FeedingFrom (r .stream) part (r .at) base
+  feeding-on =
+      let o = s .onward in let w = s .within in
+      let long = length-slice (k .at) (r .at) part (s .within) in
+      let t = steps-total (stands base k) (slice (k .at) (r .at) part) in
+      let e : r .stream .total ≡ steps (stands base k) (slice (k .at) (r .at) part) .total = sym (total-from (r .stream)) ∙ ap (λ x. x .total) (held-means (s .means)) in
+      record {
+        fit = record { fits = ap fits (held-means (s .means)) ∙ steps-fit (stands base k) (slice (k .at) (r .at) part) stands-fit };
+        within = s .within;
+        total = omega arith;
+        room = b .room;
+      }
+
+  pub fed-on : {x : Stream} → x ≡ held (steps (stateFrom (r .stream)) (drop (r .at) part)) → x ≡ held (steps (stands base k) (drop (k .at) part))
+  fed-on e = e ∙ ap held (sym behind)
+
+  pub fed-all : length part ≤ r .at → r .stream ≡ held (steps (stands base k) (drop (k .at) part))
+  unfolding steps
+  fed-all h = s .means ∙ ap held (sym (behind ∙ ap (steps (stateFrom (r .stream))) (drop-of-length-le part h) ∙ held-means (s .means)))
+
+pub ruleset sections-fed = (feeding-on, fed-on, fed-all, needs)
+
+module _ {f : Stream} {part : List ℕ} (k : Feeding f part) where
+  -- within contents that nobody reads
+  module _ {n : ℕ} (r : Reaches (length part) (f .left) n) where
+    pub part-adds : f .total + n < limit64
+    part-adds = let m = k .room in let l = r .lent in omega arith
+
+    pub skips-part : {g : Known} {x : Stream} → f .phase ≡ 4 → n < f .left → g ≡ knownIn f 0 → x ≡ skippingAt (f .total + n) g (f .at) (f .left - n) → x ≡ held (steps (stateFrom f) part)
+    unfolding held
+    skips-part {g} p h e q =
+        let all : n ≡ length part = r .least h in
+        q ∙ ap (λ g. skippingAt (f .total + n) g (f .at) (f .left - n)) e
+        ∙ ap (λ n. skippingAt (f .total + n) (knownIn f 0) (f .at) (f .left - n)) all
+        ∙ sym (ap held (ap (λ (s : State). steps s part) (as-skipping f p ∙ at-same refl (sym (skip-on (doneFrom f) (f .at) (f .left) (λ z. omega arith))))
+        ∙ skip-many (doneFrom f) (f .at) (f .left) (f .total) part (omega arith)
+        ∙ at-same refl (skip-on (doneFrom f) (f .at) (f .left - length part) (λ z. omega arith))))
+
+  pub feeding-first : FeedingFrom f part 0 (f .total)
+  feeding-first = record { fit = k .fit; within = omega arith; total = omega arith; room = k .room }
+
+  module _ {x : Lead} (l : Leads f part x) {g : Known} (e : x ≡ lead.Behind g) where
+    led : Led f part g
+    led = rw e at (l .says)
+
+    pub led-begins : Begins (f .total) part g
+    unfolding fits
+    led-begins = record {
+      within = led .within;
+      counted = leb-true (g .count) (f .total + g .at) (ap fits (led .means) ∙ steps-fit (stateFrom f) (slice 0 (g .at) part) (k .fit .fits));
+      room = k .room;
+    }
+
+    pub led-fed : {r : Stream} → r ≡ held (steps (stands (f .total) g) (drop (g .at) part)) → r ≡ held (steps (stateFrom f) part)
+    led-fed q = q ∙ ap held (ap (λ s. steps s (drop (g .at) part)) (led .means) ∙ sym (steps-between (stateFrom f) 0 (g .at) part (omega arith)))
+
+pub ruleset feeding = (skips-part, part-adds, feeding-first, led-begins, led-fed, needs)

@@ -1,29 +1,27 @@
 -- Sections whose heads a part has whole: one law for each way through the code.
 use Prim.Native.Nat.{ℕ, zero, suc, _+_, _-_, _≤_, _<_}
-use mathlib.Core.Bool.{Bool, true, false, cond}
+use mathlib.Core.Bool.{Bool}
 use mathlib.Core.List.{List, [], _∷_}
-use mathlib.Core.Option.{Option, none, some}
-use mathlib.Core.Path.{_≡_, refl, sym, ap, ap₂, _∙_}
+use mathlib.Core.Option.{none}
+use mathlib.Core.Path.{_≡_, refl, sym, ap, _∙_}
 use native.Mathlib.Nat.{zero-add, suc-add}
 use native.Mathlib.Omega.{arith}
 use borrow.Author.Needs.{needs}
 use borrow.Author.Tests.{leb-true, le-leb}
 use denote.Enum.Declared.{tagOf}
-use lib.Dec.{leb}
 use lib.ListN.{length, take, drop, getD}
 use lib.Seq.{slice, slice-cons, slice-empty, length-slice, take-take, take-nil}
 use Rattle.format.specs.Bytes.{same}
 use Rattle.format.specs.Reading.{got, accepted}
 use Rattle.format.specs.Parts.{name}
 use Rattle.format.specs.Walk.{tracked, rowFrom, idRules}
-use Rattle.format.specs.declared.Reason.{Reason}
 use Rattle.reading.specs.Cursors.{Inside, left, NumberReads, PartReads}
 use Rattle.reading.specs.declared.Cursor.{Cursor}
 use Rattle.reading.specs.declared.NumberRead.{NumberRead}
 use Rattle.reading.specs.declared.NumberRead.the-variants.{Value}
 use Rattle.reading.specs.declared.PartRead.{PartRead}
 use Rattle.reading.specs.declared.PartRead.the-variants.{Part}
-use Rattle.reading.proofs.Laws.{number-means, number-inside, number-moves, number-end, name-means, name-behind}
+use Rattle.reading.proofs.Laws.{number-means, number-inside, number-moves, name-means, name-behind}
 use Rattle.walk.specs.Sections.{bit, seenOf, ruling, IdRuled, rowCalled, InTable, Calls}
 use Rattle.walk.specs.declared.rules.Called.{Called}
 use Rattle.walk.specs.declared.rules.Called.the-variants.{Row, Other}
@@ -32,18 +30,16 @@ use Rattle.walk.proofs.RowLaws.{row-below}
 use Rattle.walk.proofs.rules.Called as called-type
 use Rattle.walk.proofs.rules.Ruling as ruling-type
 use Rattle.stream.specs.Contents.{paying, contentEnds}
-use Rattle.stream.specs.Stream.{Done, seenIn, plainDone, customDone, Phase, settled, skipping, skip, custom, enter, State, standing, steps}
+use Rattle.stream.specs.Stream.{seenIn, plainDone, customDone, Phase, settled, skipping, skip, custom, enter, State, standing, steps}
 use Rattle.stream.specs.Calls.{most}
 use Rattle.stream.specs.Fields.{rowNumber, inPhase, held, rowFrom as rowOf}
 use Rattle.stream.specs.Fits.{fits}
 use Rattle.stream.specs.Phases.{Reaches}
-use Rattle.stream.specs.Known.{doneOf, betweenAt, skippingAt, payingAt, Behind, judgedAfter, AfterCustom, stands, Within, Sized, NameRead, customHead, CustomHead, HeadRead, PlainRead, CustomRead, headOf, Heads, Here, Read, onwardOf, Onward, Begins, Sectioned}
+use Rattle.stream.specs.Known.{doneOf, betweenAt, skippingAt, payingAt, Behind, judgedAfter, AfterCustom, stands, Within, Sized, NameRead, customHead, CustomHead, HeadRead, PlainRead, CustomRead, headOf, Heads, Here, Read, Onward, Begins, Sectioned}
 use Rattle.stream.specs.Laws.Bulk.{skip-many, contents-many, paying-stays, steps-slices}
 use Rattle.stream.specs.Laws.Fields.{row-back}
 use Rattle.stream.specs.Laws.Fits.{steps-fit}
 use Rattle.stream.specs.Laws.Heads.{size-many, name-read-many, id-then}
-use Rattle.stream.specs.Laws.Naming.{rowNamed}
-use Rattle.stream.specs.declared.Spot.{Spot}
 use Rattle.stream.specs.declared.Stream.{Stream}
 use Rattle.stream.specs.declared.heads.Head.{Head}
 use Rattle.stream.specs.declared.heads.Head.the-variants as head
@@ -56,10 +52,10 @@ use Rattle.stream.specs.declared.known.Known.{Known}
 use Rattle.stream.proofs.SectionLaws.{limit64, some-so, as-fine, enter-plain, skip-on, custom-on}
 
 pub reaches-here : {here left : ℕ} → here < left → Reaches here left here
-reaches-here h = record { inside = omega arith; lent = omega arith; moves = λ a b. a }
+reaches-here h = record { inside = omega arith; lent = omega arith; least = λ _. refl; moves = λ a b. a }
 
 pub reaches-left : {here left : ℕ} → left ≤ here → Reaches here left left
-reaches-left h = record { inside = omega arith; lent = h; moves = λ a b. b }
+reaches-left h = record { inside = omega arith; lent = h; least = λ l. absurd (omega arith); moves = λ a b. b }
 
 pub ruleset reaching = (reaches-here, reaches-left, needs)
 
@@ -81,7 +77,7 @@ pub ruleset row-numbers = (row-none, row-some, row-adds, needs)
 
 take-drop : (i n : ℕ) (x : List ℕ) → take n (drop i x) ≡ drop i (take (i + n) x)
 take-drop zero n x = rw zero-add
-take-drop (suc i) n [] = rw take-nil (rw (take-nil (suc i + n)))
+take-drop (suc i) n [] = rw (take-nil n, take-nil (suc i + n))
 take-drop (suc i) n (b ∷ x) = rw suc-add (take-drop i n x)
 
 -- the front of a slice is the slice up to there
@@ -125,15 +121,17 @@ module _ {part : List ℕ} {from size here : ℕ} (k : Sized part from size here
     payload-small s = let i = payload-inside in omega arith
 
     pub name-read : {called : Called} {row : ℕ} → Calls (left part text) called → row ≡ rowNumber (rowCalled called) → CustomHead part from size (head.Custom row (payload .at) (size - (payload .at - from)))
-    name-read {called} {row} c r = record { says = record {
-      moves = payload-ahead;
-      within = let w = payload-within in let i = k .within in omega arith;
-      row-known = let m = row-most called (found-known (left part text) c) in omega arith;
-      reads = λ d at o.
-          ap (steps (standing o (custom d at size _ o))) (slice-front part from (from + here) (payload .at) payload-ahead payload-within)
-          ∙ name-read-many d at o (left part contents) from (name-means p e) size o payload-inside
-          ∙ ap (λ x. standing (o + (payload .at - from)) (custom d at (size - (payload .at - from)) (paying x (o + (payload .at - from))) (o + (payload .at - from)))) (c .row-is ∙ sym (ap rowOf r ∙ row-back (rowCalled called)));
-    } }
+    name-read {called} {row} c r = record {
+      says = record {
+        moves = payload-ahead;
+        within = let w = payload-within in let i = k .within in omega arith;
+        row-known = let m = row-most called (found-known (left part text) c) in omega arith;
+        reads = λ d at o.
+            ap (steps (standing o (custom d at size _ o))) (slice-front part from (from + here) (payload .at) payload-ahead payload-within)
+            ∙ name-read-many d at o (left part contents) from (name-means p e) size o payload-inside
+            ∙ ap (λ x. standing (o + (payload .at - from)) (custom d at (size - (payload .at - from)) (paying x (o + (payload .at - from))) (o + (payload .at - from)))) (c .row-is ∙ sym (ap rowOf r ∙ row-back (rowCalled called)));
+      };
+    }
 
 pub ruleset name-heads = (contents-inside, text-inside, payload-ahead, payload-inside, payload-small, name-read, found-known, needs)
 
@@ -177,11 +175,15 @@ module _ {part : List ℕ} {k : Known} (h : Within part k) where
           ∙ ap (λ o. standing o (enter (doneOf k) (getD part (k .at) 0) at size o)) far
 
       pub plain-head : (getD part (k .at) 0 ≡ 0 → ⊥) → Heads part k (head.Plain (getD part (k .at) 0) (next .at) size)
-      plain-head z = let m = size-ahead in record { says = record { head = record {
-        moves = omega arith;
-        within = size-within;
-        reads = λ at. head-steps at ∙ ap (standing (at + (next .at - k .at))) (enter-plain (doneOf k) (getD part (k .at) 0) at size (at + (next .at - k .at)) z);
-      } } }
+      plain-head z = let m = size-ahead in record {
+        says = record {
+          head = record {
+            moves = omega arith;
+            within = size-within;
+            reads = λ at. head-steps at ∙ ap (standing (at + (next .at - k .at))) (enter-plain (doneOf k) (getD part (k .at) 0) at size (at + (next .at - k .at)) z);
+          };
+        };
+      }
 
       custom-read : {row to more : ℕ} → getD part (k .at) 0 ≡ 0 → NameRead part (next .at) size row to more → CustomRead part k row to more
       unfolding enter
@@ -336,6 +338,7 @@ module _ {base : ℕ} {part : List ℕ} {k : Known} (h : Here base part k) where
         }
 
 pub ruleset plain-sections = (count-room, end-room, at-room, plain-within, plain-cut, plain-whole, needs)
+
 pub ruleset custom-sections = (count-room, end-room, at-room, custom-within, custom-room, custom-row, custom-cut, custom-whole, needs)
 
 pub here-within : {base : ℕ} {part : List ℕ} {k : Known} → Here base part k → Within part k

@@ -1,20 +1,16 @@
 -- The state as a caller holds it: one law for each way through the code.
-use Prim.Native.Nat.{ℕ, zero, suc, _+_, _*_, _/_, _%_, _<_}
-use mathlib.Core.Bool.{Bool, true, false}
+use Prim.Native.Nat.{ℕ, zero, suc, _<_}
 use mathlib.Core.Path.{_≡_, refl, sym, ap, _∙_}
 use native.Mathlib.Omega.{arith}
 use borrow.Author.Needs.{needs}
 use borrow.Author.Tests.{eqb-true, eqb-false, leb-true, leb-false}
 use lib.Dec.{leb, eqb}
 use Rattle.format.specs.Laws.Outcomes.{byTest}
-use Rattle.walk.specs.Sections.{bit}
 use Rattle.stream.specs.Contents.{Contents}
 use Rattle.stream.specs.Stream.{Phase, inCustom}
-use Rattle.stream.specs.Fields.{flag, spotOf, rowsThere, rowNumber, inPhase, held, placeFrom, rowFrom, doneFrom, contentsFrom, stateFrom}
+use Rattle.stream.specs.Fields.{rowNumber, inPhase, held, rowFrom, doneFrom, contentsFrom, stateFrom}
 use Rattle.stream.specs.Phases.{blankAt, behindOf}
 use Rattle.stream.specs.Known.{knownIn, betweenAt}
-use Rattle.stream.specs.declared.Met.{Met}
-use Rattle.stream.specs.declared.Spot.{Spot}
 use Rattle.stream.specs.declared.Stream.{Stream}
 use Rattle.stream.specs.declared.known.Known.{Known}
 use Rattle.stream.proofs.States.{at, at-same, as-starting, as-between, as-refused, as-measuring, as-skipping, as-custom, as-sizing, as-naming, as-paying, as-failing}

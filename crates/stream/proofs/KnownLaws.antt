@@ -1,8 +1,8 @@
 -- What is known of the sections behind: one law for each way through the code.
 use Prim.Native.Nat.{ℕ, zero, suc, _+_, _*_, _/_, _%_, _-_, _≤_, _<_}
 use mathlib.Core.Bool.{Bool, true, false, cond, _||_}
+use mathlib.Core.Option.{none, some}
 use mathlib.Core.List.{[]}
-use mathlib.Core.Option.{Option, none, some}
 use mathlib.Core.Path.{_≡_, refl, sym, ap, _∙_}
 use native.Mathlib.Omega.{arith}
 use borrow.Author.Needs.{needs}
@@ -10,10 +10,9 @@ use borrow.Author.Tests.{eq-eqb, ne-eqb, eqb-true, eqb-false}
 use denote.Enum.Declared.{tagOf}
 use lib.Dec.{eqb}
 use Rattle.format.specs.Options.{orElse}
-use Rattle.format.specs.Reading.{got, accepted, refused}
-use Rattle.format.specs.Walk.{isCustom, isCode, rank, isRow, nameRules}
+use Rattle.format.specs.Reading.{got, accepted}
+use Rattle.format.specs.Walk.{rank, isRow, nameRules}
 use Rattle.format.specs.Laws.Outcomes.{byTest, not-got, false-true}
-use Rattle.format.specs.declared.Place.{Place}
 use Rattle.format.specs.declared.Reason.{Reason}
 use Rattle.walk.specs.Sections.{bit, seenOf, ruling, NameRuled, Sees}
 use Rattle.walk.specs.declared.rules.Called.{Called}
@@ -29,7 +28,6 @@ use Rattle.stream.specs.Phases.{CallsRow, seenSo, blankAt}
 use Rattle.stream.specs.Known.{doneOf, knownIn, betweenAt, skippingAt, payingAt, Behind, withPlace, calledSo, AfterCustom}
 use Rattle.stream.specs.declared.Spot.{Spot}
 use Rattle.stream.specs.declared.Stream.{Stream}
-use Rattle.stream.specs.declared.known.After.{After}
 use Rattle.stream.specs.declared.known.After.the-variants as after
 use Rattle.stream.specs.declared.known.Known.{Known}
 use Rattle.stream.proofs.SectionLaws.{some-so, as-fine, mixed}
@@ -204,6 +202,17 @@ name-same k id (suc (suc zero)) h = rw (some-so (bit (k .seen .there) 1) (k .hin
 name-same k id (suc (suc (suc zero))) h = rw (some-so (bit (k .seen .there) 2) (k .older))
 name-same k id (suc (suc (suc (suc row)))) h = absurd (omega arith)
 
+at-is : {x y : Known} → after.Behind x ≡ after.Behind y → y .at ≡ x .at
+at-is {x} {y} f = let s : x ≡ y = cc in ap (λ x. x .at) (sym s)
+
+not-behind : {why : Reason} {next : Known} → after.Against why ≡ after.Behind next → ⊥
+not-behind e = let w : _≡_ {A = ℕ} 1 0 = cc in omega arith
+
+-- without a row it is as if it were not custom
+pub after-other : (k : Known) {row : ℕ} (spot : Spot) {to : ℕ} {next : Known} → row ≡ 0 → Behind (plainDone (doneOf k) 0) to next → AfterCustom k row spot to (after.Behind next)
+unfolding customDone nameRules
+after-other k spot e b = record { says = λ id. rw e (ap accepted (sym (b .done))); at = λ x f. at-is f ∙ b .at }
+
 module _ (k : Known) (row : ℕ) (spot : Spot) (to : ℕ) (m : (k .count < most) × (row ≤ 3)) {called : Called} {v : Ruling} (c : CallsRow row called) (q : NameRuled (k .seen) called v) where
   ruled : (id : ℕ) → nameRules (seenIn (doneOf k)) id (rowFrom row) 0 [] ≡ ruling v id 0 []
   ruled id = name-same k id row (m .1) ∙ sym (q .says id 0 [] ∙ ap (λ x. nameRules (seenOf (k .seen)) id x 0 []) (c .row-is))
@@ -211,9 +220,6 @@ module _ (k : Known) (row : ℕ) (spot : Spot) (to : ℕ) (m : (k .count < most)
   judged : (id : ℕ) {w : Ruling} → v ≡ w → customDone (doneOf k) id (accepted (calledSo row spot)) ≡ kept (ruling w id 0 []) (calledDone (doneOf k) (calledSo row spot))
   unfolding customDone
   judged id e = ap (λ x. kept x (calledDone (doneOf k) (calledSo row spot))) (ruled id ∙ ap (λ x. ruling x id 0 []) e)
-
-  not-behind : {why : Reason} {next : Known} → after.Against why ≡ after.Behind next → ⊥
-  not-behind e = let w : _≡_ {A = ℕ} 1 0 = cc in omega arith
 
   pub after-against : {why : Reason} → v ≡ Against why → AfterCustom k row spot to (after.Against why)
   after-against e = record { says = λ id. judged id e; at = λ next f. absurd (not-behind f) }
@@ -252,8 +258,5 @@ module _ (k : Known) (row : ℕ) (spot : Spot) (to : ℕ) (m : (k .count < most)
           }));
           at = λ x f. at-is f;
         }
-      where
-        at-is : {x y : Known} → after.Behind x ≡ after.Behind y → y .at ≡ x .at
-        at-is {x} {y} f = let s : x ≡ y = cc in ap (λ x. x .at) (sym s)
 
-pub ruleset afters = (after-against, after-behind, needs)
+pub ruleset afters = (after-other, after-against, after-behind, needs)

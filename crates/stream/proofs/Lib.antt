@@ -5,6 +5,7 @@ pub mod KnownLaws
 pub mod ContentLaws
 pub mod NameLaws
 pub mod HeadLaws
+pub mod LeadLaws
 pub mod FeedLaws
 pub mod HoldLaws
 pub mod FitLaws

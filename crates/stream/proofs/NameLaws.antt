@@ -1,6 +1,7 @@
 -- The bytes of a custom section's name: one law for each way through the code.
 use Prim.Native.Nat.{ℕ, zero, suc, _+_, _-_, _≤_, _<_}
 use mathlib.Core.Bool.{Bool, true, false, cond, _&&_}
+use mathlib.Core.List.{List, [], _∷_}
 use mathlib.Core.Option.{none}
 use mathlib.Core.Path.{_≡_, refl, sym, ap, _∙_}
 use native.Mathlib.Omega.{arith}
@@ -8,29 +9,32 @@ use borrow.Author.Needs.{needs}
 use borrow.Author.Tests.{ltb-true, ne-eqb}
 use denote.Enum.Declared.{tagOf}
 use lib.Dec.{ltb, eqb}
+use lib.ListN.{length, getD}
+use lib.Seq.{slice, slice-cons, slice-empty}
 use Rattle.format.specs.Bytes.{ascii}
 use Rattle.format.specs.Walk.{nameSection, hintSection}
 use Rattle.format.specs.Laws.Outcomes.{onBoth}
 use Rattle.stream.specs.Counting.{counted}
-use Rattle.stream.specs.Texts.{Text, noneWanted, textByte, nothingWanted, textEnds}
-use Rattle.stream.specs.Naming.{Names, noneMet, matchEnds, meet, met}
+use Rattle.stream.specs.Texts.{Text, noneWanted, textByte, textBytes, nothingWanted, textEnds}
+use Rattle.stream.specs.Naming.{Names, noneMet, matchEnds, meet, meetAll, met}
 use Rattle.stream.specs.Contents.{Contents, sizing, naming, paying, failing, named, name, sized, content}
 use Rattle.stream.specs.Stream.{Done, inCustom, custom, byte}
 use Rattle.stream.specs.Calls.{most}
 use Rattle.stream.specs.Fields.{rowNumber, rowFrom, doneFrom, numberFrom, textFrom, namesFrom, contentsFrom}
 use Rattle.stream.specs.Fits.{numberFits, textFits, contentsFit}
-use Rattle.stream.specs.Phases.{numberOf, Countable, countedOf, textOf, Spellable, metOf, Fit, Steps, Closing, Closes, NameBegins, NameSized, NameEnds, Spelling, Spells}
+use Rattle.stream.specs.Phases.{numberOf, Countable, countedOf, textOf, Spellable, metOf, Fit, Steps, Closing, Closes, NameBegins, NameSized, NameEnds, SpelledBy, Spelling, Spells}
 use Rattle.stream.specs.Laws.Fields.{row-back}
 use Rattle.stream.specs.Laws.Fits.{name-fits, counted-fits, countedFits, text-fits}
 use Rattle.stream.specs.declared.Met.{Met}
 use Rattle.stream.specs.declared.Stream.{Stream}
+use Rattle.stream.specs.declared.contents.Spelled.{Spelled}
 use Rattle.stream.specs.declared.numbers.Counted.{Counted}
 use Rattle.stream.specs.declared.numbers.Counted.the-variants.{Whole, Partly}
 use Rattle.stream.specs.declared.texts.Text.{Text as TextSo}
 use Rattle.stream.proofs.numbers.Counted as counted-type
 use Rattle.stream.proofs.Leaves.{come-most}
 use Rattle.stream.proofs.States.{at, at-same, as-custom, as-sizing, as-naming, as-paying, as-failing, custom-count, custom-left, custom-contents}
-use Rattle.stream.proofs.SectionLaws.{step-so, as-over}
+use Rattle.stream.proofs.SectionLaws.{limit64, step-so, as-over}
 
 -- WHAT A NAME COMES TO
 
@@ -78,11 +82,11 @@ pub ruleset beginnings = (name-paying, name-failing, begins-empty, begins-on, si
 
 -- A BYTE
 
--- one byte of the contents was read, and this is what they are now
-pub record Ahead (f : Stream) (c : Contents) (h : Stream) : Type 0 where
+-- so many bytes of the contents were read, and this is what they are now
+pub record Ahead (f : Stream) (n : ℕ) (c : Contents) (h : Stream) : Type 0 where
   pub inside : 4 < h .phase
-  pub total : h .total ≡ f .total + 1
-  pub left : h .left ≡ f .left - 1
+  pub total : h .total ≡ f .total + n
+  pub left : h .left ≡ f .left - n
   pub done : doneFrom h ≡ doneFrom f
   pub at : h .at ≡ f .at
   pub contents : contentsFrom h ≡ c
@@ -96,7 +100,7 @@ module _ {f : Stream} (k : Fit f) (i : 4 < f .phase) where
   up : f .total + 1 ≡ suc (f .total)
   up = omega arith
 
-  stepped : {h r : Stream} (b : ℕ) → Ahead f (content (contentsFrom f) (f .total) b) h → Closes h r → Steps f b r
+  stepped : {h r : Stream} (b : ℕ) → Ahead f 1 (content (contentsFrom f) (f .total) b) h → Closes h r → Steps f b r
   stepped b a c = record {
     means =
         c .means
@@ -104,7 +108,7 @@ module _ {f : Stream} (k : Fit f) (i : 4 < f .phase) where
         ∙ sym (step-so f b (as-custom f i) ∙ at-same refl (left-one (doneFrom f) (f .at) (f .left) (contentsFrom f) (f .total) b (custom-left k i)));
   }
 
-  ready : {h : Stream} (c : Contents) → Ahead f c h → contentsFit c (suc (f .total)) ≡ true → Closing h
+  ready : {h : Stream} (c : Contents) → Ahead f 1 c h → contentsFit c (suc (f .total)) ≡ true → Closing h
   ready {h} c a e =
       let n : h .count ≡ f .count = ap (λ d. d .told .count) (a .done) in
       let m = custom-count k i in
@@ -145,7 +149,7 @@ module _ {f : Stream} (k : Fit f × (f .phase ≡ 5) × (f .total < most)) where
         }
 
     module _ (low : ℕ) (e : x ≡ Partly low) {h : Stream} (p : h .phase ≡ 5) (w : (h .total ≡ f .total + 1) × (h .left ≡ f .left - 1) × (h .begins ≡ f .begins) × (doneFrom h ≡ doneFrom f) × (h .at ≡ f .at) × (h .come ≡ f .come + 1) × (h .low ≡ low)) where
-      partly-ahead : Ahead f (sizing (f .begins) (record { come = suc (f .come); low = low })) h
+      partly-ahead : Ahead f 1 (sizing (f .begins) (record { come = suc (f .come); low = low })) h
       partly-ahead =
           let one : f .come + 1 ≡ suc (f .come) = omega arith in
           record { inside = omega arith; total = w .0; left = w .1; done = w .3; at = w .4; contents = as-sizing h p ∙ (λ j. sizing (w .2 j) (record { come = (w .5 ∙ one) j; low = w .6 j })) }
@@ -158,7 +162,7 @@ module _ {f : Stream} (k : Fit f × (f .phase ≡ 5) × (f .total < most)) where
       sizing-partly u = stepped (k .0) inside b (rw (sized-so, e) partly-ahead) u
 
     module _ (e : tagOf counted-type.the-type x ≡ 2) {h : Stream} (p : h .phase ≡ 8) (w : (h .total ≡ f .total + 1) × (h .left ≡ f .left - 1) × (h .text ≡ f .begins) × (h .refusal ≡ 3) × (doneFrom h ≡ doneFrom f) × (h .at ≡ f .at)) where
-      over-ahead : Ahead f (failing 3 (f .begins)) h
+      over-ahead : Ahead f 1 (failing 3 (f .begins)) h
       over-ahead = record { inside = omega arith; total = w .0; left = w .1; done = w .4; at = w .5; contents = as-failing h (omega arith) ∙ (λ j. failing (w .3 j) (w .2 j)) }
 
       pub over-closing : Closing h
@@ -179,48 +183,50 @@ unfolding nothingWanted
 eq-zero zero = refl
 eq-zero (suc n) = ne-eqb (suc n) 0 (λ e. absurd (omega arith))
 
--- one byte more, whichever it was
-module _ {f : Stream} {t : TextSo} {m : Met} (k : Spelling f (textOf t) (metOf m)) where
-  more : f .total + 1 ≡ suc (f .total)
-  more = omega arith
+-- so many bytes more, whichever they were
+module _ {f : Stream} {n : ℕ} {x : Spelled} (k : Spelling f n x) where
+  abbrev now-named : Contents
+  now-named = name (f .begins) (f .text) (f .rest - n) (textOf (x .text)) (metOf (x .met)) (f .total + n)
 
-  spelt : {h r : Stream} → Ahead f (name (f .begins) (f .text) (f .rest - 1) (textOf t) (metOf m) (suc (f .total))) h → Closes h r → Spells f (textOf t) (metOf m) r
-  spelt a c = record { means = c .means ∙ at-same (a .total ∙ more) (λ j. custom (a .done j) (a .at j) (a .left j) (a .contents j) ((a .total ∙ more) j)) }
+  spelt : {h r : Stream} → Ahead f n now-named h → Closes h r → Spells f n x r
+  spelt a c = record { means = c .means ∙ at-same (a .total) (λ j. custom (a .done j) (a .at j) (a .left j) (a .contents j) (a .total j)) }
 
-  prepared : {h : Stream} → Ahead f (name (f .begins) (f .text) (f .rest - 1) (textOf t) (metOf m) (suc (f .total))) h → Closing h
+  prepared : {h : Stream} → Ahead f n now-named h → Closing h
   prepared {h} a =
       let e : h .count ≡ f .count = ap (λ d. d .told .count) (a .done) in
-      let c = k .count in
-      let n = a .total in
-      record { inside = a .inside; behind = omega arith; fits = (λ j. contentsFit (a .contents j) ((a .total ∙ more) j)) ∙ name-fits (f .begins) (f .text) (f .rest - 1) (textOf t) (metOf m) (suc (f .total)) (k .fits) }
+      let c = k .count in let t = a .total in let s = k .some in
+      record { inside = a .inside; behind = omega arith; fits = (λ j. contentsFit (a .contents j) (a .total j)) ∙ name-fits (f .begins) (f .text) (f .rest - n) (textOf (x .text)) (metOf (x .met)) (f .total + n) (k .fits) }
 
-  -- the name's last byte
-  module _ (e : f .rest ≡ 1) (g : Stream) {h : Stream} {row : ℕ} (z : row ≡ rowNumber (met (metOf m))) (b′ : NameEnds g (eqb (t .wanted) 0) row h) (w : (g .total ≡ f .total + 1) × (g .left ≡ f .left - 1) × (g .text ≡ f .text) × (doneFrom g ≡ doneFrom f) × (g .at ≡ f .at)) where
-    last-so : name (f .begins) (f .text) (f .rest - 1) (textOf t) (metOf m) (suc (f .total)) ≡ cond (eqb (t .wanted) 0) (paying (rowFrom row) (f .total + 1)) (failing 4 (f .text))
+  pub spell-room : f .total + n < limit64
+  spell-room = let r = k .room in omega arith
+
+  -- the name's last bytes
+  module _ (e : f .rest ≡ n) (g : Stream) {h : Stream} {row : ℕ} (z : row ≡ rowNumber (met (metOf (x .met)))) (b′ : NameEnds g (eqb (x .text .wanted) 0) row h) (w : (g .total ≡ f .total + n) × (g .left ≡ f .left - n) × (g .text ≡ f .text) × (doneFrom g ≡ doneFrom f) × (g .at ≡ f .at)) where
+    last-so : now-named ≡ cond (eqb (x .text .wanted) 0) (paying (rowFrom row) (f .total + n)) (failing 4 (f .text))
     unfolding name named textEnds
     last-so =
-        let none : f .rest - 1 ≡ 0 = omega arith in
-        ap (λ n. name (f .begins) (f .text) n (textOf t) (metOf m) (suc (f .total))) none
-        ∙ (λ i. cond (sym (eq-zero (t .wanted)) i) (paying (sym (ap rowFrom z ∙ row-back (met (metOf m))) i) (sym more i)) (failing 4 (f .text)))
+        let none : f .rest - n ≡ 0 = omega arith in
+        ap (λ i. name (f .begins) (f .text) i (textOf (x .text)) (metOf (x .met)) (f .total + n)) none
+        ∙ (λ i. cond (sym (eq-zero (x .text .wanted)) i) (paying (sym (ap rowFrom z ∙ row-back (met (metOf (x .met)))) i) (f .total + n)) (failing 4 (f .text)))
 
-    last-ahead : Ahead f (name (f .begins) (f .text) (f .rest - 1) (textOf t) (metOf m) (suc (f .total))) h
+    last-ahead : Ahead f n now-named h
     last-ahead = let c = b′ .contains in record {
       inside = c .inside;
       total = c .total ∙ w .0;
       left = c .left ∙ w .1;
       done = c .done ∙ w .3;
       at = c .at ∙ w .4;
-      contents = c .contents ∙ (λ j. cond (eqb (t .wanted) 0) (paying (rowFrom row) (w .0 j)) (failing 4 (w .2 j))) ∙ sym last-so;
+      contents = c .contents ∙ (λ j. cond (eqb (x .text .wanted) 0) (paying (rowFrom row) (w .0 j)) (failing 4 (w .2 j))) ∙ sym last-so;
     }
 
     pub last-closing : Closing h
     last-closing = prepared last-ahead
 
-    pub spells-last : {r : Stream} → Closes h r → Spells f (textOf t) (metOf m) r
+    pub spells-last : {r : Stream} → Closes h r → Spells f n x r
     spells-last u = spelt last-ahead u
 
-  module _ (e : f .rest ≡ 1 → ⊥) {h : Stream} (w : (h .phase ≡ f .phase) × (h .total ≡ f .total + 1) × (h .left ≡ f .left - 1) × (h .begins ≡ f .begins) × (h .text ≡ f .text) × (h .rest ≡ f .rest - 1) × (doneFrom h ≡ doneFrom f) × (h .at ≡ f .at)) (v : (textFrom h ≡ textOf t) × (namesFrom h ≡ metOf m)) where
-    on-ahead : Ahead f (name (f .begins) (f .text) (f .rest - 1) (textOf t) (metOf m) (suc (f .total))) h
+  module _ (e : f .rest ≡ n → ⊥) {h : Stream} (w : (h .phase ≡ f .phase) × (h .total ≡ f .total + n) × (h .left ≡ f .left - n) × (h .begins ≡ f .begins) × (h .text ≡ f .text) × (h .rest ≡ f .rest - n) × (doneFrom h ≡ doneFrom f) × (h .at ≡ f .at)) (v : (textFrom h ≡ textOf (x .text)) × (namesFrom h ≡ metOf (x .met))) where
+    on-ahead : Ahead f n now-named h
     on-ahead =
         let p = k .phase in
         let q = w .0 in
@@ -233,55 +239,68 @@ module _ {f : Stream} {t : TextSo} {m : Met} (k : Spelling f (textOf t) (metOf m
           at = w .7;
           contents =
               as-naming h (w .0 ∙ k .phase) ∙ (λ j. naming (w .3 j) (w .4 j) (w .5 j) (v .0 j) (v .1 j))
-              ∙ name-on f (f .begins) (f .text) (f .rest - 1) (textOf t) (metOf m) (suc (f .total)) (λ z. e (omega arith));
+              ∙ name-on f (f .begins) (f .text) (f .rest - n) (textOf (x .text)) (metOf (x .met)) (f .total + n) (λ z. e (omega arith));
         }
 
     pub on-closing : Closing h
     on-closing = prepared on-ahead
 
-    pub spells-on : {r : Stream} → Closes h r → Spells f (textOf t) (metOf m) r
+    pub spells-on : {r : Stream} → Closes h r → Spells f n x r
     spells-on u = spelt on-ahead u
 
-pub ruleset spellings = (last-closing, spells-last, on-closing, spells-on, needs)
+pub ruleset spellings = (spell-room, last-closing, spells-last, on-closing, spells-on, needs)
 
-module _ {f : Stream} (k : Fit f × (f .phase ≡ 6) × (f .total < most)) where
+-- from byte to byte
+pub record Spelt (part : List ℕ) (from to : ℕ) (t₀ : TextSo) (m₀ : Met) (t : TextSo) (m : Met) (i : ℕ) : Type 0 where
+  pub within : i ≤ to
+  pub text : textBytes (textOf t₀) (slice from to part) ≡ textBytes (textOf t) (slice i to part)
+  pub met : meetAll (metOf m₀) (slice from to part) ≡ meetAll (metOf m) (slice i to part)
+  pub spellable : Spellable t
+
+module _ {f : Stream} (k : Fit f × (f .phase ≡ 6)) where
   within : 4 < f .phase
   within = let p = k .1 in omega arith
 
   names : (ltb 0 (f .rest) && textFits (textFrom f)) ≡ true
   names = sym (ap (λ c. contentsFit c (f .total)) (as-naming f (k .1))) ∙ custom-contents (k .0) within
 
-  pub naming-text : Spellable (record { wanted = f .wanted; least = f .least; point = f .point })
-  naming-text = record { fits = onBoth (ltb 0 (f .rest)) _ names λ _ t. t }
+  pub name-text : textFits (textFrom f) ≡ true
+  name-text = onBoth (ltb 0 (f .rest)) _ names λ _ t. t
 
-  rest-more : 0 < f .rest
-  rest-more = onBoth (ltb 0 (f .rest)) _ names (λ l _. ltb-true 0 (f .rest) l)
+  pub name-rest : 0 < f .rest
+  name-rest = onBoth (ltb 0 (f .rest)) _ names (λ l _. ltb-true 0 (f .rest) l)
 
-  module _ (b : ℕ) {t : TextSo} {m : Met} (x : textOf t ≡ textByte (textFrom f) b) (y : metOf m ≡ meet (namesFrom f) b) where
-    pub naming-spells : Spelling f (textOf t) (metOf m)
-    naming-spells = record {
-      phase = k .1;
-      room = k .2;
-      left = custom-left (k .0) within;
-      rest = rest-more;
-      count = custom-count (k .0) within;
-      fits = ap textFits x ∙ text-fits (textFrom f) b (onBoth (ltb 0 (f .rest)) _ names λ _ t. t);
-    }
+pub spelt-first : (f : Stream) (part : List ℕ) (from to : ℕ) → Fit f × (f .phase ≡ 6) × (from ≤ to) × (to ≤ length part) → Spelt part from to (record { wanted = f .wanted; least = f .least; point = f .point }) (f .met) (record { wanted = f .wanted; least = f .least; point = f .point }) (f .met) from
+spelt-first f part from to k = record { within = k .2; text = refl; met = refl; spellable = record { fits = name-text (k .0, k .1) } }
 
-    spelt-so : content (contentsFrom f) (f .total) b ≡ name (f .begins) (f .text) (f .rest - 1) (textOf t) (metOf m) (suc (f .total))
-    unfolding content
-    spelt-so =
-        let l = rest-more in
-        let one : f .rest ≡ suc (f .rest - 1) = omega arith in
-        ap (λ c. content c (f .total) b) (as-naming f (k .1) ∙ ap (λ n. naming (f .begins) (f .text) n (textFrom f) (namesFrom f)) one)
-        ∙ sym (λ i. name (f .begins) (f .text) (f .rest - 1) (x i) (y i) (suc (f .total)))
+module _ {part : List ℕ} {from to i : ℕ} {t₀ t : TextSo} {m₀ m : Met} (s : Spelt part from to t₀ m₀ t m i) where
+  pub spelt-here : to ≤ length part → i < to → i < length part
+  spelt-here l h = omega arith
 
-    pub naming-steps : {r : Stream} → Spells f (textOf t) (metOf m) r → Steps f b r
-    naming-steps u = record {
-      means =
-          u .means
-          ∙ at-same refl (ap (λ c. custom (doneFrom f) (f .at) (f .left - 1) c (suc (f .total))) (sym spelt-so))
-          ∙ sym (step-so f b (as-custom f within) ∙ at-same refl (left-one (doneFrom f) (f .at) (f .left) (contentsFrom f) (f .total) b (custom-left (k .0) within)));
-    }
+  pub spelt-text : Spellable t
+  spelt-text = s .spellable
 
-pub ruleset name-bytes = (naming-text, naming-spells, naming-steps, needs)
+  pub spelt-next : {t′ : TextSo} {m′ : Met} → to ≤ length part → i < to → textOf t′ ≡ textByte (textOf t) (getD part i 0) → metOf m′ ≡ meet (metOf m) (getD part i 0) → Spelt part from to t₀ m₀ t′ m′ (i + 1)
+  unfolding textBytes meetAll
+  spelt-next {t′} {m′} l h x y =
+      let up : suc i ≡ i + 1 = omega arith in
+      let cons : slice i to part ≡ getD part i 0 ∷ slice (i + 1) to part = slice-cons i to part 0 h l ∙ ap (λ j. getD part i 0 ∷ slice j to part) up in
+      record {
+        within = omega arith;
+        text = s .text ∙ ap (textBytes (textOf t)) cons ∙ ap (λ t. textBytes t (slice (i + 1) to part)) (sym x);
+        met = s .met ∙ ap (meetAll (metOf m)) cons ∙ ap (λ m. meetAll m (slice (i + 1) to part)) (sym y);
+        spellable = record { fits = ap textFits x ∙ text-fits (textOf t) (getD part i 0) (s .spellable .fits) };
+      }
+
+  pub spelt-ends : (f : Stream) → textOf t₀ ≡ textFrom f → metOf m₀ ≡ namesFrom f → to ≤ i → SpelledBy f (slice from to part) (record { text = t; met = m })
+  unfolding textBytes meetAll
+  spelt-ends f x y h =
+      let l = s .within in
+      let e : i ≡ to = omega arith in
+      let none : slice i to part ≡ [] = ap (λ j. slice j to part) e ∙ slice-empty to part in
+      record {
+        text = sym (ap (λ t. textBytes t (slice from to part)) (sym x) ∙ s .text ∙ ap (textBytes (textOf t)) none);
+        met = sym (ap (λ m. meetAll m (slice from to part)) (sym y) ∙ s .met ∙ ap (meetAll (metOf m)) none);
+      }
+
+pub ruleset spelling-loop = (spelt-first, spelt-here, spelt-text, spelt-next, spelt-ends, needs)

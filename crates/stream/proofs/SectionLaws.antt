@@ -104,7 +104,7 @@ all-come : (l : List ℕ) (o : ℕ) → length l ≤ suc o → start (drop (suc 
 unfolding start
 all-come l o h = rw (drop-all l (suc o) h)
 
-abbrev preambleSo : List ℕ
+abbrev pub preambleSo : List ℕ
 preambleSo = 0x00 ∷ 0x61 ∷ 0x73 ∷ 0x6D ∷ 0x01 ∷ 0x00 ∷ 0x00 ∷ 0x00 ∷ []
 
 preamble-is : preamble ≡ preambleSo

@@ -68,6 +68,9 @@ module _ {f : Stream} (k : Fit f) where
   unfolding fits
   fit-at e = sym (ap fits e) ∙ k .fits
 
+  pub between-count : f .phase ≡ 1 → f .count ≤ f .total
+  between-count e = leb-true (f .count) (f .total) (fit-at (as-between f e))
+
   module _ (e : f .phase ≡ 3) where
     pub measuring-count : f .count ≤ f .total
     measuring-count = onBoth (doneFits (doneFrom f) (f .total)) _ (fit-at (as-measuring f e)) λ h r. leb-true (f .count) (f .total) h

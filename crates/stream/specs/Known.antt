@@ -14,7 +14,7 @@ use Rattle.stream.specs.Counting.{fresh}
 use Rattle.stream.specs.Stream.{Done, plainDone, customDone, Phase, settled, skipping, inCustom, skip, custom, State, steps, standing}
 use Rattle.stream.specs.Calls.{most}
 use Rattle.stream.specs.Fields.{inPhase, held, placeFrom, rowFrom, stateFrom}
-use Rattle.stream.specs.Phases.{seenSo}
+use Rattle.stream.specs.Phases.{seenSo, Feeding}
 use Rattle.stream.specs.declared.Spot.{Spot}
 use Rattle.stream.specs.declared.Stream.{Stream}
 use Rattle.stream.specs.declared.heads.Head.{Head}
@@ -25,6 +25,8 @@ use Rattle.stream.specs.declared.heads.Passed.the-variants as passed
 use Rattle.stream.specs.declared.known.After.{After}
 use Rattle.stream.specs.declared.known.After.the-variants as after
 use Rattle.stream.specs.declared.known.Known.{Known}
+use Rattle.stream.specs.declared.leading.Lead.{Lead}
+use Rattle.stream.specs.declared.leading.Lead.the-variants as lead
 
 abbrev pub doneOf : Known → Done
 doneOf k = record {
@@ -161,3 +163,21 @@ pub record Sectioned (base : ℕ) (part : List ℕ) (k : Known) (r : Moved) : Ty
   pub onward : k .at ≤ r .at
   pub within : r .at ≤ length part
   pub means : r .stream ≡ held (steps (stands base k) (slice (k .at) (r .at) part))
+
+-- a payload that is over within the part
+pub record PayloadHere (f : Stream) (part : List ℕ) : Type 0 where
+  pub feeding : Feeding f part
+  pub phase : f .phase ≡ 7
+  pub left : f .left ≤ length part
+
+-- what a part begins in the middle of is over within it
+pub record Led (f : Stream) (part : List ℕ) (k : Known) : Type 0 where
+  pub within : k .at ≤ length part
+  pub means : stands (f .total) k ≡ steps (stateFrom f) (slice 0 (k .at) part)
+
+abbrev pub leadOf : Stream → (part : List ℕ) → Lead → Type 0
+leadOf f part (lead.Behind k) = Led f part k
+leadOf f part lead.ByBytes = Unit {0}
+
+pub record Leads (f : Stream) (part : List ℕ) (r : Lead) : Type 0 where
+  pub says : leadOf f part r

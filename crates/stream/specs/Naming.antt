@@ -1,7 +1,7 @@
 -- The names of the tracked sections, all compared at once as a name's bytes arrive. Of each: how many of its bytes have been met, all of them in their places; one more than it has once it can be no longer that name. Assumes nothing.
 use Prim.Native.Nat.{ℕ, suc}
 use mathlib.Core.Bool.{Bool, cond, _&&_}
-use mathlib.Core.List.{List}
+use mathlib.Core.List.{List, [], _∷_}
 use mathlib.Core.Option.{Option, none, some}
 use lib.Dec.{ltb, eqb}
 use lib.ListN.{length, getD}
@@ -25,6 +25,10 @@ noneMet = record { name = 0; hints = 0; older = 0 }
 
 abbrev pub meet : Names → ℕ → Names
 meet m b = record { name = matchByte nameSection (m .name) b; hints = matchByte hintSection (m .hints) b; older = matchByte olderHintSection (m .older) b }
+
+unfoldable pub meetAll : Names → List ℕ → Names
+meetAll m [] = m
+meetAll m (b ∷ bs) = meetAll (meet m b) bs
 
 -- the first row that is so
 abbrev pub firstOf : (name hints older : Bool) → Option ℕ

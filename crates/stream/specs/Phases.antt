@@ -1,16 +1,13 @@
 -- What the types of the code mean. Assumes nothing.
 use Prim.Native.Nat.{ℕ, suc, _+_, _-_, _≤_, _<_}
-use mathlib.Core.Bool.{Bool, true, cond, _&&_}
+use mathlib.Core.Bool.{Bool, true, cond}
 use mathlib.Core.List.{List}
 use mathlib.Core.Path.{_≡_}
-use lib.Dec.{leb, eqb}
+use lib.Dec.{eqb}
 use lib.ListN.{length}
 use lib.Seq.{slice}
-use Rattle.format.specs.Bytes.{same}
 use Rattle.format.specs.Refusals as Refusals
 use Rattle.format.specs.Reading.{refused}
-use Rattle.format.specs.Text.{utf8}
-use Rattle.format.specs.Walk as Walk
 use Rattle.format.specs.Walk.{tracked}
 use Rattle.format.specs.declared.Reason.the-variants.{NotText}
 use Rattle.walk.specs.Sections.{rowCalled, InTable}
@@ -18,17 +15,16 @@ use Rattle.walk.specs.declared.rules.Called.{Called}
 use Rattle.walk.specs.declared.rules.Seen.{Seen}
 use Rattle.stream.specs.Contents.{Contents, paying, failing, name}
 use Rattle.stream.specs.Counting.{Number, fresh, Counted, whole, partly, over}
-use Rattle.stream.specs.Texts.{Text, noneWanted}
-use Rattle.stream.specs.Naming.{Names, noneMet}
+use Rattle.stream.specs.Texts.{Text, noneWanted, textBytes}
+use Rattle.stream.specs.Naming.{Names, noneMet, meetAll}
 use Rattle.stream.specs.Stream.{nothingDone, settled, custom, enter, step, steps}
 use Rattle.stream.specs.Calls.{most}
-use Rattle.stream.specs.Fields.{fields, rowNumber, rowFrom, doneFrom, contentsFrom, stateFrom}
+use Rattle.stream.specs.Fields.{fields, rowFrom, doneFrom, textFrom, namesFrom, contentsFrom, stateFrom}
 use Rattle.stream.specs.Fits.{numberFits, textFits, contentsFit, fits}
-use Rattle.stream.specs.declared.Spot.{Spot}
 use Rattle.stream.specs.declared.Stream.{Stream}
-use Rattle.stream.specs.declared.feeding.JudgedName.{JudgedName}
 use Rattle.stream.specs.declared.heads.Moved.{Moved}
 use Rattle.stream.specs.declared.Met.{Met}
+use Rattle.stream.specs.declared.contents.Spelled.{Spelled}
 use Rattle.stream.specs.declared.numbers.Counted.{Counted as CountedSo}
 use Rattle.stream.specs.declared.numbers.Counted.the-variants.{Whole, Partly, Over}
 use Rattle.stream.specs.declared.texts.Text.{Text as TextSo}
@@ -99,32 +95,27 @@ pub record NameSized (f : Stream) (n : ℕ) (r : Stream) : Type 0 where
 pub record NameEnds (f : Stream) (valid : Bool) (row : ℕ) (r : Stream) : Type 0 where
   pub contains : Contains f (cond valid (paying (rowFrom row) (f .total)) (failing (Refusals.numberOf NotText) (f .text))) r
 
--- a byte of a name was read
-pub record Spelling (f : Stream) (t : Text) (m : Names) : Type 0 where
-  pub phase : f .phase ≡ 6
-  pub room : f .total < most
-  pub left : 0 < f .left
-  pub rest : 0 < f .rest
-  pub count : f .count ≤ f .total
-  pub fits : textFits t ≡ true
+-- so many bytes of a name were read, behind which its text and the tracked names stand so
+pub record SpelledBy (f : Stream) (bs : List ℕ) (r : Spelled) : Type 0 where
+  pub text : textOf (r .text) ≡ textBytes (textFrom f) bs
+  pub met : metOf (r .met) ≡ meetAll (namesFrom f) bs
 
-pub record Spells (f : Stream) (t : Text) (m : Names) (r : Stream) : Type 0 where
-  pub means : stateFrom r ≡ record { total = suc (f .total); phase = custom (doneFrom f) (f .at) (f .left - 1) (name (f .begins) (f .text) (f .rest - 1) t m (suc (f .total))) (suc (f .total)) }
+pub record Spelling (f : Stream) (n : ℕ) (x : Spelled) : Type 0 where
+  pub phase : f .phase ≡ 6
+  pub some : 0 < n
+  pub room : f .total + n ≤ most
+  pub left : n ≤ f .left
+  pub rest : n ≤ f .rest
+  pub count : f .count ≤ f .total
+  pub fits : textFits (textOf (x .text)) ≡ true
+
+pub record Spells (f : Stream) (n : ℕ) (x : Spelled) (r : Stream) : Type 0 where
+  pub means : stateFrom r ≡ record { total = f .total + n; phase = custom (doneFrom f) (f .at) (f .left - n) (name (f .begins) (f .text) (f .rest - n) (textOf (x .text)) (metOf (x .met)) (f .total + n)) (f .total + n) }
 
 -- a row counted from 1
 pub record CallsRow (row : ℕ) (called : Called) : Type 0 where
   pub row-is : rowCalled called ≡ rowFrom row
   pub known : InTable called
-
--- the payload's place was put into its row
-abbrev pub payloadSpot : Stream → Spot
-payloadSpot f = record { offset = f .text; length = f .total - f .text }
-
-pub record Placed (f r : Stream) : Type 0 where
-  pub total : r .total ≡ f .total
-  pub name : r .name ≡ cond (eqb (f .row) 1) (payloadSpot f) (f .name)
-  pub hints : r .hints ≡ cond (eqb (f .row) 2) (payloadSpot f) (f .hints)
-  pub older : r .older ≡ cond (eqb (f .row) 3) (payloadSpot f) (f .older)
 
 abbrev pub seenSo : Stream → Seen
 seenSo f = record { rank = f .rank; code = eqb (f .code) 1; there = f .there }
@@ -145,6 +136,7 @@ pub record Passes (f : Stream) (n : ℕ) (r : Stream) : Type 0 where
 pub record Reaches (here left r : ℕ) : Type 0 where
   pub inside : r ≤ left
   pub lent : r ≤ here
+  pub least : r < left → r ≡ here
   pub moves : 0 < here → 0 < left → 0 < r
 
 -- a part is read up to an offset
@@ -158,22 +150,17 @@ pub record Moves (f : Stream) (part : List ℕ) (i : ℕ) (r : Moved) : Type 0 w
   pub within : r .at ≤ length part
   pub means : stateFrom (r .stream) ≡ steps (stateFrom f) (slice i (r .at) part)
 
--- all of it is to be read, and was
+-- all of it is to be read
 pub record Feeding (f : Stream) (part : List ℕ) : Type 0 where
   pub fit : Fit f
   pub room : f .total + length part ≤ most
 
-pub record Feeds (f : Stream) (part : List ℕ) (r : Stream) : Type 0 where
-  pub means : stateFrom r ≡ steps (stateFrom f) part
-
--- A name that the part has whole: nothing of it has come yet, and its section has it whole too
-abbrev pub wholeHere : Stream → (here : ℕ) → Bool
-wholeHere f here = eqb (f .wanted) 0 && (eqb (f .met .name) 0 && (eqb (f .met .hints) 0 && (eqb (f .met .older) 0 && (leb (f .rest) (f .left) && leb (f .rest) here))))
-
-pub record WholeName (f : Stream) (part : List ℕ) (i : ℕ) : Type 0 where
-  pub ready : Ready f part i
-  pub phase : f .phase ≡ 6
-  pub whole : wholeHere f (length part - i) ≡ true
+-- what is left of it is to be read; its first byte stands at `base`
+pub record FeedingFrom (f : Stream) (part : List ℕ) (from base : ℕ) : Type 0 where
+  pub fit : Fit f
+  pub within : from ≤ length part
+  pub total : f .total ≡ base + from
+  pub room : base + length part ≤ most
 
 -- in the preamble, or said to be
 pub record InPreamble (f : Stream) : Type 0 where
@@ -184,11 +171,6 @@ pub record InPreamble (f : Stream) : Type 0 where
 pub record Starting (f : Stream) : Type 0 where
   pub phase : f .phase ≡ 0
   pub below : f .total < 8
-
--- what a name comes to by the walk's rules
-pub record NameJudged (bs : List ℕ) (r : JudgedName) : Type 0 where
-  pub valid : r .valid ≡ utf8 bs
-  pub row : r .row ≡ rowNumber (Walk.rowFrom 0 tracked (λ x. same x bs))
 
 -- THE STATE AS A CALLER HOLDS IT
 abbrev pub blankAt : (total phase : ℕ) → Stream

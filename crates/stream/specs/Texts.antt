@@ -1,6 +1,7 @@
 -- Text as its bytes arrive: how many bytes the character still wants, the least code point of its form, and the code point so far. Assumes nothing.
 use Prim.Native.Nat.{ℕ, zero, suc, _%_}
 use mathlib.Core.Bool.{Bool, true, false, cond}
+use mathlib.Core.List.{List, [], _∷_}
 use lib.Dec.{ltb}
 use Rattle.format.specs.Text.{leastOfTwo, leastOfThree, leastOfFour, isAllowed, isLater, withLater}
 
@@ -38,6 +39,11 @@ wantedByte (suc more) least code b = cond (isLater b) (wanting more least (withL
 
 unfoldable pub textByte : Text → ℕ → Text
 textByte t b = wantedByte (t .wanted) (t .least) (t .code) b
+
+-- bytes, one after the other
+unfoldable pub textBytes : Text → List ℕ → Text
+textBytes t [] = t
+textBytes t (b ∷ bs) = textBytes (textByte t b) bs
 
 unfoldable pub nothingWanted : ℕ → Bool
 nothingWanted zero = true

@@ -1,10 +1,10 @@
 // The contents of a custom section: the number of its name's bytes, the name, the payload.
-ghost use mathlib.Core.Bool.{cond};
 ghost use mathlib.Core.Path.{_≡_};
 ghost use Prim.Native.Nat.{_≤_, _<_};
+ghost use lib.ListN.{length};
+ghost use lib.Seq.{slice};
 ghost use Rattle.stream.specs.Calls.{most};
-ghost use Rattle.stream.specs.Phases.{Fit, Steps, Closing, Closes, NameBegins, NameSized, NameEnds, CallsRow, Placed, Spelling, Spells, textOf, metOf};
-use crate::BETWEEN;
+ghost use Rattle.stream.specs.Phases.{Fit, Steps, Closing, Closes, NameBegins, NameSized, NameEnds, SpelledBy, Spelling, Spells};
 use crate::FAILING;
 use crate::Met;
 use crate::NAMING;
@@ -12,9 +12,10 @@ use crate::NONE_MET;
 use crate::PAYING;
 use crate::Spot;
 use crate::Stream;
-use crate::naming::HINT_ROW;
-use crate::naming::NAME_ROW;
-use crate::naming::OLDER_ROW;
+use crate::known::After;
+use crate::known::between;
+use crate::known::custom_behind;
+use crate::known::known_in;
 use crate::naming::meet;
 use crate::naming::row_met;
 use crate::numbers::Counted;
@@ -22,79 +23,23 @@ use crate::numbers::count_byte;
 use crate::sections::NOT_TEXT;
 use crate::sections::NUMBER_TOO_LARGE;
 use crate::sections::PAST_ITS_PART;
-use crate::sections::flag;
 use crate::sections::number_of;
 use crate::sections::refuse;
-use crate::sections::seen_by;
 use crate::texts::Text;
 use crate::texts::text_byte;
-use walk::rules::CUSTOM;
-use walk::rules::Called;
-use walk::rules::Ruling;
-use walk::rules::judge_name;
-use walk::rules::see;
-
-// A row, counted from 1, as the walk's rules have it.
-fn called_row(row: u8) -> Called
-    requires { ⌜ row ≤ 3 ⌝ }
-    ensures { λ r. ⌜ CallsRow row r ⌝ }
-{
-    if row == 0 {
-        return Called::Other;
-    }
-    Called::Row(row - 1)
-}
-
-fn chosen(here: bool, spot: Spot, before: Spot) -> Spot
-    ensures { λ r. ⌜ r ≡ cond here spot before ⌝ }
-{
-    if here {
-        return spot;
-    }
-    before
-}
-
-// The place of the payload, which ends here, in its row.
-fn placed(s: Stream) -> Stream
-    requires { ⌜ s .text ≤ s .total ⌝ }
-    ensures { λ r. ⌜ Placed s r ⌝ }
-{
-    let spot = Spot {
-        offset: s.text,
-        length: s.total - s.text,
-    };
-    let mut next = s;
-    let name = s.name;
-    let named = chosen(s.row == NAME_ROW, spot, name);
-    next.name = named;
-    let hints = s.hints;
-    let hinted = chosen(s.row == HINT_ROW, spot, hints);
-    next.hints = hinted;
-    let older = s.older;
-    let hinted_before = chosen(s.row == OLDER_ROW, spot, older);
-    next.older = hinted_before;
-    next
-}
 
 // The payload is over, and with it the section: what the walk's rules say of its name, and where it lies.
 fn end_payload(s: Stream) -> Stream
     requires { ⌜ Closing s × (s .phase ≡ 7) × (s .left ≡ 0) ⌝ }
     ensures { λ r. ⌜ Closes s r ⌝ }
 {
-    let seen = seen_by(s);
-    let called = called_row(s.row);
-    match judge_name(seen, called) {
-        Ruling::Against(reason) => refuse(s, number_of(reason), s.at),
-        Ruling::Fine => {
-            let after = see(seen, CUSTOM, called);
-            let mut next = placed(s);
-            next.phase = BETWEEN;
-            next.count = s.count + 1;
-            next.rank = after.rank;
-            next.code = flag(after.code);
-            next.there = after.there;
-            next
-        }
+    let spot = Spot {
+        offset: s.text,
+        length: s.total - s.text,
+    };
+    match custom_behind(known_in(s, 0), s.row, spot, 0) {
+        After::Against(reason) => refuse(s, number_of(reason), s.at),
+        After::Behind(known) => between(known, s.total),
     }
 }
 
@@ -116,7 +61,7 @@ pub fn close(s: Stream) -> Stream
 }
 
 // The name is whole: what is left is the payload, or its text is none.
-pub fn named(s: Stream, valid: bool, row: u8) -> Stream
+fn named(s: Stream, valid: bool, row: u8) -> Stream
     ensures { λ r. ⌜ NameEnds s valid row r ⌝ }
 {
     let mut next = s;
@@ -185,35 +130,49 @@ pub fn sizing_byte(s: Stream, b: u8) -> Stream
     }
 }
 
-// The name with one byte more, behind which its text and the tracked names stand so.
-fn spell(s: Stream, text: Text, met: Met) -> Stream
-    requires { ⌜ Spelling s (textOf text) (metOf met) ⌝ }
-    ensures { λ r. ⌜ Spells s (textOf text) (metOf met) r ⌝ }
+// How the text and the tracked names stand behind some bytes of a name.
+pub struct Spelled {
+    pub text: Text,
+    pub met: Met,
+}
+
+pub fn spell_bytes(s: Stream, part: &[u8], from: usize, to: usize) -> Spelled
+    requires { ⌜ Fit s × (s .phase ≡ 6) × (from ≤ to) × (to ≤ length (now part)) ⌝ }
+    ensures { λ r. ⌜ SpelledBy s (slice from to (now (part .entry))) r ⌝ }
 {
+    let mut text = Text {
+        wanted: s.wanted,
+        least: s.least,
+        point: s.point,
+    };
+    let mut met = s.met;
+    let mut i = from;
+    while i < to {
+        let b = part[i];
+        text = text_byte(text, b);
+        met = meet(met, b);
+        i = i + 1;
+    }
+    Spelled { text, met }
+}
+
+// The name with so many bytes more.
+pub fn spell(s: Stream, spelled: Spelled, n: u32) -> Stream
+    requires { ⌜ Spelling s n spelled ⌝ }
+    ensures { λ r. ⌜ Spells s n spelled r ⌝ }
+{
+    let text = spelled.text;
+    let met = spelled.met;
     let mut next = s;
-    next.total = s.total + 1;
-    next.left = s.left - 1;
-    if s.rest == 1 {
+    next.total = s.total + n as u64;
+    next.left = s.left - n;
+    if s.rest == n {
         return close(named(next, text.wanted == 0, row_met(met)));
     }
-    next.rest = s.rest - 1;
+    next.rest = s.rest - n;
     next.wanted = text.wanted;
     next.least = text.least;
     next.point = text.point;
     next.met = met;
     close(next)
-}
-
-// A byte of a name.
-pub fn naming_byte(s: Stream, b: u8) -> Stream
-    requires { ⌜ Fit s × (s .phase ≡ 6) × (s .total < most) ⌝ }
-    ensures { λ r. ⌜ Steps s b r ⌝ }
-{
-    let text = Text {
-        wanted: s.wanted,
-        least: s.least,
-        point: s.point,
-    };
-    let met = s.met;
-    spell(s, text_byte(text, b), meet(met, b))
 }

@@ -1,12 +1,12 @@
 // A part, from its first byte to its last.
 ghost use mathlib.Core.Path.{_≡_};
 ghost use Prim.Native.Nat.{_+_, _≤_, _<_};
-ghost use lib.ListN.{length};
-ghost use lib.Seq.{slice};
-ghost use Rattle.walk.specs.Sections.{rowCalled, InTable};
+ghost use lib.ListN.{drop};
+ghost use Rattle.stream.specs.Stream.{steps};
 ghost use Rattle.stream.specs.Calls.{most};
-ghost use Rattle.stream.specs.Fields.{rowNumber};
-ghost use Rattle.stream.specs.Phases.{Fit, Steps, Passing, Passes, Reaches, Ready, Moves, Feeding, Feeds, wholeHere, WholeName, NameJudged, InPreamble};
+ghost use Rattle.stream.specs.Fields.{held, stateFrom};
+ghost use Rattle.stream.specs.Phases.{Fit, Steps, Passing, Passes, Ready, Moves, Feeding, FeedingFrom, InPreamble};
+ghost use Rattle.stream.specs.Known.{stands, Begins};
 use crate::BETWEEN;
 use crate::MEASURING;
 use crate::NAMING;
@@ -16,20 +16,23 @@ use crate::SIZING;
 use crate::SKIPPING;
 use crate::Stream;
 use crate::contents::close;
-use crate::contents::named;
-use crate::contents::naming_byte;
 use crate::contents::sizing_byte;
+use crate::contents::spell;
+use crate::contents::spell_bytes;
 use crate::heads::Moved;
 use crate::heads::reach;
-use crate::heads::row_number;
+use crate::heads::sections_on;
 use crate::holding::blank;
+use crate::holding::tidy;
+use crate::known::Known;
+use crate::known::known_in;
+use crate::known::skipping;
+use crate::leading::Lead;
+use crate::leading::lead_of;
 use crate::sections::PREAMBLE_LENGTH;
 use crate::sections::measuring_byte;
 use crate::sections::opening_byte;
 use crate::sections::starting_byte;
-use reading::Cursor;
-use reading::text::is_text;
-use walk::rows::called;
 
 // Bytes of contents that nobody reads.
 fn skip(s: Stream, n: u32) -> Stream
@@ -85,46 +88,6 @@ fn one(s: Stream, b: u8) -> Stream
     preamble_byte(s, b)
 }
 
-// What a name comes to by the walk's rules: whether it is text, and its row, counted from 1.
-pub struct JudgedName {
-    pub valid: bool,
-    pub row: u8,
-}
-
-fn judge_whole(part: &[u8], from: usize, to: usize) -> JudgedName
-    requires { ⌜ (from ≤ to) × (to ≤ length (now part)) ⌝ }
-    ensures { λ r. ⌜ NameJudged (slice from to (now (part .entry))) r ⌝ }
-{
-    let valid = is_text(part, from, to);
-    let row = row_number(called(part, Cursor { at: from, end: to }));
-    JudgedName { valid, row }
-}
-
-// Whether the part and the section have a name whole of which nothing has come yet.
-fn is_whole(s: Stream, here: usize) -> bool
-    ensures { λ r. ⌜ r ≡ wholeHere s here ⌝ }
-{
-    let met = s.met;
-    let rest = s.rest as usize;
-    (s.wanted == 0)
-        & ((met.name == 0)
-            & ((met.hints == 0) & ((met.older == 0) & ((s.rest <= s.left) & (rest <= here)))))
-}
-
-// Such a name is judged at once.
-fn whole_name(s: Stream, part: &[u8], i: usize) -> Moved
-    requires { ⌜ WholeName s (now part) i ⌝ }
-    ensures { λ r. ⌜ Moves s (now (part .entry)) i r ⌝ }
-{
-    let to = i + s.rest as usize;
-    let judged = judge_whole(part, i, to);
-    let mut next = s;
-    next.total = s.total + s.rest as u64;
-    next.left = s.left - s.rest;
-    let stream = close(named(next, judged.valid, judged.row));
-    Moved { stream, at: to }
-}
-
 // From where a state stands in the part, as far as one step goes: over contents that nobody reads,
 fn skip_on(s: Stream, part: &[u8], i: usize) -> Moved
     requires { ⌜ Ready s (now part) i × (s .phase ≡ 4) ⌝ }
@@ -165,16 +128,16 @@ fn count_on(s: Stream, part: &[u8], i: usize) -> Moved
     }
 }
 
-// over a name, or a byte of it,
+// over what the part has of a name,
 fn name_on(s: Stream, part: &[u8], i: usize) -> Moved
     requires { ⌜ Ready s (now part) i × (s .phase ≡ 6) ⌝ }
     ensures { λ r. ⌜ Moves s (now (part .entry)) i r ⌝ }
 {
-    if is_whole(s, part.len() - i) {
-        return whole_name(s, part, i);
-    }
-    let stream = naming_byte(s, part[i]);
-    Moved { stream, at: i + 1 }
+    let inside = reach(part.len() - i, s.left);
+    let n = reach(inside as usize, s.rest);
+    let at = i + n as usize;
+    let stream = spell(s, spell_bytes(s, part, i, at), n);
+    Moved { stream, at }
 }
 
 // or over a byte that counts.
@@ -205,18 +168,62 @@ fn go(s: Stream, part: &[u8], i: usize) -> Moved
     byte_on(s, part, i)
 }
 
-// All of a part.
-pub fn feed(s: Stream, part: &[u8]) -> Stream
-    requires { ⌜ Feeding s (now part) ⌝ }
-    ensures { λ r. ⌜ Feeds s (now (part .entry)) r ⌝ }
+// As far as one step goes, or over all sections whose heads the part has whole.
+fn go_on(s: Stream, part: &[u8], i: usize, base: u64) -> Moved
+    requires { ⌜ Ready s (now part) i × (s .total ≡ base + i) ⌝ }
+    ensures { λ r. ⌜ Moves s (now (part .entry)) i r ⌝ }
+{
+    if s.phase == BETWEEN {
+        let moved = sections_on(known_in(s, i), part, base);
+        if i < moved.at {
+            return moved;
+        }
+    }
+    go(s, part, i)
+}
+
+// The rest of a part, whatever a state is in the middle of. The part's first byte stands at `base`.
+fn feed_from(s: Stream, part: &[u8], from: usize, base: u64) -> Stream
+    requires { ⌜ FeedingFrom s (now part) from base ⌝ }
+    ensures { λ r. ⌜ r ≡ held (steps (stateFrom s) (drop from (now (part .entry)))) ⌝ }
 {
     let mut current = s;
-    let mut i = 0;
+    let mut i = from;
     while i < part.len() {
-        let moved = go(current, part, i);
+        let moved = go_on(current, part, i, base);
         let stream = moved.stream;
         current = stream;
         i = moved.at;
     }
-    current
+    tidy(current)
+}
+
+// The same from between two sections on.
+fn feed_sections(known: Known, part: &[u8], base: u64) -> Stream
+    requires { ⌜ Begins base (now part) known ⌝ }
+    ensures { λ r. ⌜ r ≡ held (steps (stands base known) (drop (known .at) (now (part .entry)))) ⌝ }
+{
+    let moved = sections_on(known, part, base);
+    let stream = moved.stream;
+    if moved.at < part.len() {
+        return feed_from(stream, part, moved.at, base);
+    }
+    stream
+}
+
+// All of a part.
+pub fn feed(s: Stream, part: &[u8]) -> Stream
+    requires { ⌜ Feeding s (now part) ⌝ }
+    ensures { λ r. ⌜ r ≡ held (steps (stateFrom s) (now (part .entry))) ⌝ }
+{
+    if s.phase == SKIPPING {
+        let n = reach(part.len(), s.left);
+        if n < s.left {
+            return skipping(known_in(s, 0), s.total + n as u64, s.at, s.left - n);
+        }
+    }
+    match lead_of(s, part) {
+        Lead::Behind(known) => feed_sections(known, part, s.total),
+        Lead::ByBytes => feed_from(s, part, 0, s.total),
+    }
 }

@@ -45,7 +45,7 @@ pub fn reach(here: usize, left: u32) -> u32
     left
 }
 
-pub fn row_number(called: Called) -> u8
+fn row_number(called: Called) -> u8
     requires { ⌜ InTable called ⌝ }
     ensures { λ r. ⌜ r ≡ rowNumber (rowCalled called) ⌝ }
 {
@@ -82,10 +82,7 @@ fn head_at(known: Known, part: &[u8]) -> Head
         Ruling::Against(_) => Head::Unread,
         Ruling::Fine => {
             let end = part.len();
-            let rest = Cursor {
-                at: at + 1,
-                end,
-            };
+            let rest = Cursor { at: at + 1, end };
             match rest.number(part) {
                 NumberRead::Refused(_) => Head::Unread,
                 NumberRead::Value(size, next, _) => {

@@ -164,6 +164,9 @@ pub fn custom_behind(known: Known, row: u8, spot: Spot, to: usize) -> After
     requires { ⌜ (known .count < most) × (row ≤ 3) ⌝ }
     ensures { λ r. ⌜ AfterCustom known row spot to r ⌝ }
 {
+    if row == 0 {
+        return After::Behind(plain_behind(known, CUSTOM, to)); // most have no row
+    }
     let seen = known.seen;
     let called = called_row(row);
     match judge_name(seen, called) {

@@ -9,7 +9,6 @@ use crate::finishing::end;
 use crate::finishing::refused_ending;
 use crate::fitting::is_open;
 use crate::holding::blank;
-use crate::holding::tidy;
 use format::Offset;
 use format::Reason;
 use format::Refusal;
@@ -22,6 +21,7 @@ mod fitting;
 mod heads;
 mod holding;
 mod known;
+mod leading;
 mod naming;
 mod numbers;
 mod sections;
@@ -177,7 +177,7 @@ pub fn take_part(s: Stream, part: &[u8]) -> Taken
 {
     if is_open(s) {
         if has_room(s.total, part.len() as u64) {
-            let stream = tidy(feed(s, part));
+            let stream = feed(s, part);
             let verdict = Verdict::Accepted;
             return Taken { stream, verdict };
         }

@@ -23,7 +23,7 @@ use walk::rules::see;
 
 pub const PREAMBLE_LENGTH: usize = 8;
 
-const PREAMBLE: [u8; PREAMBLE_LENGTH] = [0x00, 0x61, 0x73, 0x6D, 0x01, 0x00, 0x00, 0x00];
+pub const PREAMBLE: [u8; PREAMBLE_LENGTH] = [0x00, 0x61, 0x73, 0x6D, 0x01, 0x00, 0x00, 0x00];
 
 // The numbers of the refusals that a reader of bytes gives.
 pub const NO_PREAMBLE: u8 = 1;

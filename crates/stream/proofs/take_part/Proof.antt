@@ -11,9 +11,6 @@ has-room-requires c κs = search parts
 feed-requires : tie.Need-feed-requires
 feed-requires c κs = search parts
 
-tidy-requires : tie.Need-tidy-requires
-tidy-requires c κs = search parts
-
 returns : tie.Need-returns
 returns c = search parts
 
@@ -30,4 +27,4 @@ returns-3 : tie.Need-returns-3
 returns-3 c = search parts
 
 pub take-part-spec : {M : Type 1} → statement M
-take-part-spec = tie.close (tie.spec is-open-requires has-room-requires feed-requires tidy-requires returns not-taken-requires returns-2 not-taken-requires-2 returns-3)
+take-part-spec = tie.close (tie.spec is-open-requires has-room-requires feed-requires returns not-taken-requires returns-2 not-taken-requires-2 returns-3)

@@ -10,10 +10,10 @@ use lib.Seq.{slice, take-take}
 use Rattle.format.specs.Refusals.{numberOf}
 use Rattle.format.specs.Reading.{refused}
 use Rattle.format.specs.declared.Reason.the-variants.{NotText}
-use Rattle.stream.specs.Texts.{Text, textByte}
-use Rattle.stream.specs.Naming.{Names, meet}
+use Rattle.stream.specs.Texts.{Text, textByte, textBytes}
+use Rattle.stream.specs.Naming.{Names, meet, meetAll}
 use Rattle.stream.specs.Contents.{Contents, paying, failing, named, name, content}
-use Rattle.stream.specs.Stream.{Done, Phase, settled, skip, custom, opening, byte, State, standing, step, steps}
+use Rattle.stream.specs.Stream.{Done, settled, skip, custom, opening, byte, State, standing, step, steps}
 use Rattle.stream.specs.Laws.Texts.{isText, text-byte, text-ends}
 use Rattle.stream.specs.Laws.Naming.{meeting, meeting-byte, meeting-ends}
 use Rattle.stream.specs.Laws.Resumed.{steps-append}
@@ -84,6 +84,20 @@ name-many begins text d at (suc left) o t m (b ∷ xs) h =
     name-many begins text d at left (suc o) (textByte t b) (meet m b) xs (omega arith)
     ∙ ap₂ (λ (x y : ℕ). standing x (custom d at y (judgedName text (textByte t b) (meet m b) xs x) x)) (one-further o (length xs)) (one-fewer left (length xs))
     ∙ ap (λ (c : Contents). standing (o + suc (length xs)) (custom d at (suc left - suc (length xs)) c (o + suc (length xs)))) (name-more text t m b xs (o + suc (length xs)))
+
+-- some bytes of a name
+pub name-some : (begins text rest : ℕ) (d : Done) (at left o : ℕ) (t : Text) (m : Names) (xs : List ℕ) → length xs ≤ rest → length xs ≤ left
+    → steps (standing o (custom d at left (name begins text rest t m o) o)) xs ≡ standing (o + length xs) (custom d at (left - length xs) (name begins text (rest - length xs) (textBytes t xs) (meetAll m xs) (o + length xs)) (o + length xs))
+unfolding steps step custom byte name content textBytes meetAll
+name-some begins text rest d at left o t m [] r h =
+    ap (λ n. standing o (custom d at left (name begins text n t m o) o)) (none-fewer rest)
+    ∙ ap₂ (λ (x y : ℕ). standing x (custom d at y (name begins text (rest - 0) t m x) x)) (none-further o) (none-fewer left)
+name-some begins text zero d at left o t m (b ∷ xs) r h = absurd (omega arith)
+name-some begins text (suc rest) d at zero o t m (b ∷ xs) r h = absurd (omega arith)
+name-some begins text (suc rest) d at (suc left) o t m (b ∷ xs) r h =
+    name-some begins text rest d at left (suc o) (textByte t b) (meet m b) xs (omega arith) (omega arith)
+    ∙ ap₂ (λ (x y : ℕ). standing x (custom d at y (name begins text (rest - length xs) (textBytes (textByte t b) xs) (meetAll (meet m b) xs) x) x)) (one-further o (length xs)) (one-fewer left (length xs))
+    ∙ ap (λ n. standing (o + suc (length xs)) (custom d at (suc left - suc (length xs)) (name begins text n (textBytes (textByte t b) xs) (meetAll (meet m b) xs) (o + suc (length xs))) (o + suc (length xs)))) (one-fewer rest (length xs))
 
 -- a part from an offset on is what stands before another, and the rest
 cut-at : (i j : ℕ) (l : List ℕ) → i ≤ j → drop i l ≡ drop i (take j l) ++ drop j l

@@ -13,7 +13,7 @@ use Rattle.format.specs.Text.{isAllowed, isLater, withLater}
 use Rattle.format.specs.Walk.{preamble, nameSection, hintSection, olderHintSection, nameRules, idRules}
 use Rattle.format.specs.Laws.Outcomes.{byTest, onBoth}
 use Rattle.stream.specs.Counting.{Number, fresh, weight, mostFollowing, Counted, whole, partly, over, counted}
-use Rattle.stream.specs.Texts.{Text, noneWanted, firstByte, wanting, wantedByte, textByte, textEnds}
+use Rattle.stream.specs.Texts.{Text, noneWanted, firstByte, wanting, wantedByte, textByte, textBytes, textEnds}
 use Rattle.stream.specs.Naming.{Names, noneMet, meet, firstOf, met, matchEnds}
 use Rattle.stream.specs.Contents.{Called, Contents, sizing, naming, paying, failing, named, name, sized, content, contentEnds}
 use Rattle.stream.specs.Stream.{Done, seenIn, calledDone, kept, customDone, Phase, starting, settled, measuring, skipping, inCustom, skip, custom, enter, measured, admit, opening, start, startByte, byte, State, begin, step, steps}
@@ -75,6 +75,11 @@ wanted-fits (suc more) least code b f = byTest (isLater b) (λ t. rw t (wanting-
 pub text-fits : (t : Text) (b : ℕ) → textFits t ≡ true → textFits (textByte t b) ≡ true
 unfolding textByte
 text-fits t b f = wanted-fits (t .wanted) (t .least) (t .code) b f
+
+pub texts-fit : (t : Text) (bs : List ℕ) → textFits t ≡ true → textFits (textBytes t bs) ≡ true
+unfolding textBytes
+texts-fit t [] f = f
+texts-fit t (b ∷ bs) f = texts-fit (textByte t b) bs (text-fits t b f)
 
 -- A custom section's contents
 

@@ -10,10 +10,10 @@ use lib.Dec.{leb}
 use lib.ListN.{length, take, drop}
 use lib.Seq.{length-take-le}
 use Rattle.format.specs.Refusals.{numberOf}
-use Rattle.format.specs.Reading.{got, stop, accepted}
+use Rattle.format.specs.Reading.{got, accepted}
 use Rattle.format.specs.Numbers.{number}
 use Rattle.format.specs.Parts as Parts
-use Rattle.format.specs.Parts.{Part, fits, cut}
+use Rattle.format.specs.Parts.{Part, cut}
 use Rattle.format.specs.Text.{utf8}
 use Rattle.format.specs.Walk.{idRules}
 use Rattle.format.specs.Laws.Outcomes.{not-got, got-value, got-next, got-rest, inTurn, passed}
@@ -21,11 +21,11 @@ use Rattle.format.specs.declared.Reason.the-variants.{PastItsPart, NotText}
 use Rattle.stream.specs.Counting.{Number, fresh, Counted, whole, partly, over, counted}
 use Rattle.stream.specs.Texts.{noneWanted}
 use Rattle.stream.specs.Naming.{noneMet}
-use Rattle.stream.specs.Contents.{Contents, sizing, paying, failing, name, sized, content}
-use Rattle.stream.specs.Stream.{Done, seenIn, Phase, settled, measuring, custom, enter, measured, admit, opening, byte, State, standing, step, steps}
+use Rattle.stream.specs.Contents.{sizing, paying, failing, name, sized, content}
+use Rattle.stream.specs.Stream.{Done, seenIn, Phase, settled, measuring, custom, enter, measured, admit, opening, byte, standing, step, steps}
 use Rattle.stream.specs.Laws.Counting.{counting, onward, counting-first, counting-short, counting-byte}
-use Rattle.stream.specs.Laws.Naming.{rowNamed, meeting, meeting-first}
-use Rattle.stream.specs.Laws.Texts.{isText, text-first}
+use Rattle.stream.specs.Laws.Naming.{rowNamed, meeting-first}
+use Rattle.stream.specs.Laws.Texts.{text-first}
 use Rattle.stream.specs.Laws.Resumed.{steps-append}
 use Rattle.stream.specs.Laws.Bulk.{name-many}
 
@@ -98,6 +98,15 @@ unfolding byte measured
 size-many d id at bs p {p₁ = p₁} e o =
     counts (λ left n o. measuring d id at n) (λ left c o. measured d id at c o) (λ left n o b. refl) (λ left n o. refl) bs p fresh p (sym (counting-first p bs) ∙ e) (p₁ - p) o (omega arith)
 
+split-at : (k n : ℕ) (bs : List ℕ) → take (k + n) bs ≡ take k bs ++ take n (drop k bs)
+split-at zero n bs = rw zero-add
+split-at (suc k) n [] = rw suc-add (sym (take-none n))
+  where
+    take-none : (n : ℕ) → _≡_ {A = List ℕ} (take n []) []
+    take-none zero = refl
+    take-none (suc n) = refl
+split-at (suc k) n (b ∷ bs) = rw suc-add (ap (λ l. b ∷ l) (split-at k n bs))
+
 -- A NAME, whose number begins the contents of a custom section
 module _ (d : Done) (at : ℕ) where
   number-of-name : (begins : ℕ) (bs : List ℕ) (p : ℕ) {v p₁ : ℕ} {rest : List ℕ} → number p bs ≡ got v p₁ rest → (left o : ℕ) → p₁ - p ≤ left
@@ -112,15 +121,6 @@ module _ (d : Done) (at : ℕ) where
   text-of-name begins text xs left o h t =
       name-many begins text d at left o noneWanted noneMet xs h
       ∙ (λ i. standing (o + length xs) (custom d at (left - length xs) (cond ((sym (text-first xs) ∙ t) i) (paying (sym (meeting-first xs) i) (o + length xs)) (failing (numberOf NotText) text)) (o + length xs)))
-
-  split-at : (k n : ℕ) (bs : List ℕ) → take (k + n) bs ≡ take k bs ++ take n (drop k bs)
-  split-at zero n bs = rw zero-add
-  split-at (suc k) n [] = rw suc-add (sym (take-none n))
-    where
-      take-none : (n : ℕ) → _≡_ {A = List ℕ} (take n []) []
-      take-none zero = refl
-      take-none (suc n) = refl
-  split-at (suc k) n (b ∷ bs) = rw suc-add (ap (λ l. b ∷ l) (split-at k n bs))
 
   both-of-name : (begins : ℕ) (bs rest : List ℕ) (p p₁ n : ℕ) → Consumed bs rest p p₁ → number p bs ≡ got n p₁ rest → n ≤ length rest → utf8 (take n rest) ≡ true → (left o : ℕ) → p₁ - p + n ≤ left
       → steps (standing o (custom d at left (sizing begins fresh) o)) (take (p₁ - p + n) bs) ≡ standing (o + (p₁ - p + n)) (custom d at (left - (p₁ - p + n)) (paying (rowNamed (take n rest)) (o + (p₁ - p + n))) (o + (p₁ - p + n)))
@@ -150,8 +150,7 @@ module _ (d : Done) (at : ℕ) where
       let same : t ≡ text = sym (got-value g₁) in
       let behind : p₁ ≡ o₂ + n = sym (got-next g₁) ∙ sym (got-next g₂) in
       let far : p₁ - p ≡ o₂ - p + n = omega arith in
-      rw far (both-of-name begins bs r₂ p o₂ n c e₂ (leb-true n (length r₂) l) (ap (λ x. utf8 (x .bytes)) (sym is) ∙ u) left o (omega arith)
-      ∙ ap (λ x. standing (o + (o₂ - p + n)) (custom d at (left - (o₂ - p + n)) (paying (rowNamed (x .bytes)) (o + (o₂ - p + n))) (o + (o₂ - p + n)))) (sym (same ∙ is)))
+      rw (far, same, is) (both-of-name begins bs r₂ p o₂ n c e₂ (leb-true n (length r₂) l) (ap (λ x. utf8 (x .bytes)) (sym is) ∙ u) left o (omega arith))
 
 -- AN ID that the walk's rules admit
 pub id-then : (d : Done) (o id : ℕ) (bs : List ℕ) → idRules (seenIn d) o id 0 [] ≡ got tt 0 [] → steps (standing o (settled (accepted d))) (id ∷ bs) ≡ steps (standing (suc o) (measuring d id o fresh)) bs

@@ -1,29 +1,48 @@
-use Prim.Native.Nat.{_-_}
-use lib.ListN.{length}
-use Rattle.stream.proofs.FeedLaws.{Turn, turns}
+use Rattle.stream.proofs.FeedLaws.{feeding}
 use Rattle.stream.proofs.feeding.feed.Statement.{statement}
 use Rattle.stream.proofs.feeding.feed.Tie as tie
 
-abbrev Inv-loop : tie.InvT-loop
-Inv-loop part current₀ i₀ current i = Turn current₀ part current i
+reach-requires : tie.Need-reach-requires
+reach-requires c κs = search feeding
 
-abbrev μ-loop : tie.MeasureT-loop
-μ-loop part current₀ i₀ current i = length part - i
+known-in-requires : tie.Need-known-in-requires
+known-in-requires c κs = search feeding
 
-loop-holds : tie.Need-loop-holds Inv-loop μ-loop
-loop-holds c = search turns
+cast-skipping : tie.Need-cast-skipping
+cast-skipping c = search feeding
 
-go-requires : tie.Need-go-requires Inv-loop μ-loop
-go-requires c κs = search turns
+add-skipping : tie.Need-add-skipping
+add-skipping c = search feeding
 
-loop-less : tie.Need-loop-less Inv-loop μ-loop
-loop-less c = search turns
+sub-skipping : tie.Need-sub-skipping
+sub-skipping c = search feeding
 
-loop-again : tie.Need-loop-again Inv-loop μ-loop
-loop-again c = search turns
+skipping-requires : tie.Need-skipping-requires
+skipping-requires c κs = search feeding
 
-returns : tie.Need-returns Inv-loop μ-loop
-returns c = search turns
+returns : tie.Need-returns
+returns c = search feeding
+
+lead-of-requires : tie.Need-lead-of-requires
+lead-of-requires c κs = search feeding
+
+enum-known-known : tie.Need-enum-known-known
+enum-known-known c = search feeding
+
+feed-sections-requires : tie.Need-feed-sections-requires
+feed-sections-requires c κs = search feeding
+
+enum-told : tie.Need-enum-told
+enum-told c = search feeding
+
+feed-from-requires : tie.Need-feed-from-requires
+feed-from-requires c κs = search feeding
+
+returns-2 : tie.Need-returns-2
+returns-2 c = search feeding
+
+returns-3 : tie.Need-returns-3
+returns-3 c = search feeding
 
 pub feed-spec : {M : Type 1} → statement M
-feed-spec = tie.close (tie.spec Inv-loop μ-loop loop-holds go-requires loop-less loop-again returns)
+feed-spec = tie.close (tie.spec reach-requires known-in-requires cast-skipping add-skipping sub-skipping skipping-requires returns lead-of-requires enum-known-known feed-sections-requires enum-told feed-from-requires returns-2 returns-3)

@@ -1,4 +1,4 @@
-use Rattle.stream.proofs.FeedLaws.{reaching}
+use Rattle.stream.proofs.HeadLaws.{reaching}
 use Rattle.stream.proofs.heads.reach.Statement.{statement}
 use Rattle.stream.proofs.heads.reach.Tie as tie
 
