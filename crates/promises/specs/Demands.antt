@@ -81,11 +81,10 @@ use Rattle.format.specs.declared.Question.the-variants.{ModuleName, FunctionNam
 use Rattle.format.specs.Theorems.{ItemQuestion, ItemInRange, OlderInRange}
 -- THE CALLS, each by its promise: `wm-walk bytes a` says that the answer a is one that the promise of wm_walk allows for these bytes. It is the promise itself, the one name that stands in the `ensures` of the call in crates/wakemiono/src. What the promises come to is said below, so that nothing has to be known of how they are put. `wm-name q` is the promise of the call that asks q: wm_module_name asks `ModuleName`, wm_function_name `FunctionName` of its function, wm_type_name `TypeName` of its index, wm_tag_name `TagName` of its tag, wm_local_name `LocalName` of its function and its local, wm_field_name `FieldName` of its index and its field, wm_kept `KeptContents` of its id; `wm-name-in q` is that of the same call with `_in`, which is lent a module. `wm-wide-name q` and `wm-wide-name-in q` are those of the wider edition, wm_wide_module_name and so on, which has six more: wm_wide_label_name asks `LabelName` of its function and its label, wm_wide_table_name `TableName`, wm_wide_memory_name `MemoryName`, wm_wide_global_name `GlobalName`, wm_wide_element_name `ElementName` and wm_wide_data_name `DataName`. The calls that write are promised of the output before and after, too: `old` and `new`. `wm-markers p is os is′ os′ a` is promised of both lists before the call, `is` and `os`, and after it; `wm-quick-function-name p is os end function a` of a payload, two lists, an end and the function asked. `wm-pair q separate own a` is the promise of the call that asks q over two payloads, wm_pair_module_name and so on, and `wm-wide-pair` that of the wider edition; `wm-pair-join separate own old new a` is the join's. `wm-stream-part s p t a` is promised of the state before the call, s, a part, the state after the call, t, and the answer; `wm-stream-finish s t a` of both states and the answer; `wm-stream-begin b` of the state that comes back.
 use Rattle.wakemiono.specs.Calls.{wm-walk, wm-section, wm-custom, wm-names-judge, wm-name, wm-metadata-judge, wm-metadata, wm-hints-judge, wm-hint, wm-name-in, wm-metadata-in, wm-hint-in, wm-names-canonical, wm-metadata-canonical, wm-hints-canonical, wm-function-names-write, wm-names-is-canonical, wm-metadata-is-canonical, wm-hints-is-canonical, wm-wide-names-judge, wm-wide-name, wm-wide-name-in, wm-wide-names-canonical, wm-wide-names-is-canonical, wm-old-hints-judge, wm-old-hint, wm-old-hint-in, wm-old-hints-canonical, wm-old-hints-is-canonical, wm-why-function, wm-why-local, wm-markers, wm-quick-function-name, wm-pair, wm-wide-pair, wm-pair-join, wm-wide-pair-join, wm-stream-begin, wm-stream-part, wm-stream-finish, wm-hints-on-branches}
--- HINTS ON BRANCHES, by crates/branches/specs: of a module `importedFunctions` counts the functions that are imported, and `functionBodies` are the bodies; `bodyOf first parts f` is the body of function f. `allHints` are the hints of a payload with their places: `Placed` has a `number`, where it stands, `at`, and its `value`. `AllSit first parts fs`: every hint of fs has a body of which, by the grammar of core specification 1.0, a br_if or an if begins at its offset.
-use Rattle.branches.specs.Bodies.{bodyOf}
+-- HINTS ON BRANCHES, by crates/branches/specs: `hintsOnBranches m` is the check of a module; `importedFunctions` counts the functions that are imported, and `functionBodies` are the bodies. `Placed` has a `number`, where it stands, `at`, and its `value`: of hints, by function and then by offset. The rule without a step stands in Rule.antt, over the grammar of core specification 1.0 in Grammar.antt: `HasHints m`: walk and hint payload of m are accepted; `Hinted m first parts fs`: so are its import list and its list of bodies, `first` functions are imported, `parts` are the bodies and fs the hints. `AllSit first parts fs`: every hint of fs has a body of which a br_if or an if begins at its offset. `ModuleRefused m n at`: the walk, the payload, the import list, the list of bodies or the first hint that does not sit is refused with n at that offset.
 use Rattle.branches.specs.Branches.{importedFunctions, functionBodies, hintsOnBranches}
-use Rattle.branches.specs.Hints.{Placed, Hints, allHints}
-use Rattle.branches.specs.Theorems.{AllSit}
+use Rattle.branches.specs.Hints.{Placed, Hints}
+use Rattle.branches.specs.Rule.{AllSit, HasHints, Hinted, ModuleRefused}
 -- THE NUMBER READER of the library, by its promise: from the cursor c over the bytes s it reads the number v, says `told`, and stands at `next`; `left s c` are the bytes from c to the end of the innermost part, and `shortest v` is the shortest form of v. `Inside s c`: the cursor lies in what was lent.
 use Rattle.format.specs.Numbers.{shortest}
 use Rattle.reading.specs.Cursors.{Inside, left}
@@ -125,7 +124,7 @@ pub data HintReply : WmAnswer → Type 0 where
 
 -- The numbers that the calls refuse with. 16 is the listing program's alone
 abbrev pub numbers : List ℕ
-numbers = 1 ∷ 2 ∷ 3 ∷ 4 ∷ 5 ∷ 6 ∷ 7 ∷ 8 ∷ 9 ∷ 10 ∷ 11 ∷ 12 ∷ 13 ∷ 14 ∷ 15 ∷ 17 ∷ 18 ∷ 22 ∷ 28 ∷ []
+numbers = 1 ∷ 2 ∷ 3 ∷ 4 ∷ 5 ∷ 6 ∷ 7 ∷ 8 ∷ 9 ∷ 10 ∷ 11 ∷ 12 ∷ 13 ∷ 14 ∷ 15 ∷ 17 ∷ 18 ∷ 19 ∷ 20 ∷ 21 ∷ 22 ∷ 28 ∷ 29 ∷ []
 
 -- whether a number is one of a list
 abbrev pub isAmong : List ℕ → ℕ → Bool
@@ -591,13 +590,25 @@ pub record K11 : Type 0 where
   -- likely at offset 5 of function 0 and unlikely at offset 7 of function 3, the functions the other way round: as long, and not canonical
   pub other-old-hints : Another wm-old-hints-judge (λ q. wm-old-hint (q .0 .0) (q .1 .0)) OlderInRange (λ _ _ a b. a ≡ b) wm-old-hints-canonical (hex "02 00 00 01 01 05 03 00 01 00 07") (hex "02 03 00 01 00 07 00 00 01 01 05") 11 11
 
--- K6. "Hints that sit on a branch. .. Add a check over the whole module: count imported functions, find each hinted body, step over its locals, then its instructions by the immediates of core specification 1.0, and accept when every hint's offset begins one of those two. .. An accepted module without the hint section is accepted, imports unread." `AllSit first parts fs` says of the hints fs that each begins a `br_if` or an `if` of its function's body, by the grammar of the specification (crates/branches/specs/Theorems.antt and Grammar.antt): `first` functions are imported, and `parts` are the bodies. Proved as `k6` in Proved.antt.
+-- K6. "Hints that sit on a branch. .. Add a check over the whole module: count imported functions, find each hinted body, step over its locals, then its instructions by the immediates of core specification 1.0, and accept when every hint's offset begins one of those two. .. Hints go in section order. An accepted module without the hint section is accepted, imports unread. Refusals, after all of document 01's for module and payload: faults in the import list, then in the list of sized bodies, as 2, 3, 4 and 10, with 29 for an import kind above 3 or a limits flag above 1, at that byte ..; then per hint 19, no body for that function, at the function index; at the hint's offset number 20, the locals or an instruction starting before the hinted place can't be read by version 1.0, else 21, not on a branch." Proved as `k6` in Proved.antt.
+
+-- The numbers that the import list is refused with, and the list of bodies
+abbrev pub importNumbers : List ℕ
+importNumbers = 2 ∷ 3 ∷ 4 ∷ 10 ∷ 29 ∷ []
+
+abbrev pub bodyNumbers : List ℕ
+bodyNumbers = 2 ∷ 3 ∷ 10 ∷ []
+
 pub record K6 : Type 0 where
+  pub judge : (m : List ℕ) (a : WmAnswer) → wm-hints-on-branches m a → Answers Verdict (RefusedBy (hintsOnBranches m)) a
   pub accepts : (m : List ℕ) (a : WmAnswer) → wm-hints-on-branches m a → (a ≡ wmFound 0 0 (length m)) ↔ (hintsOnBranches m ≡ accepted tt)
-  pub refuses : (m : List ℕ) (a : WmAnswer) → wm-hints-on-branches m a → (n at : ℕ) → hintsOnBranches m ≡ refused n at → a ≡ wmRefused n at
   pub without-hints : (m : List ℕ) → customPayload hintSection m ≡ accepted none → hintsOnBranches m ≡ accepted tt
   -- "accept when every hint's offset begins one of those two"
-  pub exactly : (m : List ℕ) (p : Part) (t : Table (Table Part)) (first : ℕ) (parts : List Part) (fs : List (Placed Hints)) → customPayload hintSection m ≡ accepted (some p) → judgeMetadata hintItem (p .at) (p .bytes) ≡ accepted t → importedFunctions m ≡ accepted first → functionBodies m ≡ accepted parts → judge (allHints (p .at) (p .bytes)) ≡ accepted fs → ((f : ℕ) (body : Part) → bodyOf first parts f ≡ some body → Bytes (body .bytes)) → (hintsOnBranches m ≡ accepted tt) ↔ AllSit first parts fs
+  pub exactly : (m : List ℕ) → Bytes m → (first : ℕ) (parts : List Part) (fs : List (Placed Hints)) → Hinted m first parts fs → (hintsOnBranches m ≡ accepted tt) ↔ AllSit first parts fs
+  -- and each refusal is the first that there is to give, by the rule
+  pub refused-exactly : (m : List ℕ) → Bytes m → (number offset : ℕ) → (hintsOnBranches m ≡ refused number offset) ↔ ModuleRefused m number offset
+  pub imports-numbered : (m : List ℕ) → HasHints m → (number offset : ℕ) → importedFunctions m ≡ refused number offset → isAmong importNumbers number ≡ true
+  pub bodies-numbered : (m : List ℕ) → HasHints m → (number offset : ℕ) → functionBodies m ≡ refused number offset → isAmong bodyNumbers number ≡ true
 
 -- K7. "Why has this function no name? For an accepted payload and a function or local question answered none, a tool names one reason: no such subsection; a subsection without a group for that function; or a map without that index, with the nearest mapped index below and above, if any. For a name found it gives the subsection and the entry's position in its map, from 0. Exactly one reason is true of each such question, and it is the one given." Proved as `k7` in Proved.antt.
 

@@ -22,3 +22,4 @@ pub mod Markers
 pub mod Pairs
 pub mod Joins
 pub mod Arriving
+pub mod Branching

@@ -67,15 +67,16 @@ use Rattle.promises.specs.Laws.Shortest.{longer, least, other-names, oth
 use Rattle.promises.specs.Laws.Telling.{number-told, else-zero, yes-told}
 use Rattle.promises.specs.Laws.Through.{name-through, hint-through, older-through, metadata-through, hint-data-through}
 use Rattle.promises.specs.Laws.Why.{function-in-1, local-in-2, says-why}
+use Rattle.promises.specs.Laws.Branching.{imports-numbered, bodies-numbered, branches-fair}
 use Rattle.promises.specs.Laws.FunctionNames.{function-names}
 use Rattle.promises.specs.Laws.Markers.{made-reply, markers-refused, markers-numbered, indices-left, offsets-left, markers-marked, own-answers, rule-followed, quick-refused, quick-numbered}
 use Rattle.promises.specs.Laws.Pairs.{asks-pairs, hands-back}
 use Rattle.promises.specs.Laws.Joins.{joins-pairs}
 use Rattle.promises.specs.Laws.Walking.{walked, walk-counts, section-found, section-first, section-none, section-refused, custom-tells, custom-refused}
-use Rattle.wakemiono.specs.Calls.{wm-walk, wm-metadata-judge, wm-hints-judge, wm-metadata-canonical, wm-hints-canonical, wm-function-names-write, wm-old-hints-judge, wm-old-hints-canonical}
+use Rattle.wakemiono.specs.Calls.{wm-walk, wm-metadata-judge, wm-hints-judge, wm-metadata-canonical, wm-hints-canonical, wm-function-names-write, wm-old-hints-judge, wm-old-hints-canonical, wm-hints-on-branches}
 use Rattle.promises.specs.Demands.{Verdict, Reply, SectionReply, HintReply, Answers, RefusedBy, RefusedThrough, RefusedOrShort, ListsRefused, NeedsRoom, Writing, Demand1, HoldsName, HoldsData, JudgesExactly, AnswersNames, AnswersMetadata, AnswersHints, Walks, Demand2, SameAnswer, Rewritten, Rewrites, Demand3, yes, no, replyNone, replyFound, replyRefused, sectionNone, sectionFound, sectionRefused, hintNone, hintUnlikely, hintLikely, hintRefused, byTheWalk, byItsPayload, asJudged, tooShort, listsDisagree, notAbove, notText, subsectionTooLarge, outputTooShort, TellsCanonical, K10, K9, OlderRefused, AnswersOlder, K2, olderJudged, olderTooLong, olderTooShort, K11, K7, K8, K3, Leaves, K5, K6}
 use Rattle.branches.specs.Branches.{hintsOnBranches}
-use Rattle.branches.specs.Theorems.{module-exactly, without-hints}
+use Rattle.branches.specs.Theorems.{module-exactly, module-refused-exactly, without-hints}
 use Rattle.promises.specs.Answers.{saysVerdict, verdict-said}
 
 -- Demand 1
@@ -427,12 +428,19 @@ k11 = record {
   other-old-hints = other-old-hints;
 }
 
+-- the answer says the verdict, and the verdict is said by it alone
+branches-said : (m : List ℕ) (a : WmAnswer) → wm-hints-on-branches m a → (j : Judged (Unit {0})) → (a ≡ wmJudged (length m) j) ↔ (hintsOnBranches m ≡ j)
+branches-said m a e j = (λ is. sym (verdict-said (length m) (hintsOnBranches m)) ∙ ap saysVerdict (sym e ∙ is) ∙ verdict-said (length m) j, λ is. e ∙ ap (wmJudged (length m)) is)
+
 pub k6 : K6
 k6 = record {
-  accepts = λ m a e. (λ is. sym (verdict-said (length m) (hintsOnBranches m)) ∙ ap saysVerdict (sym e ∙ is), λ is. e ∙ ap (wmJudged (length m)) is);
-  refuses = λ m a e n at is. e ∙ ap (wmJudged (length m)) is;
+  judge = λ m a e. answers-as (branches-fair m) (rw e (judged-verdict (length m) (hintsOnBranches m))) (λ n at. branches-said m a e (refused n at));
+  accepts = λ m a e. branches-said m a e (accepted tt);
   without-hints = without-hints;
-  exactly = λ m p t first parts fs. module-exactly m;
+  exactly = λ m b first parts fs. module-exactly m b;
+  refused-exactly = module-refused-exactly;
+  imports-numbered = imports-numbered;
+  bodies-numbered = bodies-numbered;
 }
 
 pub k7 : K7

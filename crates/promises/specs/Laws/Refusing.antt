@@ -9,7 +9,7 @@ use borrow.Author.Tests.{eqb-true}
 use lib.Dec.{ltb, leb, eqb}
 use lib.ListN.{length}
 use Rattle.format.specs.Bytes.{same}
-use Rattle.format.specs.Laws.Outcomes.{not-accepted, byTest}
+use Rattle.format.specs.Laws.Outcomes.{not-accepted, byTest, false-true, onBoth}
 use Rattle.format.specs.Metadata.{hintOf, anyItem, hintItem, metadata, judgeMetadata}
 use Rattle.format.specs.Names.{Kind, oneName, nameMap, indirectMap, kept, contents, subsections, payload, judgeNames}
 use Rattle.format.specs.Numbers.{groups, number}
@@ -43,10 +43,10 @@ abbrev pub FairlyJudged : {A : Type 0} → Judged A → Type 0
 FairlyJudged j = FairlyJudgedBy numbers j
 
 module _ {listed : List ℕ} {A : Type 0} where
-  fair-got : {v : A} {o : ℕ} {bs : List ℕ} → FairBy listed (got v o bs)
+  pub fair-got : {v : A} {o : ℕ} {bs : List ℕ} → FairBy listed (got v o bs)
   fair-got = record { numbered = λ n at e. absurd (let z : _≡_ {A = ℕ} 0 1 = cc in omega arith) }
 
-  fair-stop : {n at : ℕ} → isAmong listed n ≡ true → FairBy listed {A = A} (stop n at)
+  pub fair-stop : {n at : ℕ} → isAmong listed n ≡ true → FairBy listed {A = A} (stop n at)
   fair-stop {n} l = record { numbered = λ m at e. let q : n ≡ m = cc in rw (← q) l }
 
   fair-either : {r s : Outcome A} (b : Bool) → FairBy listed r → FairBy listed s → FairBy listed (cond b r s)
@@ -62,7 +62,7 @@ module _ {listed : List ℕ} {A : Type 0} where
   fair-part (stop n at) o bs f = f
 
 module _ {listed : List ℕ} where
-  fair-then : {A B : Type 0} (r : Outcome A) (f : A → Reader B) → FairBy listed r → ((v : A) (o : ℕ) (bs : List ℕ) → FairBy listed (f v o bs)) → FairBy listed (andThen r f)
+  pub fair-then : {A B : Type 0} (r : Outcome A) (f : A → Reader B) → FairBy listed r → ((v : A) (o : ℕ) (bs : List ℕ) → FairBy listed (f v o bs)) → FairBy listed (andThen r f)
   fair-then (got v o bs) f h k = k v o bs
   fair-then (stop n at) f h k = record { numbered = λ m at′ e. h .numbered m at′ (let c : n ≡ m = cc in let o : at ≡ at′ = cc in rw (c, o)) }
 
@@ -70,7 +70,7 @@ module _ {listed : List ℕ} where
   fair-check true why at o bs l = fair-got
   fair-check false why at o bs l = fair-stop l
 
-  fair-after : {B : Type 0} (b : Bool) (why : Reason) (at o : ℕ) (bs : List ℕ) (f : Reader B) → isAmong listed (numberOf why) ≡ true → FairBy listed (f o bs) → FairBy listed ((checked b why at >> f) o bs)
+  pub fair-after : {B : Type 0} (b : Bool) (why : Reason) (at o : ℕ) (bs : List ℕ) (f : Reader B) → isAmong listed (numberOf why) ≡ true → FairBy listed (f o bs) → FairBy listed ((checked b why at >> f) o bs)
   fair-after true why at o bs f l h = h
   fair-after false why at o bs f l h = fair-stop l
 
@@ -83,11 +83,29 @@ module _ {listed : List ℕ} where
     groups-fair zero first o (b ∷ bs) = fair-either (leb b 0x0F) fair-got (fair-stop three)
     groups-fair (suc more) first o (b ∷ bs) = fair-either (ltb b 128) fair-got (fair-then (groups more first (suc o) bs) (λ v o bs. got (b % 128 + 128 * v) o bs) (groups-fair more first (suc o) bs) (λ v o bs. fair-got))
 
-    number-fair-by : (o : ℕ) (bs : List ℕ) → FairBy listed (number o bs)
+    pub number-fair-by : (o : ℕ) (bs : List ℕ) → FairBy listed (number o bs)
     unfolding number
     number-fair-by o bs = groups-fair 4 o o bs
 
-  filling-fair-by : {A : Type 0} (read : Reader A) → isAmong listed 10 ≡ true → ((o : ℕ) (bs : List ℕ) → FairBy listed (read o bs)) → (o : ℕ) (bs : List ℕ) → FairBy listed (filling read o bs)
+    pub sized-fair-by : (o : ℕ) (bs : List ℕ) → FairBy listed (sized o bs)
+    unfolding sized
+    sized-fair-by o bs = fair-then (number o bs) _ (number-fair-by o bs) λ n o₁ r₁. fair-after (leb n (length r₁)) _ _ _ _ _ two fair-got
+
+    pub name-fair-by : isAmong listed 4 ≡ true → (o : ℕ) (bs : List ℕ) → FairBy listed (name o bs)
+    unfolding name
+    name-fair-by four o bs = fair-then (sized o bs) _ (sized-fair-by o bs) λ p o₁ r₁. fair-after (utf8 (p .bytes)) _ _ _ _ _ four fair-got
+
+    module _ {A : Type 0} (read : Reader A) (fair : (o : ℕ) (bs : List ℕ) → FairBy listed (read o bs)) where
+      times-fair : (n o : ℕ) (bs : List ℕ) → FairBy listed (times read n o bs)
+      unfolding times
+      times-fair zero o bs = fair-got
+      times-fair (suc n) o bs = fair-then (read o bs) _ (fair o bs) λ v o₁ r₁. fair-then (times read n o₁ r₁) _ (times-fair n o₁ r₁) λ vs o₂ r₂. fair-got
+
+      pub vector-fair : (o : ℕ) (bs : List ℕ) → FairBy listed (vector read o bs)
+      unfolding vector
+      vector-fair o bs = fair-then (number o bs) _ (number-fair-by o bs) times-fair
+
+  pub filling-fair-by : {A : Type 0} (read : Reader A) → isAmong listed 10 ≡ true → ((o : ℕ) (bs : List ℕ) → FairBy listed (read o bs)) → (o : ℕ) (bs : List ℕ) → FairBy listed (filling read o bs)
   filling-fair-by read ten fair o bs = fair-then (read o bs) _ (fair o bs) (fair-end ten)
 
 -- Numbers, parts and tables
@@ -95,12 +113,10 @@ number-fair : (o : ℕ) (bs : List ℕ) → Fair (number o bs)
 number-fair = number-fair-by refl refl
 
 sized-fair : (o : ℕ) (bs : List ℕ) → Fair (sized o bs)
-unfolding sized
-sized-fair o bs = fair-then (number o bs) _ (number-fair o bs) λ n o₁ r₁. fair-after (leb n (length r₁)) _ _ _ _ _ refl fair-got
+sized-fair = sized-fair-by refl refl
 
 name-fair : (o : ℕ) (bs : List ℕ) → Fair (name o bs)
-unfolding name
-name-fair o bs = fair-then (sized o bs) _ (sized-fair o bs) λ p o₁ r₁. fair-after (utf8 (p .bytes)) _ _ _ _ _ refl fair-got
+name-fair = name-fair-by refl refl refl
 
 module _ {A : Type 0} (read : Reader A) (fair : (o : ℕ) (bs : List ℕ) → Fair (read o bs)) where
   rows-fair : (n least o : ℕ) (bs : List ℕ) → Fair (rows read n least o bs)
@@ -137,10 +153,10 @@ subsections-fair kindOf (suc most) least o (id ∷ bs) =
 
 -- Judgements
 module _ {listed : List ℕ} {A : Type 0} where
-  fairly-accepted : {v : A} → FairlyJudgedBy listed (accepted v)
+  pub fairly-accepted : {v : A} → FairlyJudgedBy listed (accepted v)
   fairly-accepted = record { numbered = λ n at e. absurd (not-accepted (sym e)) }
 
-  fairly-judged : (r : Outcome A) → FairBy listed r → FairlyJudgedBy listed (judge r)
+  pub fairly-judged : (r : Outcome A) → FairBy listed r → FairlyJudgedBy listed (judge r)
   fairly-judged (got v o bs) f = fairly-accepted
   fairly-judged (stop n at) f = record { numbered = λ m at′ e. f .numbered m at′ (let c : n ≡ m = cc in let o : at ≡ at′ = cc in rw (c, o)) }
 
@@ -185,38 +201,27 @@ old-hint-fair : OlderFair olderHint
 unfolding olderHint
 old-hint-fair o bs = fair-then (olderKind o bs) _ (old-kind-fair o bs) λ k o₁ r₁. fair-then (number o₁ r₁) _ (old-number-fair o₁ r₁) λ n o₂ r₂. fair-got
 
-module _ {A : Type 0} (read : Reader A) (fair : OlderFair read) where
-  times-fair : (n : ℕ) → OlderFair (times read n)
-  unfolding times
-  times-fair zero o bs = fair-got
-  times-fair (suc n) o bs = fair-then (read o bs) _ (fair o bs) λ v o₁ r₁. fair-then (times read n o₁ r₁) _ (times-fair n o₁ r₁) λ vs o₂ r₂. fair-got
-
-  vector-fair : OlderFair (vector read)
-  unfolding vector
-  vector-fair o bs = fair-then (number o bs) _ (old-number-fair o bs) times-fair
-
 old-entry-fair : OlderFair olderEntry
 unfolding olderEntry
 old-entry-fair o bs =
     fair-then (number o bs) _ (old-number-fair o bs) λ f o₁ r₁. fair-then (zeroByte o₁ r₁) _ (zero-byte-fair o₁ r₁) λ _ o₂ r₂.
-    fair-then (vector olderHint o₂ r₂) _ (vector-fair olderHint old-hint-fair o₂ r₂) λ hs o₃ r₃. fair-got
+    fair-then (vector olderHint o₂ r₂) _ (vector-fair refl refl olderHint old-hint-fair o₂ r₂) λ hs o₃ r₃. fair-got
 
 pub older-fair-by : (at : ℕ) (p : List ℕ) → FairlyJudgedBy olderNumbers (judgeOlder at p)
 unfolding judgeOlder
-older-fair-by at p = fairly-judged (filling (vector olderEntry) at p) (filling-fair-by (vector olderEntry) refl (vector-fair olderEntry old-entry-fair) at p)
+older-fair-by at p = fairly-judged (filling (vector olderEntry) at p) (filling-fair-by (vector olderEntry) refl (vector-fair refl refl olderEntry old-entry-fair) at p)
 
--- each of these is one of the others
-among-all : (n : ℕ) → isAmong olderNumbers n ≡ true → Numbered n
-among-all n l =
-    byTest (eqb n 2) (λ t. rw (eqb-true n 2 t)) λ t₁.
-    byTest (eqb n 3) (λ t. rw (eqb-true n 3 t)) λ t₂.
-    byTest (eqb n 10) (λ t. rw (eqb-true n 10 t)) λ t₃.
-    byTest (eqb n 12) (λ t. rw (eqb-true n 12 t)) λ t₄.
-    byTest (eqb n 17) (λ t. rw (eqb-true n 17 t)) λ t₅.
-    absurd (not-both (sym (rw (t₁, t₂, t₃, t₄, t₅) at l)))
+-- what is one of a list is one of all, where each of that list is
+abbrev pub within : List ℕ → Bool
+within [] = true
+within (x ∷ xs) = isAmong numbers x && within xs
+
+pub among-all : (xs : List ℕ) → within xs ≡ true → (n : ℕ) → isAmong xs n ≡ true → Numbered n
+among-all [] h n l = false-true l
+among-all (x ∷ xs) h n l = onBoth (isAmong numbers x) (within xs) h λ p q. byTest (eqb n x) (λ t. rw (eqb-true n x t) p) (λ t. among-all xs q n (rw t at l))
 
 pub older-fair : (at : ℕ) (p : List ℕ) → FairlyJudged (judgeOlder at p)
-older-fair at p = record { numbered = λ n o e. among-all n (older-fair-by at p .numbered n o e) }
+older-fair at p = record { numbered = λ n o e. among-all olderNumbers refl n (older-fair-by at p .numbered n o e) }
 
 -- and 15 is none of these
 pub older-not-15 : (at : ℕ) (p : List ℕ) {o : ℕ} → judgeOlder at p ≡ refused 15 o → ⊥
