@@ -14,6 +14,7 @@ pub mod Older
 pub mod Why
 pub mod Markers
 pub mod Pairs
+pub mod Branching
 pub mod Demands
 pub mod Laws
 pub mod Proved
