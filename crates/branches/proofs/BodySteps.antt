@@ -2,7 +2,7 @@
 use Prim.Native.Nat.{ℕ, zero, suc, _-_, _≤_, _<_}
 use mathlib.Core.Bool.{Bool}
 use mathlib.Core.List.{List}
-use mathlib.Core.Path.{_≡_, refl, sym, ap, _∙_}
+use mathlib.Core.Path.{_≡_, refl, sym, _∙_}
 use native.Mathlib.Omega.{arith}
 use borrow.Author.Needs.{needs}
 use Rattle.format.specs.Numbers.{number}
@@ -19,7 +19,7 @@ use Rattle.reading.specs.declared.PartRead.the-variants.{Part as APart, Refused
 use Rattle.reading.proofs.Laws.{sized-means, part-behind, nothing-left, something-left}
 use Rattle.branches.specs.Bodies.{bodies}
 use Rattle.branches.specs.Lists.{passBodies, JudgesBodies}
-use Rattle.branches.specs.Reads.{Reads}
+use Rattle.branches.specs.Reads.{refusalWith, Reads}
 use Rattle.branches.specs.declared.bodies.BodiesRead.the-variants.{All, Refused as NoBodies}
 use Rattle.branches.specs.declared.reads.Read.{Read}
 use Rattle.branches.specs.declared.reads.Read.the-variants.{Value, Refused}
@@ -106,9 +106,9 @@ module _ {s : List ℕ} {c : Cursor} (i : Inside s c) {x : Read} (g : Reads numb
       in-behind : Inside s behind
       in-behind = value-inside h q (value-inside g e i)
 
-      pub list-left : behind .at < behind .end → JudgesBodies s c (NoBodies (record { reason = LeftOver; offset = record { 0 = behind .at } }))
+      pub list-left : {r : Refusal} → behind .at < behind .end → r ≡ refusalWith LeftOver (behind .at) → JudgesBodies s c (NoBodies r)
       unfolding bodies vector
-      list-left l = read-whole λ ps e₁. record { says = rw (value-means g e, e₁, something-left in-behind l) }
+      list-left l is = read-whole λ ps e₁. rw is (record { says = rw (value-means g e, e₁, something-left in-behind l) })
 
       pub list-fills : behind .end ≤ behind .at → JudgesBodies s c (All first n)
       unfolding bodies vector

@@ -1,5 +1,5 @@
 -- The check over a module: the payload, the imports, the bodies, and then hint by hint.
-use Prim.Native.Nat.{ℕ, _+_, _≤_, _<_}
+use Prim.Native.Nat.{ℕ, _+_, _^_, _≤_, _<_}
 use mathlib.Core.List.{List, []}
 use mathlib.Core.Option.{none, some}
 use mathlib.Core.Path.{_≡_, refl, sym, ap, subst, _∙_}
@@ -9,18 +9,18 @@ use denote.Enum.Declared.{tagOf}
 use lib.ListN.{length}
 use Rattle.format.specs.Metadata.{hintItem, judgeMetadata}
 use Rattle.format.specs.Numbers.{limit32}
-use Rattle.format.specs.Older.{times, vector}
-use Rattle.format.specs.Parts.{Part, sized}
+use Rattle.format.specs.Older.{times}
+use Rattle.format.specs.Parts.{Part}
 use Rattle.format.specs.Questions.{answered, asPlace}
-use Rattle.format.specs.Reading.{accepted, refused, judge, verdict}
+use Rattle.format.specs.Reading.{accepted, refused, verdict}
 use Rattle.format.specs.Refusals.{numberOf}
-use Rattle.format.specs.Verdicts.{verdictOf, refusalIn}
+use Rattle.format.specs.Verdicts.{verdictOf}
 use Rattle.format.specs.Walk.{hintSection, customPayload}
 use Rattle.format.specs.Laws.Answers.{place-none, place-found, place-refused}
 use Rattle.format.specs.Laws.Found.{payload-lies}
 use Rattle.format.specs.Laws.Places.{lies-inside, lies-slice}
 use Rattle.format.specs.declared.Answer.{Answer}
-use Rattle.format.specs.declared.Answer.the-variants.{None, Found as FoundAt, Refused as NotAnswered}
+use Rattle.format.specs.declared.Answer.the-variants.{Found as FoundAt, Refused as NotAnswered}
 use Rattle.format.specs.declared.Place.{Place}
 use Rattle.format.specs.declared.Refusal.{Refusal}
 use Rattle.format.specs.declared.Verdict.{Verdict}
@@ -29,17 +29,15 @@ use Rattle.format.proofs.Answer as answer-type
 use Rattle.format.proofs.Verdict as verdict-type
 use Rattle.format.proofs.Tags.{as-refused, judged-refused, judged-accepted, no-answer}
 use Rattle.reading.specs.Cursors.{Inside, left, partOf}
-use Rattle.reading.specs.Standing.{Stands}
 use Rattle.reading.specs.declared.Cursor.{Cursor}
 use Rattle.reading.proofs.Standing.{Passable, stand, one-value}
-use Rattle.branches.specs.Branches.{contentsOf, importedFunctions, functionBodies, eachFunction, hintsChecked, payloadOnBranches, hintsOnBranches}
+use Rattle.branches.specs.Branches.{contentsOf, importedFunctions, functionBodies, hintsChecked, payloadOnBranches, hintsOnBranches}
 use Rattle.branches.specs.Functions.{Listed, Checks}
 use Rattle.branches.specs.Hints.{placedRows, functionHints, allHints}
 use Rattle.branches.specs.Laws.Hints.{read-again}
 use Rattle.branches.specs.Lists.{Standing, JudgesBodies, AllBodies, Kept}
 use Rattle.branches.specs.Reads.{counted, Counts}
-use Rattle.branches.specs.Sections.{cursorOver, Finds}
-use Rattle.branches.specs.declared.bodies.Bodies.{Bodies}
+use Rattle.branches.specs.Sections.{Finds}
 use Rattle.branches.specs.declared.bodies.BodiesRead.{BodiesRead}
 use Rattle.branches.specs.declared.bodies.BodiesRead.the-variants.{All, Refused as NoBodies}
 use Rattle.branches.specs.declared.imports.Counted.{Counted}
@@ -47,7 +45,7 @@ use Rattle.branches.specs.declared.imports.Counted.the-variants.{Functio
 use Rattle.branches.specs.declared.sections.Sought.{Sought}
 use Rattle.branches.specs.declared.sections.Sought.the-variants.{Found, Refused}
 use Rattle.branches.specs.declared.sections.Spot.{Spot}
-use Rattle.branches.specs.declared.sections.Spot.the-variants.{Nowhere, At}
+use Rattle.branches.specs.declared.sections.Spot.the-variants.{At}
 use Rattle.branches.proofs.sections.Spot as spot-type
 use Rattle.branches.proofs.RowLaws.{sized-passable, rows-passable}
 use Rattle.branches.proofs.SectionSteps.{as-nowhere}
@@ -165,6 +163,9 @@ module _ (m : List ℕ) (payload : Cursor) (v : Verdict) (says : verdictOf v ≡
 pub ruleset payload-steps = (payload-refused, payload-listed, payload-checked, needs)
 
 -- and the walk before it
+abbrev cursorOver : Place → Cursor
+cursorOver p = record { at = p .offset .0; end = p .offset .0 + p .length }
+
 found-hints : (m : List ℕ) (p : Part) → customPayload hintSection m ≡ accepted (some p) → payloadOnBranches m p ≡ hintsOnBranches m
 unfolding hintsOnBranches
 found-hints m p found = rw found
@@ -179,20 +180,22 @@ module _ (m : List ℕ) (a : Answer) (e : answered a ≡ asPlace (customPayload 
   no-hints t = rw (place-none (customPayload hintSection m) (rw (no-answer a t) at e))
 
   module _ {place : Place} (is : a ≡ FoundAt place) where
-    pub place-inside : place .offset .0 + place .length ≤ length m
+    place-inside : place .offset .0 + place .length ≤ length m
     place-inside =
         let (p, found, there) = place-found (customPayload hintSection m) (rw is at e) in
         subst (λ (q : Place). q .offset .0 + q .length ≤ length m) there (lies-inside (payload-lies hintSection m found))
 
-    module _ {c : Cursor} (q : c ≡ cursorOver place) where
-      pub hints-inside : Inside m c
-      hints-inside = rw q (record { ahead = omega arith; within = place-inside })
+    pub place-fits : length m < 2 ^ 64 → place .offset .0 + place .length < 2 ^ 64
+    place-fits small = omega (arith, place-inside)
 
-      pub hints-there : (r : Verdict) → verdictOf r ≡ payloadOnBranches m (partOf m c) → verdictOf r ≡ hintsOnBranches m
-      hints-there r says =
-          let (p, found, there) = place-found (customPayload hintSection m) (rw is at e) in
-          let bytes = lies-slice (payload-lies hintSection m found) in
-          let part : partOf m (cursorOver place) ≡ p = subst (λ (k : Place). partOf m (cursorOver k) ≡ p) there (λ i. record { at = p .at; bytes = bytes i }) in
-          says ∙ ap (λ k. payloadOnBranches m (partOf m k)) q ∙ ap (payloadOnBranches m) part ∙ found-hints m p found
+    pub hints-inside : Inside m (cursorOver place)
+    hints-inside = record { ahead = omega arith; within = place-inside }
 
-pub ruleset branch-checks = (walk-refused, no-hints, place-inside, hints-inside, hints-there, needs)
+    pub hints-there : (r : Verdict) → verdictOf r ≡ payloadOnBranches m (partOf m (cursorOver place)) → verdictOf r ≡ hintsOnBranches m
+    hints-there r says =
+        let (p, found, there) = place-found (customPayload hintSection m) (rw is at e) in
+        let bytes = lies-slice (payload-lies hintSection m found) in
+        let part : partOf m (cursorOver place) ≡ p = subst (λ (k : Place). partOf m (cursorOver k) ≡ p) there (λ i. record { at = p .at; bytes = bytes i }) in
+        says ∙ ap (payloadOnBranches m) part ∙ found-hints m p found
+
+pub ruleset branch-checks = (walk-refused, no-hints, place-fits, hints-inside, hints-there, needs)

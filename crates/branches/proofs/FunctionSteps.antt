@@ -1,16 +1,15 @@
 -- The functions of an accepted hint payload, one after the other.
-use Prim.Native.Nat.{ℕ, suc, _+_, _-_, _≤_, _<_}
+use Prim.Native.Nat.{ℕ, suc, _-_, _≤_, _<_}
 use mathlib.Core.List.{List, [], _∷_}
 use mathlib.Core.Option.{Option, none, some}
-use mathlib.Core.Path.{_≡_, refl, sym, ap, subst, _∙_}
+use mathlib.Core.Path.{_≡_, refl, sym, ap, _∙_}
 use native.Mathlib.Omega.{arith}
 use borrow.Author.Needs.{needs}
 use denote.Enum.Declared.{tagOf}
 use Rattle.format.specs.Numbers.{number}
 use Rattle.format.specs.Older.{times, vector}
 use Rattle.format.specs.Parts.{Part, sized}
-use Rattle.format.specs.Reading.{Judged, accepted, refused, judgedThen}
-use Rattle.format.specs.Refusals.{numberOf}
+use Rattle.format.specs.Reading.{accepted, refused}
 use Rattle.format.specs.Verdicts.{verdictOf}
 use Rattle.format.specs.Laws.Outcomes.{inTurn, got-value, got-next, got-rest}
 use Rattle.format.specs.declared.Reason.the-variants.{NoBody}
@@ -25,11 +24,12 @@ use Rattle.reading.proofs.Standing.{stand, one-value, one-end}
 use Rattle.older.proofs.ReadAgain.{times-none}
 use Rattle.branches.specs.Bodies.{bodyOf, seatIn}
 use Rattle.branches.specs.Branches.{eachHint, hintsOf, oneFunction, eachFunction}
-use Rattle.branches.specs.Functions.{turnRefused, Opened, placed, Onward, Turns, Listed, Checks}
+use Rattle.branches.specs.Functions.{Opened, placed, Onward, Turns, Listed, Checks}
 use Rattle.branches.specs.Hints.{Placed, Hints, placedRow, placedRows, functionHints, allHints}
-use Rattle.branches.specs.Laws.Hints.{Rising, noRow, aRow, RisingHints, RisingFunctions}
+use Rattle.branches.specs.Laws.Hints.{RisingHints, RisingFunctions}
 use Rattle.branches.specs.Lists.{Kept, SameFrom, Finding, Looks}
-use Rattle.branches.specs.Sitting.{Ready, satSaid, SitsIn}
+use Rattle.branches.specs.Reads.{refusalWith}
+use Rattle.branches.specs.Sitting.{Ready, SitsIn}
 use Rattle.branches.specs.declared.bodies.Bodies.{Bodies}
 use Rattle.branches.specs.declared.bodies.Looked.{Looked}
 use Rattle.branches.specs.declared.bodies.Looked.the-variants.{Body, Nowhere}
@@ -40,7 +40,7 @@ use Rattle.branches.specs.declared.hints.Sat.the-variants.{Behind as Sat
 use Rattle.branches.proofs.bodies.Looked as looked-type
 use Rattle.branches.proofs.HintSteps.{rising-first}
 use Rattle.branches.proofs.LookLaws.{some-more}
-use Rattle.branches.proofs.RowLaws.{number-passable, sized-passable, placed-passable, rows-passable, NextRow, next-row}
+use Rattle.branches.proofs.RowLaws.{number-passable, sized-passable, rows-passable, NextRow, next-row}
 
 as-no-body : (x : Looked) → tagOf looked-type.the-type x ≡ 1 → x ≡ Nowhere
 as-no-body (Body c b) h = absurd (omega arith)
@@ -109,7 +109,7 @@ module _ {s : List ℕ} {next : Cursor} (o : Opened s next) where
         first-hint = next-row sized-passable (y .value) rows-some rows-stand
 
         module _ {bodies : Bodies} {found : Looked} (l : Looks s bodies (x .value) found) where
-          pub turn-no-body : {r : Turned} → tagOf looked-type.the-type found ≡ 1 → r ≡ turnRefused NoBody (next .at) → Turns s next bodies r
+          pub turn-no-body : {r : Refusal} → tagOf looked-type.the-type found ≡ 1 → r ≡ refusalWith NoBody (next .at) → Turns s next bodies (Refused r)
           turn-no-body t is =
               let none-there = rw (as-no-body found t) at (l .says) in
               rw is (record { opened = o; kept = l .kept; says = no-body (bodies .first) (l .kept .parts) (next .at) (o .function) (o .hints) (first-hint .is) (rw same-function none-there) })

@@ -1,5 +1,5 @@
 -- The hints of one function, one after the other.
-use Prim.Native.Nat.{ℕ, suc, _+_, _-_, _≤_, _<_}
+use Prim.Native.Nat.{ℕ, suc, _-_, _≤_, _<_}
 use mathlib.Core.List.{List, [], _∷_}
 use mathlib.Core.Path.{_≡_, refl, sym, ap, subst, _∙_}
 use native.Mathlib.Omega.{arith}
@@ -8,8 +8,9 @@ use denote.Enum.Declared.{tagOf}
 use Rattle.format.specs.Numbers.{number}
 use Rattle.format.specs.Older.{times}
 use Rattle.format.specs.Parts.{Part, sized}
-use Rattle.format.specs.Reading.{Judged, accepted, refused}
+use Rattle.format.specs.Reading.{accepted, refused}
 use Rattle.format.specs.declared.Reason.the-variants.{NotReadable, NotOnBranch}
+use Rattle.format.specs.declared.Refusal.{Refusal}
 use Rattle.reading.specs.Cursors.{Inside, left, partOf}
 use Rattle.reading.specs.Standing.{Stands, Known, TakesPart}
 use Rattle.reading.specs.declared.Cursor.{Cursor}
@@ -23,12 +24,13 @@ use Rattle.instructions.specs.declared.Way.{Way}
 use Rattle.instructions.specs.declared.Way.the-variants.{Behind as WayBehind}
 use Rattle.instructions.proofs.Way as way-type
 use Rattle.instructions.proofs.WayLaws.{as-unreadable, went, halted, goes-far, goes-inside}
-use Rattle.branches.specs.Bodies.{Seat, onBranch, notReadable, elsewhere, seatFrom, seatIn}
-use Rattle.branches.specs.Branches.{seatJudged, eachHint}
+use Rattle.branches.specs.Bodies.{Seat, onBranch, notReadable, elsewhere, seatIn}
+use Rattle.branches.specs.Branches.{eachHint}
 use Rattle.branches.specs.Hints.{Placed, placedRow, Hints}
-use Rattle.branches.specs.Laws.Hints.{Rising, noRow, aRow, RisingHints}
+use Rattle.branches.specs.Laws.Hints.{Rising, aRow, RisingHints}
 use Rattle.branches.specs.Seats.{seatAt, ReachesTo}
-use Rattle.branches.specs.Sitting.{satRefused, Ready, satSaid, SitsFrom, SitsIn}
+use Rattle.branches.specs.Reads.{refusalWith}
+use Rattle.branches.specs.Sitting.{Ready, satSaid, SitsFrom, SitsIn}
 use Rattle.branches.specs.declared.hints.Sat.{Sat}
 use Rattle.branches.specs.declared.hints.Sat.the-variants.{Behind, Refused}
 use Rattle.branches.specs.declared.seats.Reach.{Reach}
@@ -125,12 +127,12 @@ module _ {n more : ℕ} {s : List ℕ} {base : ℕ} {rows code next here : Curso
           t .seats (r .first) above ∙ ap (seatAt s base here) same-offset
 
       module _ {y : Reach} (g : ReachesTo s here base (x .value) y) where
-        pub sitting-unread : {z : Sat} → tagOf reach-type.the-type y ≡ 1 → z ≡ satRefused NotReadable (next .at) → SitsFrom s rows n base code z
+        pub sitting-unread : {r : Refusal} → tagOf reach-type.the-type y ≡ 1 → r ≡ refusalWith NotReadable (next .at) → SitsFrom s rows n base code (Refused r)
         sitting-unread q is =
             let r = next-hint in
             rw is (record { ready = t .ready; says = t .same ∙ ap (eachHint (seatAt s base code)) (r .is) ∙ hint-unread (seatAt s base code) _ _ (seat-told g ∙ sym (rw (as-stopped y q) at (g .says))) })
 
-        pub sitting-elsewhere : {z : Sat} → tagOf reach-type.the-type y ≡ 2 → z ≡ satRefused NotOnBranch (next .at) → SitsFrom s rows n base code z
+        pub sitting-elsewhere : {r : Refusal} → tagOf reach-type.the-type y ≡ 2 → r ≡ refusalWith NotOnBranch (next .at) → SitsFrom s rows n base code (Refused r)
         sitting-elsewhere q is =
             let r = next-hint in
             rw is (record { ready = t .ready; says = t .same ∙ ap (eachHint (seatAt s base code)) (r .is) ∙ hint-elsewhere (seatAt s base code) _ _ (seat-told g ∙ sym (rw (as-elsewhere y q) at (g .says))) })
@@ -157,7 +159,7 @@ pub ruleset sitting = (sitting-begins, sitting-inside, sitting-base, sitting-end
 
 -- from the locals on
 module _ {s : List ℕ} {body : Cursor} {x : Way} (g : Goes locals s body x) where
-  pub locals-unread : {rows : Cursor} {n : ℕ} {z : Sat} → Ready s rows n → 0 < n → tagOf way-type.the-type x ≡ 1 → z ≡ satRefused NotReadable (rows .at) → SitsIn s rows n body z
+  pub locals-unread : {rows : Cursor} {n : ℕ} {r : Refusal} → Ready s rows n → 0 < n → tagOf way-type.the-type x ≡ 1 → r ≡ refusalWith NotReadable (rows .at) → SitsIn s rows n body (Refused r)
   unfolding seatIn
   locals-unread {n = n} ready h t is =
       let (m, at, stops) = halted (locals (body .at) (left s body)) (rw (as-unreadable x t) at (g .means)) in

@@ -2,14 +2,13 @@
 use Prim.Native.Nat.{ℕ, zero, suc, _+_, _-_, _≤_, _<_}
 use mathlib.Core.Bool.{Bool}
 use mathlib.Core.List.{List}
-use mathlib.Core.Path.{_≡_, refl, sym, ap, _∙_}
+use mathlib.Core.Path.{_≡_, refl, sym, _∙_}
 use native.Mathlib.Omega.{arith}
 use borrow.Author.Needs.{needs}
 use borrow.Author.Tests.{le-leb, lt-leb}
-use lib.Dec.{leb}
 use Rattle.format.specs.Numbers.{number, limit32}
 use Rattle.format.specs.Parts.{name}
-use Rattle.format.specs.Reading.{got, stop, Reader, andThen}
+use Rattle.format.specs.Reading.{got, stop, andThen}
 use Rattle.format.specs.declared.Reason.the-variants.{NotImport, LeftOver}
 use Rattle.format.specs.declared.Refusal.{Refusal}
 use Rattle.reading.specs.Cursors.{Inside, left, PartReads}
@@ -18,11 +17,11 @@ use Rattle.reading.specs.declared.PartRead.{PartRead}
 use Rattle.reading.specs.declared.PartRead.the-variants.{Part as APart, Refused as NoPart}
 use Rattle.reading.proofs.Laws.{name-means, name-behind, nothing-left, something-left}
 use Rattle.branches.specs.Imports.{byte, bounds, limits, tableType, globalType, description, kindByte, importKind, importEntry, functionsIn, importEntries, importList, imports}
-use Rattle.branches.specs.Reads.{refusedWith, readEnd, Reads, Counts}
+use Rattle.branches.specs.Reads.{refusalWith, Reads, Counts}
 use Rattle.branches.specs.declared.reads.Read.{Read}
 use Rattle.branches.specs.declared.reads.Read.the-variants.{Value, Refused}
 use Rattle.branches.specs.declared.imports.Counted.the-variants.{Functions, Refused as NotCounted}
-use Rattle.branches.proofs.ReadLaws.{value-means, value-end, value-inside, value-then, value-gives, value-refuses, read-refused}
+use Rattle.branches.proofs.ReadLaws.{value-means, value-end, value-inside, value-then, read-refused}
 
 -- bounds
 bounds-stop : (flag o : ℕ) (bs : List ℕ) {n at : ℕ} → number o bs ≡ stop n at → bounds flag o bs ≡ stop n at
@@ -68,7 +67,7 @@ module _ {s : List ℕ} {c : Cursor} {x : Read} (g : Reads byte s c x) where
   global-refused e = read-refused g _ e
 
   module _ {b : ℕ} {next : Cursor} (e : x ≡ Value b next) where
-    pub limits-flag : {y : Read} → 1 < b → y ≡ refusedWith NotImport (c .at) → Reads limits s c y
+    pub limits-flag : {r : Refusal} → 1 < b → r ≡ refusalWith NotImport (c .at) → Reads limits s c (Refused r)
     unfolding limits
     limits-flag h is = rw is (record { means = rw (value-means g e, lt-leb b 1 h); same-part = tt })
 
@@ -76,7 +75,7 @@ module _ {s : List ℕ} {c : Cursor} {x : Read} (g : Reads byte s c x) where
     unfolding limits
     limits-read h k = record { means = k .means ∙ rw (value-means g e, le-leb b 1 h); same-part = let far = value-end g e in rw (← far .1) (k .same-part) }
 
-    pub kind-above : {y : Read} → 3 < b → y ≡ refusedWith NotImport (c .at) → Reads kindByte s c y
+    pub kind-above : {r : Refusal} → 3 < b → r ≡ refusalWith NotImport (c .at) → Reads kindByte s c (Refused r)
     unfolding kindByte
     kind-above h is = rw is (record { means = rw (value-means g e, lt-leb b 3 h); same-part = tt })
 
@@ -247,9 +246,9 @@ module _ {s : List ℕ} {c : Cursor} {x : Read} (g : Reads importList s c x) whe
   imports-refused e = record { says = rw (← rw e at (g .means)) }
 
   module _ (i : Inside s c) {n : ℕ} {next : Cursor} (e : x ≡ Value n next) where
-    pub imports-left : next .at < next .end → Counts s c (NotCounted (record { reason = LeftOver; offset = record { 0 = next .at } }))
+    pub imports-left : {r : Refusal} → next .at < next .end → r ≡ refusalWith LeftOver (next .at) → Counts s c (NotCounted r)
     unfolding imports
-    imports-left h = record { says = rw (value-means g e, something-left (value-inside g e i) h) }
+    imports-left h is = rw is (record { says = rw (value-means g e, something-left (value-inside g e i) h) })
 
     pub imports-fill : next .end ≤ next .at → Counts s c (Functions n)
     unfolding imports

@@ -7,16 +7,14 @@ use native.Mathlib.Numerals.{add-one}
 use native.Mathlib.Omega.{arith}
 use borrow.Author.Needs.{needs}
 use borrow.Author.Tests.{lt-ltb, le-ltb}
-use lib.ListN.{getElem?}
-use Rattle.format.specs.Older.{times}
 use Rattle.format.specs.Parts.{Part, sized}
 use Rattle.reading.specs.Cursors.{partOf}
-use Rattle.reading.specs.Standing.{Stands, Known, TakesPart}
+use Rattle.reading.specs.Standing.{Known, TakesPart}
 use Rattle.reading.specs.declared.Cursor.{Cursor}
 use Rattle.reading.specs.declared.again.Piece.{Piece}
 use Rattle.older.proofs.ReadAgain.{times-first, times-after, times-none}
 use Rattle.branches.specs.Bodies.{bodyOf}
-use Rattle.branches.specs.Lists.{Kept, SameFrom, PassesTo, Finding, Looks}
+use Rattle.branches.specs.Lists.{Kept, SameFrom, PassesTo, Looks}
 use Rattle.branches.specs.declared.bodies.Bodies.{Bodies}
 use Rattle.branches.specs.declared.bodies.Looked.the-variants.{Body, Nowhere}
 use Rattle.branches.proofs.RowLaws.{sized-passable}

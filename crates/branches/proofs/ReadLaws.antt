@@ -1,6 +1,6 @@
 -- What was read, or refused, gives to what is read behind it.
 use Prim.Native.Nat.{ℕ, _+_, _≤_, _<_}
-use mathlib.Core.Bool.{Bool, true, false}
+use mathlib.Core.Bool.{Bool}
 use mathlib.Core.List.{List}
 use mathlib.Core.Path.{_≡_, refl, sym, _∙_}
 use native.Mathlib.Numerals.{add-one}
@@ -11,13 +11,13 @@ use Rattle.format.specs.Numbers.{number}
 use Rattle.format.specs.Reading.{got, Reader, andThen}
 use Rattle.format.specs.declared.Reason.the-variants.{PastItsPart}
 use Rattle.format.specs.declared.Refusal.{Refusal}
-use Rattle.reading.specs.Cursors.{Inside, left, refusalOf, NumberReads}
+use Rattle.reading.specs.Cursors.{Inside, left, NumberReads}
 use Rattle.reading.specs.declared.Cursor.{Cursor}
 use Rattle.reading.specs.declared.NumberRead.{NumberRead}
 use Rattle.reading.specs.declared.NumberRead.the-variants.{Value as ANumber, Refused as NoNumber}
 use Rattle.reading.proofs.Laws.{number-means, number-inside, number-end, nothing-left, something-left}
 use Rattle.branches.specs.Imports.{byte}
-use Rattle.branches.specs.Reads.{refusedWith, readEnd, Reads}
+use Rattle.branches.specs.Reads.{refusalWith, Reads}
 use Rattle.branches.specs.declared.reads.Read.{Read}
 use Rattle.branches.specs.declared.reads.Read.the-variants.{Value, Refused}
 
@@ -35,7 +35,7 @@ pub ruleset number-reads = (number-refused, number-got, needs)
 
 -- a byte
 module _ {s : List ℕ} {c : Cursor} (i : Inside s c) where
-  pub byte-missing : {r : Read} → c .end ≤ c .at → r ≡ refusedWith PastItsPart (c .at) → Reads byte s c r
+  pub byte-missing : {r : Refusal} → c .end ≤ c .at → r ≡ refusalWith PastItsPart (c .at) → Reads byte s c (Refused r)
   unfolding byte
   byte-missing h e = rw e (record { means = rw (nothing-left i h); same-part = tt })
 
@@ -62,13 +62,6 @@ module _ {read : Reader ℕ} {s : List ℕ} {c : Cursor} {x : Read} (g : Reads r
     -- what is read behind it
     pub value-then : (second : ℕ → Reader ℕ) {y : Read} → Reads (second v) s next y → Reads (λ o bs. andThen (read o bs) second) s c y
     value-then second h = record { means = h .means ∙ rw value-means; same-part = let far = value-end in rw (← far .1) (h .same-part) }
-
-    -- what follows from it, with nothing read
-    pub value-gives : (second : ℕ → Reader ℕ) {w : ℕ} → second v (next .at) (left s next) ≡ got w (next .at) (left s next) → Reads (λ o bs. andThen (read o bs) second) s c (Value w next)
-    value-gives second is = record { means = sym (rw value-means is); same-part = value-end }
-
-    pub value-refuses : (second : ℕ → Reader ℕ) {r : Refusal} → second v (next .at) (left s next) ≡ refusalOf r → Reads (λ o bs. andThen (read o bs) second) s c (Refused r)
-    value-refuses second is = record { means = sym (rw value-means is); same-part = tt }
 
   pub read-refused : {r : Refusal} (second : ℕ → Reader ℕ) → x ≡ Refused r → Reads (λ o bs. andThen (read o bs) second) s c (Refused r)
   read-refused second e = record { means = rw (← rw e at (g .means)); same-part = tt }

@@ -1,15 +1,15 @@
 -- Rows that were accepted, with their places: the next one, and those behind it.
-use Prim.Native.Nat.{ℕ, suc, _-_, _<_}
+use Prim.Native.Nat.{ℕ, _-_, _<_}
 use mathlib.Core.List.{List, _∷_}
-use mathlib.Core.Path.{_≡_, refl, sym, ap, _∙_}
+use mathlib.Core.Path.{_≡_, sym, ap, _∙_}
 use Rattle.format.specs.Numbers.{number}
 use Rattle.format.specs.Older.{times, vector}
 use Rattle.format.specs.Parts.{sized}
 use Rattle.format.specs.Reading.{got, Reader}
 use Rattle.format.specs.Laws.Outcomes.{got-value, got-next, got-rest, inTurn}
-use Rattle.format.specs.Laws.Passing.{Passes, number-passes, sized-passes}
-use Rattle.reading.specs.Cursors.{Inside, left}
-use Rattle.reading.specs.Standing.{Stands, Known}
+use Rattle.format.specs.Laws.Passing.{number-passes, sized-passes}
+use Rattle.reading.specs.Cursors.{left}
+use Rattle.reading.specs.Standing.{Stands}
 use Rattle.reading.specs.declared.Cursor.{Cursor}
 use Rattle.reading.proofs.Standing.{Passable, stand}
 use Rattle.older.proofs.ReadAgain.{times-passable, times-first, times-after}

@@ -1,7 +1,7 @@
 -- The way to a hinted place, an instruction after the other.
 use Prim.Native.Nat.{ℕ, suc, _+_, _-_, _≤_, _<_}
 use mathlib.Core.Bool.{Bool, true, false, cond}
-use mathlib.Core.List.{List, [], _∷_}
+use mathlib.Core.List.{List}
 use mathlib.Core.Path.{_≡_, refl, sym, ap, _∙_}
 use native.Mathlib.Omega.{arith}
 use borrow.Author.Needs.{needs}
@@ -21,7 +21,7 @@ use Rattle.instructions.specs.declared.Way.{Way}
 use Rattle.instructions.specs.declared.Way.the-variants.{Behind}
 use Rattle.instructions.proofs.Way as way-type
 use Rattle.instructions.proofs.WayLaws.{as-unreadable, went, halted, goes-far, goes-inside}
-use Rattle.branches.specs.Bodies.{Seat, onBranch, notReadable, elsewhere, isBranch, seatThen, seatFrom}
+use Rattle.branches.specs.Bodies.{Seat, onBranch, elsewhere, isBranch, seatThen, seatFrom}
 use Rattle.branches.specs.Laws.Seats.{seat-ended, seat-past, seat-here, seat-steps}
 use Rattle.branches.specs.Seats.{seatAt, arrivedAt, Onward, ReachesTo}
 use Rattle.branches.specs.declared.seats.Reach.{Reach}

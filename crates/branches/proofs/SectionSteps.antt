@@ -1,8 +1,8 @@
 -- The contents of a section, found on the walk.
-use Prim.Native.Nat.{ℕ, _-_, _≤_, _<_}
-use mathlib.Core.Bool.{Bool, true, false, cond}
-use mathlib.Core.List.{List, [], _∷_}
-use mathlib.Core.Option.{Option, none, some}
+use Prim.Native.Nat.{ℕ, _≤_}
+use mathlib.Core.Bool.{Bool, true, false}
+use mathlib.Core.List.{List, _∷_}
+use mathlib.Core.Option.{Option}
 use mathlib.Core.Path.{_≡_, refl, sym, ap, _∙_}
 use native.Mathlib.Omega.{arith}
 use borrow.Author.Needs.{needs}
@@ -28,7 +28,7 @@ use Rattle.walk.specs.declared.step.Step.{Step}
 use Rattle.walk.specs.declared.step.Step.the-variants.{Section as ASection, Refused as StepRefused}
 use Rattle.walk.specs.declared.step.Walk.{Walk}
 use Rattle.walk.proofs.step.Step as step-type
-use Rattle.walk.proofs.SurveyLaws.{step-inside, step-shorter, stepped, begun-within}
+use Rattle.walk.proofs.SurveyLaws.{step-shorter, stepped, begun-within}
 use Rattle.walk.proofs.Tags.{at-end}
 use Rattle.branches.specs.Branches.{contentsIn, contentsOf}
 use Rattle.branches.specs.Sections.{spotOf, SpotInside, keptSpot, FindsFrom, Finds}

@@ -5,23 +5,19 @@ use mathlib.Core.Path.{_≡_}
 use Rattle.format.specs.Numbers.{number}
 use Rattle.format.specs.Older.{times}
 use Rattle.format.specs.Parts.{Part, sized}
-use Rattle.format.specs.Reading.{Judged, accepted, refused}
+use Rattle.format.specs.Reading.{accepted, refused}
 use Rattle.format.specs.Refusals.{numberOf}
 use Rattle.format.specs.Verdicts.{verdictOf}
-use Rattle.format.specs.declared.Reason.{Reason}
 use Rattle.format.specs.declared.Verdict.{Verdict}
 use Rattle.reading.specs.Standing.{Stands}
 use Rattle.reading.specs.declared.Cursor.{Cursor}
 use Rattle.branches.specs.Branches.{oneFunction, eachFunction}
-use Rattle.branches.specs.Hints.{Placed, Hints, placedRow, functionHints, allHints}
+use Rattle.branches.specs.Hints.{Placed, Hints, placedRow, allHints}
 use Rattle.branches.specs.Laws.Hints.{RisingHints, RisingFunctions}
 use Rattle.branches.specs.Lists.{Kept, SameFrom}
 use Rattle.branches.specs.declared.bodies.Bodies.{Bodies}
 use Rattle.branches.specs.declared.functions.Turned.{Turned}
 use Rattle.branches.specs.declared.functions.Turned.the-variants.{Behind, Refused}
-
-abbrev pub turnRefused : Reason → ℕ → Turned
-turnRefused reason at = Refused (record { reason = reason; offset = record { 0 = at } })
 
 -- a function that was accepted: its index, how many hints, and these
 pub record Opened (s : List ℕ) (next : Cursor) : Type 0 where

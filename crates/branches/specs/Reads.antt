@@ -5,6 +5,7 @@ use mathlib.Core.Path.{_≡_}
 use Rattle.format.specs.Reading.{Outcome, got, Reader, Judged, accepted, refused, judge}
 use Rattle.format.specs.Refusals.{numberOf}
 use Rattle.format.specs.declared.Reason.{Reason}
+use Rattle.format.specs.declared.Refusal.{Refusal}
 use Rattle.reading.specs.Cursors.{left, refusalOf}
 use Rattle.reading.specs.declared.Cursor.{Cursor}
 use Rattle.branches.specs.Imports.{imports}
@@ -13,8 +14,8 @@ use Rattle.branches.specs.declared.reads.Read.the-variants.{Value, Refus
 use Rattle.branches.specs.declared.imports.Counted.{Counted}
 use Rattle.branches.specs.declared.imports.Counted.the-variants.{Functions, Refused as NotCounted}
 
-abbrev pub refusedWith : Reason → ℕ → Read
-refusedWith reason at = Refused (record { reason = reason; offset = record { 0 = at } })
+abbrev pub refusalWith : Reason → (at : ℕ) → Refusal
+refusalWith reason at = record { reason = reason; offset = record { 0 = at } }
 
 -- a value, and what is left behind it
 abbrev pub readOutcome : List ℕ → Read → Outcome ℕ

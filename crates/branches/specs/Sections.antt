@@ -1,5 +1,5 @@
 -- What the code hands back of a section's contents. Assumes nothing.
-use Prim.Native.Nat.{ℕ, _+_}
+use Prim.Native.Nat.{ℕ}
 use mathlib.Core.Bool.{Bool, cond}
 use mathlib.Core.List.{List}
 use mathlib.Core.Option.{Option, none, some}
@@ -8,7 +8,6 @@ use Rattle.format.specs.Parts.{Part}
 use Rattle.format.specs.Reading.{Judged, accepted, refused, mapJudged}
 use Rattle.format.specs.Refusals.{numberOf}
 use Rattle.format.specs.Walk.{walkFrom}
-use Rattle.format.specs.declared.Place.{Place}
 use Rattle.reading.specs.Cursors.{Inside, partOf}
 use Rattle.reading.specs.declared.Cursor.{Cursor}
 use Rattle.walk.specs.Sections.{seenOf}
@@ -18,10 +17,6 @@ use Rattle.branches.specs.declared.sections.Sought.{Sought}
 use Rattle.branches.specs.declared.sections.Sought.the-variants.{Found, Refused}
 use Rattle.branches.specs.declared.sections.Spot.{Spot}
 use Rattle.branches.specs.declared.sections.Spot.the-variants.{Nowhere, At}
-
--- the cursor over a place
-abbrev pub cursorOver : Place → Cursor
-cursorOver p = record { at = p .offset .0; end = p .offset .0 + p .length }
 
 abbrev pub spotOf : List ℕ → Spot → Option Part
 spotOf m Nowhere = none

@@ -6,7 +6,6 @@ use Rattle.format.specs.Older.{times}
 use Rattle.format.specs.Parts.{sized}
 use Rattle.format.specs.Reading.{Judged, accepted, refused}
 use Rattle.format.specs.Refusals.{numberOf}
-use Rattle.format.specs.declared.Reason.{Reason}
 use Rattle.reading.specs.Cursors.{partOf}
 use Rattle.reading.specs.Standing.{Stands}
 use Rattle.reading.specs.declared.Cursor.{Cursor}
@@ -17,9 +16,6 @@ use Rattle.branches.specs.Laws.Hints.{RisingHints}
 use Rattle.branches.specs.Seats.{seatAt}
 use Rattle.branches.specs.declared.hints.Sat.{Sat}
 use Rattle.branches.specs.declared.hints.Sat.the-variants.{Behind, Refused}
-
-abbrev pub satRefused : Reason → ℕ → Sat
-satRefused reason at = Refused (record { reason = reason; offset = record { 0 = at } })
 
 -- so many hints that were accepted stand there, with rising offsets
 pub record Ready (s : List ℕ) (rows : Cursor) (n : ℕ) : Type 0 where

@@ -4,7 +4,7 @@ ghost use Rattle.branches.specs.Reads.{Reads};
 ghost use Rattle.branches.specs.Lists.{passBodies, JudgesBodies, Kept, PassesTo, Looks};
 use crate::reads::Read;
 use crate::reads::number_read;
-use format::Offset;
+use crate::reads::refusal;
 use format::Reason;
 use format::Refusal;
 use reading::Cursor;
@@ -62,10 +62,7 @@ pub fn bodies_in(c: Cursor, s: &[u8]) -> BodiesRead
             Read::Refused(r) => BodiesRead::Refused(r),
             Read::Value(_, behind) => {
                 if behind.at < behind.end {
-                    return BodiesRead::Refused(Refusal {
-                        reason: Reason::LeftOver,
-                        offset: Offset(behind.at),
-                    });
+                    return BodiesRead::Refused(refusal(Reason::LeftOver, behind.at));
                 }
                 BodiesRead::All(first, n)
             }

@@ -1,13 +1,12 @@
 // The functions of an accepted hint payload, beside the bodies: both go forward, each once.
-ghost use mathlib.Core.Path.{_≡_};
-ghost use Rattle.branches.specs.Functions.{Opened, Turns, turnRefused, Listed, Checks};
+ghost use Rattle.branches.specs.Functions.{Opened, Turns, Listed, Checks};
 ghost use Rattle.branches.specs.Lists.{Kept};
 use crate::bodies::Bodies;
 use crate::bodies::Looked;
 use crate::bodies::body_of;
 use crate::hints::Sat;
 use crate::hints::hints_in;
-use format::Offset;
+use crate::reads::refusal;
 use format::Reason;
 use format::Refusal;
 use format::Verdict;
@@ -18,15 +17,6 @@ use reading::again::number_here;
 enum Turned {
     Behind(Cursor, Bodies),
     Refused(Refusal),
-}
-
-fn refused(reason: Reason, at: usize) -> Turned
-    ensures { λ r. ⌜ r ≡ turnRefused reason at ⌝ }
-{
-    Turned::Refused(Refusal {
-        reason,
-        offset: Offset(at),
-    })
 }
 
 // One function and its hints. Without hints its body is not looked for.
@@ -44,7 +34,7 @@ fn one_function(next: Cursor, bodies: Bodies, s: &[u8]) -> Turned
         return Turned::Behind(rows, bodies);
     }
     match body_of(bodies, function.value, s) {
-        Looked::Nowhere => refused(Reason::NoBody, at),
+        Looked::Nowhere => Turned::Refused(refusal(Reason::NoBody, at)),
         Looked::Body(body, left) => match hints_in(rows, n, body, s) {
             Sat::Refused(r) => Turned::Refused(r),
             Sat::Behind(after) => Turned::Behind(after, left),

@@ -1,11 +1,10 @@
 // The hints of one function, in the order of their offsets, beside its body.
 ghost use Prim.Native.Nat.{_≤_, _<_};
-ghost use mathlib.Core.Path.{_≡_};
 ghost use Rattle.reading.specs.Cursors.{Inside};
-ghost use Rattle.branches.specs.Sitting.{Ready, satRefused, SitsFrom, SitsIn};
+ghost use Rattle.branches.specs.Sitting.{Ready, SitsFrom, SitsIn};
+use crate::reads::refusal;
 use crate::seats::Reach;
 use crate::seats::go_to;
-use format::Offset;
 use format::Reason;
 use format::Refusal;
 use instructions::Way;
@@ -18,15 +17,6 @@ use reading::again::part_here;
 pub enum Sat {
     Behind(Cursor),
     Refused(Refusal),
-}
-
-fn refused(reason: Reason, at: usize) -> Sat
-    ensures { λ r. ⌜ r ≡ satRefused reason at ⌝ }
-{
-    Sat::Refused(Refusal {
-        reason,
-        offset: Offset(at),
-    })
 }
 
 // So many hints, from the first instruction of a body on: instructions and hints go forward together.
@@ -45,10 +35,10 @@ fn hints_from(rows: Cursor, n: u32, base: usize, code: Cursor, s: &[u8]) -> Sat
         let hint = part_here(offset.next, s);
         match go_to(here, base, offset.value, s) {
             Reach::Unreadable => {
-                return refused(Reason::NotReadable, at);
+                return Sat::Refused(refusal(Reason::NotReadable, at));
             }
             Reach::Elsewhere => {
-                return refused(Reason::NotOnBranch, at);
+                return Sat::Refused(refusal(Reason::NotOnBranch, at));
             }
             Reach::At(there) => {
                 here = there;
@@ -68,7 +58,7 @@ pub fn hints_in(rows: Cursor, n: u32, body: Cursor, s: &[u8]) -> Sat
     ensures { λ r. ⌜ SitsIn (now (s .entry)) rows n body r ⌝ }
 {
     match locals(body, s) {
-        Way::Unreadable => refused(Reason::NotReadable, rows.at),
+        Way::Unreadable => Sat::Refused(refusal(Reason::NotReadable, rows.at)),
         Way::Behind(code) => hints_from(rows, n, body.at, code, s),
     }
 }

@@ -6,8 +6,7 @@ ghost use Rattle.branches.specs.Reads.{Reads, Counts};
 use crate::reads::Read;
 use crate::reads::byte_read;
 use crate::reads::number_read;
-use crate::reads::refused;
-use format::Offset;
+use crate::reads::refusal;
 use format::Reason;
 use format::Refusal;
 use reading::Cursor;
@@ -56,7 +55,7 @@ fn limits_read(c: Cursor, s: &[u8]) -> Read
         Read::Refused(r) => Read::Refused(r),
         Read::Value(flag, next) => {
             if BOUNDED < flag {
-                return refused(Reason::NotImport, at);
+                return Read::Refused(refusal(Reason::NotImport, at));
             }
             bounds_read(next, s, flag)
         }
@@ -126,7 +125,7 @@ fn kind_read(c: Cursor, s: &[u8]) -> Read
         Read::Refused(r) => Read::Refused(r),
         Read::Value(kind, next) => {
             if GLOBAL < kind {
-                return refused(Reason::NotImport, at);
+                return Read::Refused(refusal(Reason::NotImport, at));
             }
             Read::Value(kind, next)
         }
@@ -200,10 +199,7 @@ pub fn imports_in(c: Cursor, s: &[u8]) -> Counted
         Read::Refused(r) => Counted::Refused(r),
         Read::Value(functions, next) => {
             if next.at < next.end {
-                return Counted::Refused(Refusal {
-                    reason: Reason::LeftOver,
-                    offset: Offset(next.at),
-                });
+                return Counted::Refused(refusal(Reason::LeftOver, next.at));
             }
             Counted::Functions(functions)
         }

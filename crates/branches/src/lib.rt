@@ -1,6 +1,4 @@
 // K6: whether every branch hint of a module sits on br_if or if. The call takes any bytes.
-ghost use Prim.Native.Nat.{_+_, _≤_};
-ghost use lib.ListN.{length};
 ghost use mathlib.Core.Path.{_≡_};
 ghost use Rattle.format.specs.Questions.{answered, asPlace};
 ghost use Rattle.format.specs.Verdicts.{verdictOf};
@@ -11,7 +9,6 @@ ghost use Rattle.branches.specs.Functions.{Listed};
 ghost use Rattle.branches.specs.Lists.{AllBodies};
 ghost use Rattle.branches.specs.Promises.{branches-hints-on-branches};
 ghost use Rattle.branches.specs.Reads.{counted};
-ghost use Rattle.branches.specs.Sections.{cursorOver};
 use crate::bodies::Bodies;
 use crate::bodies::BodiesRead;
 use crate::bodies::bodies_in;
@@ -24,7 +21,6 @@ use crate::sections::Sought;
 use crate::sections::Spot;
 use crate::sections::contents_of;
 use format::Answer;
-use format::Place;
 use format::Verdict;
 use reading::Cursor;
 use tables::Item;
@@ -44,17 +40,6 @@ fn hint_section(m: &[u8]) -> Answer
     ensures { λ r. ⌜ answered r ≡ asPlace (customPayload hintSection (now (m .entry))) ⌝ }
 {
     walk::custom_joined(m, &METADATA, &BRANCH_HINT)
-}
-
-// The cursor over a payload that lies in `m`.
-fn over(m: &[u8], place: Place) -> Cursor
-    requires { ⌜ place .offset .0 + place .length ≤ length (now m) ⌝ }
-    ensures { λ r. ⌜ r ≡ cursorOver place ⌝ }
-{
-    let offset = place.offset;
-    let at = offset.0;
-    let end = at + place.length;
-    Cursor { at, end }
 }
 
 // How many functions are imported: without an import section none.
@@ -119,6 +104,11 @@ pub fn hints_on_branches(m: &[u8]) -> Verdict
     match hint_section(m) {
         Answer::Refused(r) => Verdict::Refused(r),
         Answer::None => Verdict::Accepted,
-        Answer::Found(place) => on_branches(m, over(m, place)),
+        Answer::Found(place) => {
+            let offset = place.offset;
+            let at = offset.0;
+            let end = at + place.length;
+            on_branches(m, Cursor { at, end })
+        }
     }
 }

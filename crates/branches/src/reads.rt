@@ -3,7 +3,7 @@ ghost use mathlib.Core.Path.{_≡_};
 ghost use Rattle.format.specs.Numbers.{number};
 ghost use Rattle.reading.specs.Cursors.{Inside};
 ghost use Rattle.branches.specs.Imports.{byte};
-ghost use Rattle.branches.specs.Reads.{Reads, refusedWith};
+ghost use Rattle.branches.specs.Reads.{Reads, refusalWith};
 use format::Offset;
 use format::Reason;
 use format::Refusal;
@@ -17,13 +17,13 @@ pub enum Read {
     Refused(Refusal),
 }
 
-pub fn refused(reason: Reason, at: usize) -> Read
-    ensures { λ r. ⌜ r ≡ refusedWith reason at ⌝ }
+pub fn refusal(reason: Reason, at: usize) -> Refusal
+    ensures { λ r. ⌜ r ≡ refusalWith reason at ⌝ }
 {
-    Read::Refused(Refusal {
+    Refusal {
         reason,
         offset: Offset(at),
-    })
+    }
 }
 
 pub fn number_read(c: Cursor, s: &[u8]) -> Read
@@ -44,7 +44,7 @@ pub fn byte_read(c: Cursor, s: &[u8]) -> Read
     let at = c.at;
     let end = c.end;
     if end <= at {
-        return refused(Reason::PastItsPart, at);
+        return Read::Refused(refusal(Reason::PastItsPart, at));
     }
     Read::Value(wide(s[at]), Cursor { at: at + 1, end })
 }

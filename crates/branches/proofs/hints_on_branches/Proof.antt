@@ -14,8 +14,8 @@ enum-told c = search branch-checks
 enum-known-place : tie.Need-enum-known-place
 enum-known-place c = search branch-checks
 
-over-requires : tie.Need-over-requires
-over-requires c κs = search branch-checks
+add-end : tie.Need-add-end
+add-end c = search branch-checks
 
 on-branches-requires : tie.Need-on-branches-requires
 on-branches-requires c κs = search branch-checks
@@ -30,4 +30,4 @@ returns-3 : tie.Need-returns-3
 returns-3 c = search branch-checks
 
 pub hints-on-branches-spec : {M : Type 1} → statement M
-hints-on-branches-spec = tie.close (tie.spec hint-section-requires enum-known-r enum-told enum-known-place over-requires on-branches-requires returns returns-2 returns-3)
+hints-on-branches-spec = tie.close (tie.spec hint-section-requires enum-known-r enum-told enum-known-place add-end on-branches-requires returns returns-2 returns-3)

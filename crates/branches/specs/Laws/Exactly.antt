@@ -1,21 +1,21 @@
 -- The readers of a body's pieces read exactly what the grammar has.
-use Prim.Native.Nat.{ℕ, zero, suc, _+_, _-_, _*_, _^_, _≤_, _<_}
-use mathlib.Core.Bool.{true, _&&_, _||_}
+use Prim.Native.Nat.{ℕ, zero, suc, _+_, _-_, _*_, _≤_, _<_}
+use mathlib.Core.Bool.{true}
 use mathlib.Core.List.{List, [], _∷_, _++_, append-assoc, append-nil}
 use mathlib.Core.Path.{_≡_, refl, sym, ap, _∙_}
 use native.Mathlib.Nat.{le-trans}
 use native.Mathlib.Omega.{arith}
-use borrow.Author.Tests.{ltb-true, ltb-false, leb-true, leb-false, eqb-true, le-leb, lt-leb, lt-ltb, le-ltb, eq-eqb, ne-eqb}
+use borrow.Author.Tests.{ltb-true, ltb-false, leb-true, eqb-true, le-leb, lt-leb, lt-ltb, le-ltb, eq-eqb, ne-eqb}
 use lib.Dec.{ltb, leb, eqb}
-use lib.ListN.{length, take, drop, length-append, take-append-drop}
+use lib.ListN.{length, take, length-append, take-append-drop}
 use lib.Pow.{pow-mono}
 use lib.Seq.{length-take-le, drop-append-seam}
 use Rattle.format.specs.Bytes.{Bytes}
 use Rattle.format.specs.Numbers.{number, limit32}
 use Rattle.format.specs.Reading.{got, Reader, andThen, return}
-use Rattle.format.specs.Laws.Outcomes.{not-got, got-value, got-next, got-rest, byTest, onBoth, inTurn, passed}
+use Rattle.format.specs.Laws.Outcomes.{not-got, got-next, got-rest, byTest, onBoth, inTurn, passed}
 use Rattle.grammar.specs.Numbers.{Grammar, U32}
-use Rattle.grammar.specs.Older.{Times, noMore, oneMore, Vector, vector}
+use Rattle.grammar.specs.Older.{Times, noMore, oneMore, vector}
 use Rattle.grammar.specs.Laws.Exact.{Stretch, left-bytes, Accepts, Exact, exact-for}
 use Rattle.grammar.specs.Laws.Numbers.{number-sound, number-complete}
 use Rattle.instructions.specs.Immediates as Read

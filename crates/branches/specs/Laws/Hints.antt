@@ -1,8 +1,8 @@
 -- The hints of an accepted payload are read again with their places: the same functions and offsets, both rising.
 use Prim.Native.Nat.{ℕ, zero, suc, _≤_}
 use mathlib.Core.List.{List, [], _∷_}
-use mathlib.Core.Path.{_≡_, refl, ap, ap₂, _∙_}
-use Rattle.format.specs.Metadata.{hintOf, hintItem, metadata, judgeMetadata}
+use mathlib.Core.Path.{_≡_, refl, ap₂, _∙_}
+use Rattle.format.specs.Metadata.{hintItem, metadata, judgeMetadata}
 use Rattle.format.specs.Numbers.{number}
 use Rattle.format.specs.Older.{times, vector}
 use Rattle.format.specs.Parts.{Part, sized}

@@ -20,6 +20,9 @@ enum-known-r-2 c = search bodies-steps
 enum-known-behind : tie.Need-enum-known-behind
 enum-known-behind c = search bodies-steps
 
+refusal-requires : tie.Need-refusal-requires
+refusal-requires c κs = search bodies-steps
+
 returns : tie.Need-returns
 returns c = search bodies-steps
 
@@ -33,4 +36,4 @@ returns-4 : tie.Need-returns-4
 returns-4 c = search bodies-steps
 
 pub bodies-in-spec : {M : Type 1} → statement M
-bodies-in-spec = tie.close (tie.spec number-read-requires enum-known-r enum-known-n bodies-read-requires enum-known-r-2 enum-known-behind returns returns-2 returns-3 returns-4)
+bodies-in-spec = tie.close (tie.spec number-read-requires enum-known-r enum-known-n bodies-read-requires enum-known-r-2 enum-known-behind refusal-requires returns returns-2 returns-3 returns-4)

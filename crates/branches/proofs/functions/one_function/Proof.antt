@@ -17,8 +17,8 @@ body-of-requires c κs = search function-steps
 enum-told : tie.Need-enum-told
 enum-told c = search function-steps
 
-refused-requires : tie.Need-refused-requires
-refused-requires c κs = search function-steps
+refusal-requires : tie.Need-refusal-requires
+refusal-requires c κs = search function-steps
 
 enum-known-body : tie.Need-enum-known-body
 enum-known-body c = search function-steps
@@ -42,4 +42,4 @@ returns-4 : tie.Need-returns-4
 returns-4 c = search function-steps
 
 pub one-function-spec : {M : Type 1} → statement M
-one-function-spec = tie.close (tie.spec number-here-requires number-here-requires-2 returns body-of-requires enum-told refused-requires enum-known-body hints-in-requires enum-known-r enum-known-after returns-2 returns-3 returns-4)
+one-function-spec = tie.close (tie.spec number-here-requires number-here-requires-2 returns body-of-requires enum-told refusal-requires enum-known-body hints-in-requires enum-known-r enum-known-after returns-2 returns-3 returns-4)

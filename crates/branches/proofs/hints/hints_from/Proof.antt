@@ -23,8 +23,8 @@ go-to-requires c κs = search sitting
 enum-told : tie.Need-enum-told Inv-loop μ-loop
 enum-told c = search sitting
 
-refused-requires : tie.Need-refused-requires Inv-loop μ-loop
-refused-requires c κs = search sitting
+refusal-requires : tie.Need-refusal-requires Inv-loop μ-loop
+refusal-requires c κs = search sitting
 
 returns : tie.Need-returns Inv-loop μ-loop
 returns c = search sitting
@@ -32,8 +32,8 @@ returns c = search sitting
 enum-told-2 : tie.Need-enum-told-2 Inv-loop μ-loop
 enum-told-2 c = search sitting
 
-refused-requires-2 : tie.Need-refused-requires-2 Inv-loop μ-loop
-refused-requires-2 c κs = search sitting
+refusal-requires-2 : tie.Need-refusal-requires-2 Inv-loop μ-loop
+refusal-requires-2 c κs = search sitting
 
 returns-2 : tie.Need-returns-2 Inv-loop μ-loop
 returns-2 c = search sitting
@@ -54,4 +54,4 @@ returns-3 : tie.Need-returns-3 Inv-loop μ-loop
 returns-3 c = search sitting
 
 pub hints-from-spec : {M : Type 1} → statement M
-hints-from-spec = tie.close (tie.spec Inv-loop μ-loop loop-holds number-here-requires part-here-requires go-to-requires enum-told refused-requires returns enum-told-2 refused-requires-2 returns-2 enum-known-there sub-more loop-less loop-again returns-3)
+hints-from-spec = tie.close (tie.spec Inv-loop μ-loop loop-holds number-here-requires part-here-requires go-to-requires enum-told refusal-requires returns enum-told-2 refusal-requires-2 returns-2 enum-known-there sub-more loop-less loop-again returns-3)

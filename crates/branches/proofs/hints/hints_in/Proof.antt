@@ -8,8 +8,8 @@ locals-requires c κs = search sitting-in
 enum-told : tie.Need-enum-told
 enum-told c = search sitting-in
 
-refused-requires : tie.Need-refused-requires
-refused-requires c κs = search sitting-in
+refusal-requires : tie.Need-refusal-requires
+refusal-requires c κs = search sitting-in
 
 enum-known-code : tie.Need-enum-known-code
 enum-known-code c = search sitting-in
@@ -24,4 +24,4 @@ returns-2 : tie.Need-returns-2
 returns-2 c = search sitting-in
 
 pub hints-in-spec : {M : Type 1} → statement M
-hints-in-spec = tie.close (tie.spec locals-requires enum-told refused-requires enum-known-code hints-from-requires returns returns-2)
+hints-in-spec = tie.close (tie.spec locals-requires enum-told refusal-requires enum-known-code hints-from-requires returns returns-2)

@@ -11,8 +11,8 @@ enum-known-r c = search limits-steps
 enum-known-kind : tie.Need-enum-known-kind
 enum-known-kind c = search limits-steps
 
-refused-requires : tie.Need-refused-requires
-refused-requires c κs = search limits-steps
+refusal-requires : tie.Need-refusal-requires
+refusal-requires c κs = search limits-steps
 
 returns : tie.Need-returns
 returns c = search limits-steps
@@ -24,4 +24,4 @@ returns-3 : tie.Need-returns-3
 returns-3 c = search limits-steps
 
 pub kind-read-spec : {M : Type 1} → statement M
-kind-read-spec = tie.close (tie.spec byte-read-requires enum-known-r enum-known-kind refused-requires returns returns-2 returns-3)
+kind-read-spec = tie.close (tie.spec byte-read-requires enum-known-r enum-known-kind refusal-requires returns returns-2 returns-3)

@@ -11,8 +11,8 @@ enum-known-r c = search limits-steps
 enum-known-flag : tie.Need-enum-known-flag
 enum-known-flag c = search limits-steps
 
-refused-requires : tie.Need-refused-requires
-refused-requires c κs = search limits-steps
+refusal-requires : tie.Need-refusal-requires
+refusal-requires c κs = search limits-steps
 
 returns : tie.Need-returns
 returns c = search limits-steps
@@ -27,4 +27,4 @@ returns-3 : tie.Need-returns-3
 returns-3 c = search limits-steps
 
 pub limits-read-spec : {M : Type 1} → statement M
-limits-read-spec = tie.close (tie.spec byte-read-requires enum-known-r enum-known-flag refused-requires returns bounds-read-requires returns-2 returns-3)
+limits-read-spec = tie.close (tie.spec byte-read-requires enum-known-r enum-known-flag refusal-requires returns bounds-read-requires returns-2 returns-3)
