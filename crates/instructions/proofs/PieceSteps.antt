@@ -1,7 +1,7 @@
 -- What the pieces of immediates do with what they read.
 use Prim.Native.Nat.{ℕ, zero, suc, _+_, _-_, _≤_, _<_}
 use mathlib.Core.Bool.{Bool, true, false}
-use mathlib.Core.List.{List, _∷_}
+use mathlib.Core.List.{List}
 use mathlib.Core.Path.{_≡_, refl, sym, _∙_}
 use native.Mathlib.Numerals.{add-one}
 use native.Mathlib.Omega.{arith}
@@ -9,16 +9,15 @@ use borrow.Author.Needs.{needs}
 use borrow.Author.Tests.{le-leb, lt-leb, le-ltb, lt-ltb}
 use denote.Enum.Declared.{tagOf}
 use lib.ListN.{length, getD}
-use lib.Seq.{slice, length-slice, drop-drop}
+use lib.Seq.{slice}
 use Rattle.format.specs.Reading.{got, Reader, andThen}
-use Rattle.format.specs.Numbers.{number}
 use Rattle.reading.specs.Cursors.{Inside, left, NumberReads}
 use Rattle.reading.specs.declared.Cursor.{Cursor}
 use Rattle.reading.specs.declared.NumberRead.{NumberRead}
 use Rattle.reading.specs.declared.NumberRead.the-variants.{Value}
 use Rattle.reading.proofs.NumberRead as number-type
 use Rattle.reading.proofs.Laws.{number-means, number-end, number-inside, number-moves, nothing-left, something-left}
-use Rattle.instructions.specs.Immediates.{isOf, byteOf, bytes, index, indices, signed}
+use Rattle.instructions.specs.Immediates.{isOf, byteOf, index, indices, signed}
 use Rattle.instructions.specs.Ways.{passing, Goes, bytesOn}
 use Rattle.instructions.specs.declared.pieces.ByteKind.{ByteKind}
 use Rattle.instructions.specs.declared.Way.{Way}

@@ -2,11 +2,10 @@
 use Prim.Native.Nat.{ℕ}
 use mathlib.Core.List.{List}
 use mathlib.Core.Path.{_≡_, refl, sym, ap, _∙_}
-use native.Mathlib.Omega.{arith}
 use Rattle.format.specs.Reading.{Reader}
 use Rattle.reading.specs.declared.Cursor.{Cursor}
 use Rattle.reading.proofs.Same.{same-cursor}
-use Rattle.instructions.specs.Ways.{behind, unreadable, Goes}
+use Rattle.instructions.specs.Ways.{behind, Goes}
 use Rattle.instructions.specs.declared.Way.{Way}
 use Rattle.instructions.specs.declared.Way.the-variants.{Behind, Unreadable}
 use Rattle.instructions.proofs.WayLaws.{not-behind}

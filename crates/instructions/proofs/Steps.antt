@@ -1,6 +1,6 @@
 -- One instruction: its opcode, and the immediates of its shape.
-use Prim.Native.Nat.{ℕ, _+_, _-_, _≤_, _<_}
-use mathlib.Core.Bool.{Bool, cond}
+use Prim.Native.Nat.{ℕ, _-_, _≤_, _<_}
+use mathlib.Core.Bool.{Bool}
 use mathlib.Core.List.{List, [], _∷_}
 use mathlib.Core.Path.{_≡_, refl, ap, _∙_}
 use native.Mathlib.Numerals.{add-one}
@@ -9,10 +9,10 @@ use borrow.Author.Needs.{needs}
 use borrow.Author.Tests.{leb-true}
 use denote.Enum.Declared.{tagOf}
 use lib.Dec.{leb}
-use lib.ListN.{length, getD}
+use lib.ListN.{getD}
 use lib.Seq.{length-slice, drop-drop}
 use Rattle.format.specs.Laws.Outcomes.{byTest}
-use Rattle.reading.specs.Cursors.{Inside, left, NumberReads}
+use Rattle.reading.specs.Cursors.{Inside, NumberReads}
 use Rattle.reading.specs.declared.Cursor.{Cursor}
 use Rattle.reading.specs.declared.NumberRead.{NumberRead}
 use Rattle.reading.specs.declared.NumberRead.the-variants.{Value}

@@ -2,7 +2,7 @@
 use Prim.Native.Nat.{ℕ, _≤_}
 use mathlib.Core.Bool.{Bool}
 use mathlib.Core.List.{List}
-use mathlib.Core.Path.{_≡_, refl, sym, ap, _∙_}
+use mathlib.Core.Path.{_≡_, refl, sym, _∙_}
 use native.Mathlib.Omega.{arith}
 use denote.Enum.Declared.{tagOf}
 use Rattle.format.specs.Reading.{Outcome, got, stop, Reader, andThen}
@@ -12,7 +12,7 @@ use Rattle.reading.specs.declared.Cursor.{Cursor}
 use Rattle.reading.specs.declared.NumberRead.{NumberRead}
 use Rattle.reading.specs.declared.NumberRead.the-variants.{Value, Refused as NoNumber}
 use Rattle.reading.proofs.NumberRead as number-type
-use Rattle.reading.proofs.Laws.{number-means, number-inside, number-end, number-moves}
+use Rattle.reading.proofs.Laws.{number-means, number-end, number-moves}
 use Rattle.instructions.specs.Ways.{behind, unreadable, passing, wayEnd, Goes}
 use Rattle.instructions.specs.declared.Way.{Way}
 use Rattle.instructions.specs.declared.Way.the-variants.{Behind, Unreadable}

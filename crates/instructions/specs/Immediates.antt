@@ -1,7 +1,7 @@
 -- K6. One instruction: an opcode, and the immediates of its shape (core specification 1.0, 5.4). What version 1.0 cannot read is a stop, whatever its number and offset. Reading is not validation. Assumes nothing.
 use Prim.Native.Nat.{ℕ, zero, suc}
 use mathlib.Core.Bool.{Bool, cond, _&&_, _||_}
-use mathlib.Core.List.{List, [], _∷_}
+use mathlib.Core.List.{[], _∷_}
 use lib.Dec.{ltb, leb, eqb}
 use Rattle.format.specs.Reading.{_>>=_, _>>_, got, Reader, return, here, refuse, checked}
 use Rattle.format.specs.Numbers.{number}

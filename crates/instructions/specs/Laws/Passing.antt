@@ -5,7 +5,7 @@ use mathlib.Core.Path.{_≡_}
 use borrow.Author.Tests.{leb-true}
 use lib.Dec.{ltb, leb}
 use lib.ListN.{length}
-use Rattle.format.specs.Reading.{got, checked}
+use Rattle.format.specs.Reading.{got}
 use Rattle.format.specs.Numbers.{number, limit32}
 use Rattle.format.specs.Laws.Outcomes.{not-got, got-next, got-rest, byTest, inTurn, passed}
 use Rattle.format.specs.Laws.Passing.{Passes, number-passes, drop-passes}
