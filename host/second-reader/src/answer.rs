@@ -141,7 +141,8 @@ pub enum Reason {
     TooLate = 8,
     /// A subsection id is not above the one before.
     SubsectionOrder = 9,
-    /// Bytes are left over in a subsection, in metadata or in hints.
+    /// Bytes are left over in a subsection, in metadata, in hints, or behind a list of imports or of
+    /// bodies.
     LeftOver = 10,
     /// An index or offset is not above the one before.
     NotAscending = 11,
@@ -160,11 +161,19 @@ pub enum Reason {
     NotZero = 17,
     /// A part or a finish of a stream comes after its finish.
     AfterFinish = 18,
+    /// A function that has hints has no body in the module.
+    NoBody = 19,
+    /// The locals, or an instruction that begins before a hinted place, cannot be read by version 1.0.
+    UnreadableCode = 20,
+    /// No `br_if` and no `if` begins at a hinted place.
+    NotOnABranch = 21,
     /// The lists that the quick question is given are of unequal length, have an end outside the
     /// payload, do not rise, or do not stay below the end.
     NotMarkers = 22,
     /// A part takes the total of a stream above 18,446,744,073,709,551,615 bytes.
     StreamTooLong = 28,
+    /// The kind of an import is above 3, or the flag of its limits above 1.
+    UnknownImport = 29,
 }
 
 impl Reason {

@@ -27,8 +27,10 @@
 #![warn(missing_docs)]
 
 mod answer;
+mod branches;
 mod canonical;
 mod edition;
+mod instructions;
 mod lists;
 mod markers;
 mod metadata;
@@ -46,6 +48,7 @@ mod wide;
 mod writing;
 
 pub use answer::{Answer, Kind, PairAnswer, Place, Reason, StreamAnswer, Whose, Why};
+pub use branches::hints_on_branches;
 pub use canonical::{hints_canonical, metadata_canonical, names_canonical, wide_names_canonical};
 pub use lists::function_names_write;
 pub use markers::{markers, quick_function_name};

@@ -6,7 +6,10 @@ use crate::reading::Part;
 const PREAMBLE: [u8; 8] = [0x00, 0x61, 0x73, 0x6D, 0x01, 0x00, 0x00, 0x00];
 
 const CUSTOM: u8 = 0;
-const CODE: u8 = 10;
+/// The id of the section with the list of imports.
+pub(crate) const IMPORT: u8 = 2;
+/// The id of the section with the bodies of functions.
+pub(crate) const CODE: u8 = 10;
 const DATA: u8 = 11;
 
 /// The ids that are not custom, in the order in which their sections stand: tag (13) behind memory,
@@ -73,6 +76,18 @@ pub(crate) fn payload_of(
         }
     }
     Ok(first)
+}
+
+/// The contents of the section with an id that is not custom, of which there is at most one.
+pub(crate) fn contents_of(module: &[u8], id: u8) -> Result<Option<Part<'_>>, Refusal> {
+    let mut found = None;
+    for section in Sections::of(module)? {
+        let section = section?;
+        if section.id == id {
+            found = Some(section.contents);
+        }
+    }
+    Ok(found)
 }
 
 struct Section<'a> {

@@ -154,6 +154,8 @@ fn numbers() {
     assert_eq!(Reason::Preamble as u32, 1);
     assert_eq!(Reason::InputTooLarge as u32, 16);
     assert_eq!(Reason::AfterFinish as u32, 18);
+    assert_eq!(Reason::NotOnABranch as u32, 21);
     assert_eq!(Reason::NotMarkers as u32, 22);
     assert_eq!(Reason::StreamTooLong as u32, 28);
+    assert_eq!(Reason::UnknownImport as u32, 29);
 }
