@@ -2,7 +2,7 @@
 
 use std::collections::BTreeMap;
 
-use crate::spelling::{number, sized, unpadded, Padding, LONGEST_NUMBER};
+use crate::spelling::{number, sized, unpadded, with_one_padded, Padding};
 use crate::tally::KEYS;
 
 /// Rising numbers, each with a sized part: a name map, or the items of a function.
@@ -71,27 +71,7 @@ pub trait Held: Sized {
 
     /// Every payload in which one number is padded, and every other is in its fewest bytes.
     fn with_one_padded(&self) -> Vec<Vec<u8>> {
-        let mut numbers = vec![];
-        self.spelled(&mut |fewest| {
-            numbers.push(fewest);
-            0
-        });
-        let mut payloads = vec![];
-        for (place, fewest) in numbers.into_iter().enumerate() {
-            for more in 1..=LONGEST_NUMBER - fewest {
-                payloads.push(self.spelled(&mut padded_at(place, more)));
-            }
-        }
-        payloads
-    }
-}
-
-/// Pads the number at one place, counted from 0 as they are spelled.
-fn padded_at(place: usize, more: usize) -> impl FnMut(usize) -> usize {
-    let mut places = 0..;
-    move |_| match places.next() == Some(place) {
-        true => more,
-        false => 0,
+        with_one_padded(|padding| self.spelled(padding))
     }
 }
 

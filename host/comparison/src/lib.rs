@@ -5,6 +5,7 @@
 
 #![deny(missing_docs)]
 
+pub mod code;
 pub mod fixtures;
 pub mod guarded;
 pub mod held;

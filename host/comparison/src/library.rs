@@ -293,6 +293,7 @@ questions! {
     metadata = wm_metadata(function: u32, offset: u32) -> Told;
     hint = wm_hint(function: u32, offset: u32) -> Told;
     hint_in = wm_hint_in(function: u32, offset: u32) -> Told;
+    hints_on_branches = wm_hints_on_branches() -> Told;
     old_hints_judge = wm_old_hints_judge() -> Told;
     old_hint = wm_old_hint(function: u32, offset: u32) -> Told;
     old_hint_in = wm_old_hint_in(function: u32, offset: u32) -> Told;

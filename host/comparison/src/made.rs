@@ -7,6 +7,10 @@ use crate::random::Random;
 use crate::spelling::{self, LONGEST_NUMBER};
 use crate::tally::KEYS;
 
+mod code;
+
+pub use code::coded;
+
 /// Text of each length that a character can have, and none.
 const TEXTS: [&str; 7] = ["", "a", "main", "é", "漢", "🦀x", "core::fmt::write"];
 
@@ -34,11 +38,6 @@ fn at_random(r: &mut Random) -> impl FnMut(usize) -> usize + '_ {
         true => r.below(LONGEST_NUMBER - fewest + 1),
         false => 0,
     }
-}
-
-/// A part with its size before it, which may be padded.
-fn sized(r: &mut Random, contents: &[u8]) -> Vec<u8> {
-    spelling::sized(contents, &mut at_random(r))
 }
 
 fn text(r: &mut Random) -> Vec<u8> {
@@ -174,16 +173,12 @@ pub fn old_hints(r: &mut Random) -> Vec<u8> {
 }
 
 fn custom(r: &mut Random, name: &[u8], payload: &[u8]) -> Vec<u8> {
-    let mut contents = sized(r, name);
-    contents.extend(payload);
-    let mut section = vec![0];
-    section.extend(sized(r, &contents));
-    section
+    spelling::custom(name, payload, &mut at_random(r))
 }
 
 /// A module with names, hints of each edition and other sections, in an order that the rules allow.
 pub fn module(r: &mut Random) -> Vec<u8> {
-    let mut m = b"\0asm\x01\0\0\0".to_vec();
+    let mut m = spelling::PREAMBLE.to_vec();
     let with_hints = r.once_in(2);
     let with_old_hints = r.once_in(2);
     for id in [1, 2, 3, 4, 5, 13, 6, 7, 8, 9, 12, 10, 11] {
@@ -196,9 +191,8 @@ pub fn module(r: &mut Random) -> Vec<u8> {
             m.extend(custom(r, b"branchHints", &payload));
         }
         if r.once_in(3) {
-            m.push(id);
             let contents = bytes(r, 4);
-            m.extend(sized(r, &contents));
+            m.extend(spelling::section(id, &contents, &mut at_random(r)));
         }
         if r.once_in(5) {
             let payload = metadata(r, false);
@@ -212,6 +206,12 @@ pub fn module(r: &mut Random) -> Vec<u8> {
     let payload = names(r);
     m.extend(custom(r, b"name", &payload));
     m
+}
+
+/// A module with code and hints on it, of which some numbers are padded.
+pub fn coded_module(r: &mut Random) -> Vec<u8> {
+    let coded = coded(r);
+    coded.spelled(&mut at_random(r))
 }
 
 /// Three lists that agree, or almost.

@@ -1,4 +1,7 @@
-//! Numbers and sized parts as bytes: in the fewest, or padded.
+//! Numbers, sized parts and sections as bytes: in the fewest, or padded.
+
+/// What every module begins with.
+pub const PREAMBLE: &[u8] = b"\0asm\x01\0\0\0";
 
 /// The most bytes that a number takes.
 pub const LONGEST_NUMBER: usize = 5;
@@ -38,4 +41,43 @@ pub fn sized(contents: &[u8], padding: Padding<'_>) -> Vec<u8> {
     let mut bytes = number(contents.len() as u32, padding);
     bytes.extend(contents);
     bytes
+}
+
+/// A section.
+pub fn section(id: u8, contents: &[u8], padding: Padding<'_>) -> Vec<u8> {
+    let mut bytes = vec![id];
+    bytes.extend(sized(contents, padding));
+    bytes
+}
+
+/// A custom section of a name.
+pub fn custom(name: &[u8], payload: &[u8], padding: Padding<'_>) -> Vec<u8> {
+    let mut contents = sized(name, padding);
+    contents.extend(payload);
+    section(0, &contents, padding)
+}
+
+/// Every spelling in which one number is padded, and every other is in its fewest bytes.
+pub fn with_one_padded(spelled: impl Fn(Padding<'_>) -> Vec<u8>) -> Vec<Vec<u8>> {
+    let mut numbers = vec![];
+    spelled(&mut |fewest| {
+        numbers.push(fewest);
+        0
+    });
+    let mut all = vec![];
+    for (place, fewest) in numbers.into_iter().enumerate() {
+        for more in 1..=LONGEST_NUMBER - fewest {
+            all.push(spelled(&mut padded_at(place, more)));
+        }
+    }
+    all
+}
+
+/// Pads the number at one place, counted from 0 as they are spelled.
+fn padded_at(place: usize, more: usize) -> impl FnMut(usize) -> usize {
+    let mut places = 0..;
+    move |_| match places.next() == Some(place) {
+        true => more,
+        false => 0,
+    }
 }

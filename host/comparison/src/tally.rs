@@ -78,6 +78,9 @@ pub struct Tally {
     pub pairs_met: BTreeMap<(&'static str, u32, u64), u64>,
     /// How often modules that arrived in parts were to be accepted, which is 0 here, or refused, by the refusal numbers.
     pub streams_met: BTreeMap<u32, u64>,
+    /// How often hints of a module were to be accepted as standing on branches, which is 0 here, or refused, by the
+    /// refusal numbers.
+    pub branches_met: BTreeMap<u32, u64>,
     /// What they said of metadata payloads, by the rules for any format.
     pub metadata_said: Said,
     /// What they said of metadata payloads, by the rules for hints.
@@ -105,6 +108,7 @@ impl Default for Tally {
             wide_met: BTreeMap::new(),
             pairs_met: BTreeMap::new(),
             streams_met: BTreeMap::new(),
+            branches_met: BTreeMap::new(),
             metadata_said: Said::default(),
             hints_said: Said::default(),
             old_said: Said::default(),
@@ -194,6 +198,7 @@ macro_rules! rewrite {
 }
 
 // They stand behind the macros, which they use.
+mod branches;
 mod markers;
 mod older;
 mod pairs;
@@ -322,6 +327,7 @@ impl Tally {
         }
         self.wide_module(m);
         self.old_module(m);
+        self.on_branches(m);
     }
 
     /// How a custom section of a module is judged, put through the module and on its own, with the offset from the
@@ -443,6 +449,14 @@ fn judged_in(m: &[u8], start: usize, through: Told, alone: Judged) -> Judged {
         assert_ne!(through.kind, REFUSED, "only through its module: {m:02X?}");
     }
     judged
+}
+
+/// Each of these numbers was met so often at least.
+fn assert_met(met: &BTreeMap<u32, u64>, wanted: &[u32], least: u64) {
+    for number in wanted {
+        let times = met.get(number).copied().unwrap_or_default();
+        assert!(times >= least, "{number} in {met:?}");
+    }
 }
 
 /// An output of a length, untouched, with guard bytes before it and nothing mapped behind it.

@@ -1,12 +1,13 @@
 //! Inputs that were well formed until something happened to them.
 
+use comparison::code::{Body, Coded};
 use comparison::held::{Contents, Entries, Groups, Held, Names, FIRST, WIDER};
 use comparison::library::{
     FOUND, LIKELY, NONE, NO_ENTRY, NO_GROUP, NO_SUBSECTION, REFUSED, UNLIKELY,
 };
 use comparison::made;
 use comparison::random::{seed, Random};
-use comparison::spelling::{number, sized, unpadded};
+use comparison::spelling::{number, sized, unpadded, with_one_padded, LONGEST_NUMBER};
 use comparison::tally::{Tally, WIDE_QUESTIONS};
 use std::collections::BTreeMap;
 
@@ -183,6 +184,71 @@ fn modules_as_they_arrive() {
     }
     println!("compared {} calls", tally.calls);
     tally.assert_streams_met(&[0, 1, 2, 4, 5, 6], LEAST);
+}
+
+/// Modules with hints on code: damaged at every place, and padded at every place, with hints that follow.
+#[test]
+fn hints_on_branches() {
+    const LEAST: u64 = 20;
+    const ROUNDS: usize = 20;
+    let mut r = Random::new(seed());
+    let mut tally = Tally::default();
+    for _ in 0..ROUNDS {
+        let coded = made::coded(&mut r);
+        let mut others = damaged(&coded.spelled(&mut unpadded));
+        // A number can only be too large where it has all its bytes.
+        others.extend(damaged(
+            &coded.spelled(&mut |fewest| LONGEST_NUMBER - fewest),
+        ));
+        others.extend(with_one_padded(|padding| coded.spelled(padding)));
+        for other in others {
+            tally.on_branches(&other);
+        }
+    }
+    println!("compared {} calls: {:?}", tally.calls, tally.branches_met);
+    let codes = [0, 1, 2, 3, 4, 5, 6, 10, 11, 12, 19, 20, 21, 29];
+    tally.assert_branches_met(&codes, LEAST);
+}
+
+/// The same with the list of bodies one short, one longer at its front, and missing, and with that of imports one short.
+fn of_other_lengths(coded: &Coded) -> [Coded; 4] {
+    let changed = |change: fn(&mut Coded)| {
+        let mut changed = coded.clone();
+        change(&mut changed);
+        changed
+    };
+    [
+        changed(|it| it.bodies = without_last(&it.bodies)),
+        changed(|it| {
+            let bodies = it.bodies.iter_mut();
+            bodies.for_each(|bodies| bodies.insert(0, Body::default()));
+        }),
+        changed(|it| it.bodies = None),
+        changed(|it| it.imports = without_last(&it.imports)),
+    ]
+}
+
+fn without_last<T: Clone>(list: &Option<Vec<T>>) -> Option<Vec<T>> {
+    let (_, rest) = list.as_ref()?.split_last()?;
+    Some(rest.to_vec())
+}
+
+/// Lists of bodies and of imports that have lost or gained one beside hints that stayed as they were.
+#[test]
+fn hints_beside_lists_of_other_lengths() {
+    const ROUNDS: usize = 300;
+    const LEAST: u64 = 50;
+    let mut r = Random::new(seed());
+    let mut tally = Tally::default();
+    for _ in 0..ROUNDS {
+        let coded = made::coded(&mut r);
+        for other in of_other_lengths(&coded) {
+            // The hints that stood on branches still stand on the same instructions.
+            tally.on_branches(&other.spelled(&mut unpadded));
+        }
+    }
+    println!("compared {} calls: {:?}", tally.calls, tally.branches_met);
+    tally.assert_branches_met(&[0, 19, 20, 21], LEAST);
 }
 
 /// What a subsection that the wider edition knows holds, with names under keys that are asked for.

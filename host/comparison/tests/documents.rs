@@ -4,7 +4,8 @@ use comparison::library::{
     self, FOUND, NOBODY, NONE, NO_ENTRY, NO_GROUP, NO_SUBSECTION, OWN, REFUSED, SEPARATE,
 };
 use comparison::markers::Markers;
-use comparison::tally::{Said, Tally};
+use comparison::spelling::{custom, section, unpadded, PREAMBLE};
+use comparison::tally::{Said, Tally, HINTS};
 
 /// The payload P of the examples.
 const P: [u8; 21] = [
@@ -352,6 +353,150 @@ fn old_hint_payloads() {
         .for_each(|payload| tally.old_hints(payload));
     println!("compared {} calls", tally.calls);
     assert_eq!(tally.old_said, said(2, 9));
+}
+
+/// A module that begins with hints, with imports and bodies where there are such sections; and what is said of it: 0, or
+/// the number of the refusal, and its offset.
+fn on_branches(hints: &[u8], imports: Option<&[u8]>, bodies: Option<&[u8]>) -> (u32, u64) {
+    let mut module = PREAMBLE.to_vec();
+    module.extend(custom(HINTS, hints, &mut unpadded));
+    for (id, contents) in [(2, imports), (10, bodies)] {
+        module.extend(contents.map_or(vec![], |contents| section(id, contents, &mut unpadded)));
+    }
+    let told = Tally::default().on_branches(&module);
+    (told.code, told.offset)
+}
+
+/// Where the payload of hints stands in such a module, the function's index in a payload of one hint, and the hint's offset.
+const PAYLOAD_AT: u64 = 36;
+const FUNCTION_AT: u64 = PAYLOAD_AT + 1;
+const OFFSET_AT: u64 = PAYLOAD_AT + 3;
+
+/// A payload of one hint.
+fn one_hint(function: u8, offset: u8) -> [u8; 6] {
+    [1, function, 1, offset, 1, 1]
+}
+
+/// What is said of one hint in a module of one body.
+fn on_body(body: &[u8], offset: u8) -> (u32, u64) {
+    let bodies = [&[1, body.len() as u8], body].concat();
+    on_branches(&one_hint(0, offset), None, Some(&bodies))
+}
+
+/// The readings of which hints sit on a branch: in which order lists are judged, and when.
+#[test]
+fn hints_behind_lists() {
+    let payload = one_hint(0, 1);
+    let contents_at = PAYLOAD_AT + payload.len() as u64 + 2;
+    // the payload, imports, bodies, then the hint
+    let wrong = [1, 0, 1, 1, 1, 2];
+    assert_eq!(
+        on_branches(&wrong, Some(&[]), Some(&[])),
+        (12, OFFSET_AT + 1)
+    );
+    assert_eq!(
+        on_branches(&payload, Some(&[]), Some(&[])),
+        (2, contents_at)
+    );
+    assert_eq!(
+        on_branches(&payload, Some(&[0]), Some(&[])),
+        (2, contents_at + 3)
+    );
+    assert_eq!(
+        on_branches(&payload, Some(&[0]), Some(&[0])),
+        (19, FUNCTION_AT)
+    );
+    // kinds and flags, what is missing, and what is left
+    for (imports, code, at) in [
+        (&[1, 0, 0, 4][..], 29, 3),
+        (&[1, 0, 0], 2, 3),
+        (&[1, 0, 0, 1, 0x70, 2, 1], 29, 5),
+        (&[1, 0, 0, 2, 2, 1], 29, 4),
+        (&[1, 0, 0, 2], 2, 4),
+        (&[1, 0, 0, 2, 1, 1], 2, 6),
+        (&[1, 0, 0, 3, 0xFF], 2, 5),
+        (&[1, 0, 1, 0xFF], 4, 3),
+        (&[0, 0], 10, 1),
+    ] {
+        let said = on_branches(&payload, Some(imports), Some(&[]));
+        assert_eq!(said, (code, contents_at + at), "{imports:02X?}");
+    }
+    // a section without hints has both judged; without the section neither is
+    assert_eq!(on_branches(&[0], Some(&[]), None), (2, PAYLOAD_AT + 3));
+    assert_eq!(on_branches(&[0], None, Some(&[0, 0])), (10, PAYLOAD_AT + 4));
+    assert_eq!(on_branches(&[0], None, None), (0, 0));
+    let without = b"\0asm\x01\0\0\0\x02\x01\xFF\x0A\x01\xFF";
+    assert_eq!(Tally::default().on_branches(without).code, 0);
+}
+
+/// The readings of one hint: its function, the locals, and what stands before it.
+#[test]
+fn hints_on_bodies() {
+    // imported, or no such body; a function without hints is not looked for
+    let one_function = [1, 0, 0, 0, 5];
+    let body = [1, 5, 0x00, 0x04, 0x40, 0x0B, 0x0B];
+    let hint = |function, imports| on_branches(&one_hint(function, 1), imports, Some(&body));
+    assert_eq!(hint(1, Some(&one_function)), (0, 0));
+    assert_eq!(hint(0, Some(&one_function)), (19, FUNCTION_AT));
+    assert_eq!(hint(1, None), (19, FUNCTION_AT));
+    let without_hints = [2, 0, 1, 1, 1, 1, 9, 0];
+    assert_eq!(on_branches(&without_hints, None, Some(&body)), (0, 0));
+    // 21 of function 0 before 19 of function 9
+    let both = [2, 0, 1, 2, 1, 1, 9, 1, 1, 1, 1];
+    assert_eq!(on_branches(&both, None, Some(&body)), (21, OFFSET_AT));
+    let [accepted, unreadable, no_branch] = [(0, 0), (20, OFFSET_AT), (21, OFFSET_AT)];
+    for (body, offset, said) in [
+        // locals that cannot be read, whatever the place
+        (&[0x01, 0x01, 0x7B, 0x0B][..], 0, unreadable),
+        (&[0x01, 0x01, 0x7B, 0x0B], 9, unreadable),
+        (&[], 0, unreadable),
+        // an instruction before the place, and at it
+        (&[0x00, 0x43, 0x00, 0x0D], 3, unreadable),
+        (&[0x00, 0xC0, 0x0D, 0x00, 0x0B], 2, unreadable),
+        (&[0x00, 0xC0, 0x0D, 0x00, 0x0B], 1, no_branch),
+        (&[0x00, 0x04], 1, accepted),
+        // inside locals, inside an instruction, at the end and behind it
+        (&[0x01, 0x04, 0x7F, 0x0B], 1, no_branch),
+        (&[0x00, 0x41, 0x04, 0x0B], 2, no_branch),
+        (&[0x00, 0x0B], 2, no_branch),
+        (&[0x00, 0x0B], 3, no_branch),
+        // a table's number in five bytes, and in one
+        (
+            &[0x00, 0x11, 0x00, 0x80, 0x80, 0x80, 0x80, 0x00, 0x0D, 0x00],
+            8,
+            unreadable,
+        ),
+        (&[0x00, 0x11, 0x00, 0x00, 0x0D, 0x00], 4, accepted),
+        // fifth bytes of a constant
+        (
+            &[0x00, 0x41, 0x80, 0x80, 0x80, 0x80, 0x07, 0x0D],
+            7,
+            accepted,
+        ),
+        (
+            &[0x00, 0x41, 0x80, 0x80, 0x80, 0x80, 0x08, 0x0D],
+            7,
+            unreadable,
+        ),
+        (
+            &[0x00, 0x41, 0x80, 0x80, 0x80, 0x80, 0x77, 0x0D],
+            7,
+            unreadable,
+        ),
+        (
+            &[0x00, 0x41, 0x80, 0x80, 0x80, 0x80, 0x78, 0x0D],
+            7,
+            accepted,
+        ),
+        // an alignment of 127, `else` without `if`, code behind an `end`
+        (
+            &[0x00, 0x28, 0x7F, 0x00, 0x05, 0x0B, 0x0D, 0x00],
+            6,
+            accepted,
+        ),
+    ] {
+        assert_eq!(on_body(body, offset), said, "{body:02X?}");
+    }
 }
 
 #[test]

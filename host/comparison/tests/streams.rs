@@ -4,22 +4,20 @@
 use comparison::guarded::Guarded;
 use comparison::library::{self, Stream, Told, ToldPlace, ToldStream, FOUND, NONE, REFUSED};
 use comparison::random::{seed, Random};
-use comparison::spelling::{number, sized, unpadded};
+use comparison::spelling::{self, number, unpadded, PREAMBLE};
 use comparison::tally::{Tally, HINTS, NAMES, OLD_HINTS};
 use std::mem::size_of;
-
-const PREAMBLE: &[u8] = b"\0asm\x01\0\0\0";
 
 /// The refusal of a part or of a finish after the finish, and of a part that is too many.
 const AFTER_FINISH: u32 = 18;
 const TOO_LONG: u32 = 28;
 
 fn section(id: u8, contents: &[u8]) -> Vec<u8> {
-    [&[id], &sized(contents, &mut unpadded)[..]].concat()
+    spelling::section(id, contents, &mut unpadded)
 }
 
 fn custom(name: &[u8], payload: &[u8]) -> Vec<u8> {
-    section(0, &[&sized(name, &mut unpadded)[..], payload].concat())
+    spelling::custom(name, payload, &mut unpadded)
 }
 
 fn module(sections: &[Vec<u8>]) -> Vec<u8> {

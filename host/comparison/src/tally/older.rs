@@ -1,6 +1,6 @@
 //! Every call of the older edition of hints.
 
-use super::{judged_in, Judged, Tally, FEW_KEYS, OLD_HINTS};
+use super::{assert_met, judged_in, Judged, Tally, FEW_KEYS, OLD_HINTS};
 use crate::library;
 
 /// Puts one question to both readers, and counts how it was answered.
@@ -61,9 +61,6 @@ impl Tally {
 
     /// Each of these ways to answer a question for an older hint was met so often at least.
     pub fn assert_old_met(&self, kinds: &[u32], least: u64) {
-        for kind in kinds {
-            let met = self.old_met.get(kind).copied().unwrap_or_default();
-            assert!(met >= least, "kind {kind}: {:?}", self.old_met);
-        }
+        assert_met(&self.old_met, kinds, least);
     }
 }

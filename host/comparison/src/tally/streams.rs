@@ -1,7 +1,7 @@
 //! Modules as they arrive: cut into parts in many ways, held to the walk over all of them and to the second reader's
 //! answers, and the states that they leave held to each other.
 
-use super::{framed, Tally, GUARD, GUARD_BYTE, HINTS, NAMES, OLD_HINTS};
+use super::{assert_met, framed, Tally, GUARD, GUARD_BYTE, HINTS, NAMES, OLD_HINTS};
 use crate::library::{self, Stream, Told, ToldStream, FOUND, REFUSED};
 use crate::random::Random;
 use std::mem::size_of;
@@ -160,10 +160,7 @@ impl Tally {
 
     /// Modules that arrived were accepted, which is 0 here, and refused with each of these numbers, so often at least.
     pub fn assert_streams_met(&self, codes: &[u32], least: u64) {
-        for code in codes {
-            let met = self.streams_met.get(code).copied().unwrap_or_default();
-            assert!(met >= least, "{code} in {:?}", self.streams_met);
-        }
+        assert_met(&self.streams_met, codes, least);
     }
 }
 
