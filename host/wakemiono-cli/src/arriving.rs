@@ -8,9 +8,11 @@ use std::ops::Range;
 use wakemiono::{Place, Refusal, Section, Stream, Walked};
 
 use crate::edition::Edition;
-use crate::heads::{Head, CUSTOM};
+use crate::excerpt::Excerpt;
+use crate::heads::{Head, CODE, CUSTOM, IMPORT};
 use crate::input::Source;
 use crate::json::Json;
+use crate::payloads::HINTS;
 use crate::refused::Refused;
 use crate::report::Failure;
 use crate::sparse::Sparse;
@@ -28,6 +30,28 @@ const NEAR: u64 = 64;
 /// A module has no more sections than this that are not custom, since each id occurs once.
 const MOST_NOT_CUSTOM: usize = 13;
 
+/// What is kept whole, of each the first.
+#[derive(Clone, Copy, Debug, PartialEq, Eq)]
+pub enum Wanted {
+    /// A custom section of a name.
+    Custom(&'static str),
+    /// The list of imports.
+    Imports,
+    /// The code of a module that has had hints before it. It is wanted once these have come.
+    Code,
+}
+
+impl Wanted {
+    /// Whether a section is this one.
+    fn is(self, id: u8, name: Option<&[u8]>) -> bool {
+        match self {
+            Wanted::Custom(wanted) => name == Some(wanted.as_bytes()),
+            Wanted::Imports => id == IMPORT,
+            Wanted::Code => id == CODE,
+        }
+    }
+}
+
 /// A module that has been read to its end.
 #[derive(Debug)]
 pub struct Arrived<E: Edition> {
@@ -41,11 +65,10 @@ pub struct Arrived<E: Edition> {
 }
 
 impl<E: Edition> Arrived<E> {
-    /// Reads a file, or standard input for `-`, and keeps the payloads of the custom sections of these
-    /// names, of each the first.
-    pub fn read(file: &OsStr, payloads: &[&'static str]) -> Result<Arrived<E>, Failure> {
+    /// Reads a file, or standard input for `-`, and keeps what is wanted.
+    pub fn read(file: &OsStr, wanted: &[Wanted]) -> Result<Arrived<E>, Failure> {
         let source = Source::of(file);
-        let arriving = source.read(|from| Arriving::copied(from, payloads))?;
+        let arriving = source.read(|from| Arriving::copied(from, wanted))?;
         Arrived::of(source, arriving)
     }
 
@@ -72,6 +95,23 @@ impl<E: Edition> Arrived<E> {
         self.kept.get(place.offset..end).ok_or(Failure::Misfit)
     }
 
+    /// The sections that say whether hints stand on branches: imports, the hints, which lie at a place
+    /// that the library has found, and code. They are among what is kept.
+    pub fn of_branches(&self, hints: Place) -> Result<Excerpt, Failure> {
+        let preamble = self.kept.get(0..PREAMBLE_LENGTH).ok_or(Failure::Misfit)?;
+        let mut excerpt = Excerpt::new(preamble);
+        let starts = self.sections.iter().map(|section| section.offset);
+        let ends = starts.skip(1).chain([self.length]);
+        for (section, end) in self.sections.iter().zip(ends) {
+            let has_hints = section.offset < hints.offset && hints.offset <= end;
+            if has_hints || [IMPORT, CODE].contains(&section.id) {
+                let bytes = self.kept.get(section.offset..end);
+                excerpt.take(section.offset, bytes.ok_or(Failure::Misfit)?);
+            }
+        }
+        Ok(excerpt)
+    }
+
     /// What scripts know the input by.
     pub fn file(&self) -> Json {
         self.source.file()
@@ -93,8 +133,8 @@ impl<E: Edition> Arrived<E> {
 #[derive(Debug)]
 struct Arriving {
     stream: Stream,
-    /// The names of the sections whose payloads are still to be kept.
-    wanted: Vec<&'static str>,
+    /// What is still to be kept whole.
+    wanted: Vec<Wanted>,
     sections: Vec<Section>,
     /// How many of them are not custom.
     not_custom: usize,
@@ -135,13 +175,13 @@ impl Contents {
 }
 
 impl Arriving {
-    fn copied(from: &mut dyn Read, wanted: &[&'static str]) -> io::Result<Arriving> {
+    fn copied(from: &mut dyn Read, wanted: &[Wanted]) -> io::Result<Arriving> {
         let mut arriving = Arriving::new(wanted);
         io::copy(&mut BufReader::with_capacity(PART, from), &mut arriving)?;
         Ok(arriving)
     }
 
-    fn new(wanted: &[&'static str]) -> Arriving {
+    fn new(wanted: &[Wanted]) -> Arriving {
         Arriving {
             stream: Stream::new(),
             wanted: wanted.to_vec(),
@@ -200,10 +240,9 @@ impl Arriving {
                 length,
                 name,
             } => {
-                let mut wanted = self.wanted.iter();
-                let wanted = wanted.position(|wanted| Some(wanted.as_bytes()) == name);
+                let wanted = self.wanted.iter().position(|it| it.is(id, name));
                 if let Some(position) = wanted {
-                    self.wanted.swap_remove(position);
+                    self.meet(position);
                 }
                 let section = Section {
                     id,
@@ -213,6 +252,14 @@ impl Arriving {
                 let start = head_at + before_contents as u64;
                 self.begin_contents(section, start, wanted.is_some());
             }
+        }
+    }
+
+    /// Of what is wanted the one at a position has come.
+    fn meet(&mut self, position: usize) {
+        let met = self.wanted.swap_remove(position);
+        if met == Wanted::Custom(HINTS) {
+            self.wanted.push(Wanted::Code);
         }
     }
 
@@ -251,9 +298,16 @@ mod tests {
 
     use super::*;
     use crate::dump;
-    use crate::payloads::{HINTS, NAMES, OLD_HINTS};
+    use crate::payloads::{NAMES, OLD_HINTS};
 
-    const ALL: [&str; 3] = [NAMES, HINTS, OLD_HINTS];
+    const PAYLOADS: [&str; 3] = [NAMES, HINTS, OLD_HINTS];
+
+    const ALL: [Wanted; 4] = [
+        Wanted::Custom(NAMES),
+        Wanted::Custom(HINTS),
+        Wanted::Custom(OLD_HINTS),
+        Wanted::Imports,
+    ];
 
     const PREAMBLE: &[u8] = b"\0asm\x01\0\0\0";
 
@@ -271,6 +325,21 @@ mod tests {
         (0..length).map(|at| (at / 3) as u8).collect()
     }
 
+    /// One function.
+    const IMPORTS: [u8; 5] = [1, 0, 0, 0, 0];
+
+    /// Hints on each of these `br_if 0`, which are the second function.
+    fn many_hints() -> Vec<u8> {
+        let hints = (0..100).flat_map(|at| [1 + 2 * at | 0x80, (1 + 2 * at) >> 7, 1, 0]);
+        [&[1, 1, 100][..], &hints.collect::<Vec<u8>>()].concat()
+    }
+
+    fn code() -> Vec<u8> {
+        let body = [&[0][..], &[0x0D, 0].repeat(500)].concat();
+        let length = body.len();
+        [&[1, length as u8 | 0x80, (length >> 7) as u8], &body[..]].concat()
+    }
+
     /// Each payload with long and with short contents around it, some at ends of what is kept.
     fn module() -> Vec<u8> {
         let sections = [
@@ -278,10 +347,11 @@ mod tests {
             custom(OLD_HINTS, &[1, 2, 3]),
             custom("", &long(127)),
             section(1, &long(128)),
+            section(2, &IMPORTS),
             section(3, &long(129)),
-            custom(HINTS, &long(300)),
+            custom(HINTS, &many_hints()),
             custom("y", &[]),
-            section(10, &long(1_000)),
+            section(10, &code()),
             custom(NAMES, &[]),
             custom("metadata.code.branch_hint.and.more", &long(200)),
         ];
@@ -320,7 +390,7 @@ mod tests {
         }
         assert_eq!(module.section_count(), Ok(arrived.sections.len() as u64));
         let places = [walked.name, walked.hints, walked.old_hints];
-        for (name, place) in ALL.into_iter().zip(places) {
+        for (name, place) in PAYLOADS.into_iter().zip(places) {
             let payload = place.map(|place| arrived.payload(place).expect("it was kept"));
             assert_eq!(Ok(payload), module.custom(name));
             let places = place.map(|place| place.offset..=place.offset + place.length);
@@ -330,12 +400,29 @@ mod tests {
         }
     }
 
+    /// Whether hints stand on branches is what the whole of it gives.
+    fn agrees_on_branches(arrived: &Arrived<First>, bytes: &[u8]) {
+        let Ok(Some(hints)) = arrived.walked.map(|walked| walked.hints) else {
+            return;
+        };
+        let excerpt = arrived.of_branches(hints).expect("all was kept");
+        let told = excerpt.module().hints_on_branches();
+        let told = told.map_err(|refusal| excerpt.in_whole(refusal));
+        assert_eq!(told, Module::new(bytes).hints_on_branches());
+        if let Err(refusal) = told {
+            shows(arrived, bytes, refusal.offset());
+        }
+    }
+
     #[test]
     fn however_it_is_cut() {
         let module = module();
+        assert_eq!(Module::new(&module).hints_on_branches(), Ok(()));
         for at in 0..=module.len() {
             let (one, other) = module.split_at(at);
-            agrees(&arrived(&[one, other]), &module);
+            let whole = arrived(&[one, other]);
+            agrees(&whole, &module);
+            agrees_on_branches(&whole, &module);
             agrees(&arrived(&[one]), one);
         }
         let bytes: Vec<&[u8]> = module.chunks(1).collect();
@@ -349,8 +436,46 @@ mod tests {
             for change in [0x00, 0x01, 0x0B, 0x7F, 0x80, 0xFF] {
                 let mut changed = module.clone();
                 changed[at] = change;
-                agrees(&arrived(&[&changed]), &changed);
+                let arrived = arrived(&[&changed]);
+                agrees(&arrived, &changed);
+                agrees_on_branches(&arrived, &changed);
             }
+        }
+    }
+
+    /// Sections that end where a number or a byte is missing: the fault is at their end, and not where the
+    /// next section of the excerpt begins.
+    #[test]
+    fn lists_that_are_cut() {
+        for imports in [&[][..], &[1], &[1, 0], &[1, 0, 0], &[1, 0, 0, 0]] {
+            for bodies in [&[][..], &[1], &[0]] {
+                let sections = [
+                    section(2, imports),
+                    section(3, &long(200)),
+                    custom(HINTS, &[1, 0, 1, 1, 1, 1]),
+                    section(10, bodies),
+                    section(11, &long(200)),
+                ];
+                let module = [PREAMBLE, &sections.concat()].concat();
+                agrees_on_branches(&arrived(&[&module]), &module);
+            }
+        }
+    }
+
+    /// Code is left out of a module without hints before it, and so is what comes a second time.
+    #[test]
+    fn code_without_hints_is_left_out() {
+        let (code, imports) = (section(10, &long(1_000)), section(2, &long(1_000)));
+        for sections in [
+            [code.clone(), custom(HINTS, &[0])].concat(),
+            [custom(OLD_HINTS, &[0]), code.clone()].concat(),
+            [imports.clone(), imports].concat(),
+            [custom(HINTS, &[0]), code.clone(), code].concat(),
+        ] {
+            let module = [PREAMBLE, &sections].concat();
+            let arrived = arrived(&[&module]);
+            assert_eq!(arrived.kept.get(0..module.len() as u64), None);
+            agrees(&arrived, &module);
         }
     }
 

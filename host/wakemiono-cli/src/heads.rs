@@ -9,6 +9,12 @@ use crate::reader::{Reader, LONGEST_NUMBER};
 /// The id of custom sections.
 pub const CUSTOM: u8 = 0;
 
+/// The id of the section with the list of imports.
+pub const IMPORT: u8 = 2;
+
+/// The id of the section with the bodies of functions.
+pub const CODE: u8 = 10;
+
 /// No name that is looked for is longer.
 const LONGEST_NAME: usize = payloads::HINTS.len();
 

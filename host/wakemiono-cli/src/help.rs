@@ -15,7 +15,8 @@ Usage: wakemiono COMMAND FILE [OPTIONS]
   canon FILE        the canonical form of the name payload, or of hints of the older edition
   join FILE NAMES   names that came apart from a module and its own, in one canonical payload
   same A B          whether two modules have the same names
-  judge FILE        whether the module, its names and its hints are accepted, and canonical
+  judge FILE        whether the module, its names and its hints are accepted, and canonical, and
+                    whether its hints stand on branches
 
 FILE may be - for standard input. `wakemiono COMMAND --help` says more of one command; --version
 says the version.
@@ -242,19 +243,22 @@ Example: wakemiono same old.wasm new.wasm
 ";
 
 const JUDGE: &str = "\
-Judges a module, its name payload and its branch hints of both editions, and says whether these three
-are canonical.
+Judges a module, its name payload and its branch hints of both editions, says whether these three are
+canonical, and whether every hint stands on a branch.
 
 Usage: wakemiono judge FILE [--wide] [--json]
 
-Each of the lines `module`, `name`, `hints` and `old_hints` says accepted, none where there is no such
-section, or refused: with the reason, the offset from the start of the module, and the bytes around
-it. `old_hints` is the section branchHints. An accepted payload is `canonical already` where it equals
-its canonical form, and `not canonical` otherwise. The payloads of a module that is itself refused are not asked. The exit status is 1 where
-anything is refused; what is not canonical is not refused.
+Each of the lines `module`, `name`, `hints`, `old_hints` and `on_branches` says accepted, none where
+there is no such section, or refused: with the reason, the offset from the start of the module, and
+the bytes around it. `old_hints` is the section branchHints. `on_branches` is whether every hint of
+metadata.code.branch_hint stands on a br_if or an if; code is read by version 1.0 of WebAssembly.
 
-The module is read as it arrives, and only the payloads are held, so that one of any size can come
-through a pipe.
+An accepted payload is `canonical already` where it equals its canonical form, and `not canonical`
+otherwise. The payloads of a module that is itself refused are not asked, nor is where refused hints
+stand. The exit status is 1 where anything is refused; what is not canonical is not refused.
+
+The module is read as it arrives, and only the payloads, the list of imports and the code of a module
+with hints are held, so that one of any size can come through a pipe.
 
   --wide   judge names in the wider edition; what it accepts the first edition accepts too
 
@@ -263,6 +267,7 @@ Example: wakemiono judge app.wasm
   name accepted, canonical already
   hints none
   old_hints none
+  on_branches none
 ";
 
 /// The help for a command, or for the program.

@@ -20,6 +20,7 @@ mod commands;
 mod dump;
 mod edition;
 mod escape;
+mod excerpt;
 mod heads;
 mod help;
 mod input;

@@ -5,7 +5,8 @@ mod common;
 use std::fs;
 
 use common::{
-    fed, file, hinted, joined, long_named, named, old_hinted, path, run, BARE, EVERY_KIND, MODULE,
+    fed, file, hinted, hinted_code, joined, long_named, named, old_hinted, path, run, BARE,
+    EVERY_KIND, MODULE,
 };
 
 #[test]
@@ -371,35 +372,55 @@ fn not_the_same_in_json() {
 #[test]
 fn judge_accepts() {
     fed(&["judge", "-"], MODULE)
-        .prints("module accepted\nname accepted, canonical already\nhints none\nold_hints none\n");
+        .prints("module accepted\nname accepted, canonical already\nhints none\nold_hints none\non_branches none\n");
     fed(&["judge", "-"], &hinted(b"\x00"))
-        .prints("module accepted\nname none\nhints accepted, canonical already\nold_hints none\n");
-    fed(&["judge", "-"], BARE).prints("module accepted\nname none\nhints none\nold_hints none\n");
+        .prints("module accepted\nname none\nhints accepted, canonical already\nold_hints none\non_branches accepted\n");
+    fed(&["judge", "-"], BARE)
+        .prints("module accepted\nname none\nhints none\nold_hints none\non_branches none\n");
     fed(&["judge", "-"], &old_hinted(FREE))
-        .prints("module accepted\nname none\nhints none\nold_hints accepted, not canonical\n");
+        .prints("module accepted\nname none\nhints none\nold_hints accepted, not canonical\non_branches none\n");
     fed(&["judge", "-"], &old_hinted(b"\x00"))
-        .prints("module accepted\nname none\nhints none\nold_hints accepted, canonical already\n");
+        .prints("module accepted\nname none\nhints none\nold_hints accepted, canonical already\non_branches none\n");
     fed(&["judge", "-", "--json"], MODULE).is_json(
         0,
         "{\"file\":\"-\",\"accepted\":true,\"module\":{\"verdict\":\"accepted\"},\
          \"name\":{\"verdict\":\"accepted\",\"canonical\":true},\
-         \"hints\":{\"verdict\":\"none\"},\"old_hints\":{\"verdict\":\"none\"}}",
+         \"hints\":{\"verdict\":\"none\"},\"old_hints\":{\"verdict\":\"none\"},\
+         \"on_branches\":{\"verdict\":\"none\"}}",
     );
 }
 
 #[test]
 fn judge_accepts_what_is_not_canonical() {
     fed(&["judge", "-"], &named(PADDED))
-        .prints("module accepted\nname accepted, not canonical\nhints none\nold_hints none\n");
+        .prints("module accepted\nname accepted, not canonical\nhints none\nold_hints none\non_branches none\n");
     let function_without_hints = hinted(b"\x01\x02\x00");
     fed(&["judge", "-"], &function_without_hints)
-        .prints("module accepted\nname none\nhints accepted, not canonical\nold_hints none\n");
+        .prints("module accepted\nname none\nhints accepted, not canonical\nold_hints none\non_branches accepted\n");
     fed(&["judge", "-", "--json"], &function_without_hints).is_json(
         0,
         "{\"file\":\"-\",\"accepted\":true,\"module\":{\"verdict\":\"accepted\"},\
          \"name\":{\"verdict\":\"none\"},\
          \"hints\":{\"verdict\":\"accepted\",\"canonical\":false},\
-         \"old_hints\":{\"verdict\":\"none\"}}",
+         \"old_hints\":{\"verdict\":\"none\"},\
+         \"on_branches\":{\"verdict\":\"accepted\"}}",
+    );
+}
+
+#[test]
+fn judge_accepts_hints_on_branches() {
+    let all = "module accepted\nname none\nhints accepted, canonical already\nold_hints none\n\
+        on_branches accepted\n";
+    let module = file("on-branches.wasm", &hinted_code(3));
+    run(&["judge", &module]).prints(all);
+    fed(&["judge", "-"], &hinted_code(3)).prints(all);
+    fed(&["judge", "-", "--json"], &hinted_code(3)).is_json(
+        0,
+        "{\"file\":\"-\",\"accepted\":true,\"module\":{\"verdict\":\"accepted\"},\
+         \"name\":{\"verdict\":\"none\"},\
+         \"hints\":{\"verdict\":\"accepted\",\"canonical\":true},\
+         \"old_hints\":{\"verdict\":\"none\"},\
+         \"on_branches\":{\"verdict\":\"accepted\"}}",
     );
 }
 

@@ -60,14 +60,19 @@ fn piped(arguments: &[&str], beginning: &[u8], zeros: usize, end: &[u8]) -> Run 
     Run::of(child.wait_with_output().expect("the program ends"))
 }
 
-/// A module up to the contents of a custom section, of which it has one byte, the length of its name.
-fn begun(contents: usize) -> Vec<u8> {
+/// The ids of a custom section and of that with code.
+const CUSTOM: u8 = 0;
+const CODE: u8 = 10;
+
+/// A module up to the contents of a section, of which it has one byte: the length of a name, or the count
+/// of bodies.
+fn begun(id: u8, contents: usize) -> Vec<u8> {
     let mut size = [0; 5];
     for (place, byte) in size.iter_mut().enumerate() {
         *byte = (contents >> (7 * place)) as u8 | 0x80;
     }
     size[4] &= 0x7F;
-    [BARE, &[0], &size, &[0]].concat()
+    [BARE, &[id], &size, &[0]].concat()
 }
 
 /// The section with names of the documents' module.
@@ -75,22 +80,32 @@ const NAMES: &[u8] = MODULE.split_at(8).1;
 
 #[test]
 fn four_gigabytes_are_listed_in_a_few_megabytes() {
-    let listed = piped(&["list", "-"], &begun(ZEROS + 1), ZEROS, NAMES);
+    let listed = piped(&["list", "-"], &begun(CUSTOM, ZEROS + 1), ZEROS, NAMES);
     listed.prints("sections 2\n0 8 4000000001\n0 4000000015 26\nname 4000000022 21\nhints none\n");
 }
 
 #[test]
 fn four_gigabytes_are_judged_in_a_few_megabytes() {
-    let judged = piped(&["judge", "-"], &begun(ZEROS + 1), ZEROS, NAMES);
+    let judged = piped(&["judge", "-"], &begun(CUSTOM, ZEROS + 1), ZEROS, NAMES);
     judged
-        .prints("module accepted\nname accepted, canonical already\nhints none\nold_hints none\n");
+        .prints("module accepted\nname accepted, canonical already\nhints none\nold_hints none\non_branches none\n");
+}
+
+/// Code is judged where there are hints on it, and otherwise not held.
+#[test]
+fn code_without_hints_is_not_held() {
+    const ZEROS: usize = 100_000_000;
+    let judged = piped(&["judge", "-"], &begun(CODE, ZEROS + 1), ZEROS, NAMES);
+    judged.prints(
+        "module accepted\nname accepted, canonical already\nhints none\nold_hints none\non_branches none\n",
+    );
 }
 
 /// The fault is known only at the end, far behind the bytes that are shown.
 #[test]
 fn what_is_cut_off_is_shown_where_it_began() {
     const ZEROS: usize = 100_000_000;
-    let refused = piped(&["list", "-"], &begun(ZEROS + 2), ZEROS, &[]);
+    let refused = piped(&["list", "-"], &begun(CUSTOM, ZEROS + 2), ZEROS, &[]);
     refused.ends(1, "refused 2 9\n");
     assert!(refused.said.contains(
         "  00000000  00 61 73 6D 01 00 00 00 00 82 C2 D7 AF 00 00 00  |.asm............|\n\
@@ -170,4 +185,32 @@ fn fixtures_are_judged_through_a_pipe() {
         }
     }
     assert!(refused >= 20, "{refused}");
+}
+
+/// Where hints stand is said as a third reading of the rules has it, unless the hints are refused.
+#[test]
+fn hints_of_fixtures_are_judged_through_a_pipe() {
+    let mut asked = 0;
+    for path in fixtures() {
+        let payloads = fs::read_to_string(path.with_extension("payloads")).unwrap_or_default();
+        let expected = |word: &str| payloads.lines().find_map(|line| line.strip_prefix(word));
+        let Some(on_branches) = expected("on-branches ") else {
+            continue;
+        };
+        let judged = fed(&["judge", "-"], &fs::read(&path).unwrap());
+        let (_, said) = judged.out().split_once("\non_branches ").unwrap();
+        let words: Vec<&str> = on_branches.split(' ').collect();
+        let expected = match words[..] {
+            ["accepted"] => said == "accepted\n",
+            _ if expected("hints ").unwrap().starts_with("refused") => said == "not asked\n",
+            [refused, number, at] => {
+                let is_told = said.starts_with(&format!("{refused}, number {number}: "));
+                is_told && said.contains(&format!(" ({at})\n"))
+            }
+            _ => panic!("{on_branches}"),
+        };
+        assert!(expected, "{}: {said}", path.display());
+        asked += 1;
+    }
+    assert!(asked >= 20, "{asked}");
 }

@@ -2,7 +2,9 @@
 
 mod common;
 
-use common::{fed, file, hinted, joined, named, old_hinted, MODULE, NO_SUCH_SECTION};
+use common::{
+    fed, file, hinted, hinted_code, joined, named, old_hinted, BARE, MODULE, NO_SUCH_SECTION,
+};
 
 const NO_SUCH_SECTION_WORDS: &str = "\
 wakemiono: standard input: refused, number 5: a section id is above 13: it stands at byte 0x8 (8)
@@ -133,14 +135,16 @@ fn judge_says_which_part() {
          \x20                                   ^^\n\
          \x20 what to do: a section of a later version of WebAssembly: ask the producer for one \
          without it\n\
-         name not asked\nhints not asked\nold_hints not asked\n",
+         name not asked\nhints not asked\nold_hints not asked\non_branches not asked\n",
     );
     let judged = fed(&["judge", "-"], &named(b"\x01\x02\x00\x00"));
     assert_eq!(judged.status, 1);
     assert!(judged
         .out()
         .starts_with("module accepted\nname refused, number 10: "));
-    assert!(judged.out().ends_with("\nhints none\nold_hints none\n"));
+    assert!(judged
+        .out()
+        .ends_with("\nhints none\nold_hints none\non_branches none\n"));
 }
 
 #[test]
@@ -154,6 +158,7 @@ fn judge_says_all_parts_that_are_refused() {
     assert!(judged.out().contains("\nname refused, number 2: "));
     assert!(judged.out().contains("\nhints refused, number 10: "));
     assert!(judged.out().contains("\nold_hints refused, number 12: "));
+    assert!(judged.out().ends_with("\non_branches not asked\n"));
     let judged = fed(&["judge", "-", "--json"], &both);
     assert_eq!(judged.status, 1);
     common::json::check(judged.out().trim_end());
@@ -166,4 +171,36 @@ fn judge_says_all_parts_that_are_refused() {
     assert!(judged
         .out()
         .contains("\"old_hints\":{\"verdict\":\"refused\",\"refusal\":{\"number\":12,"));
+}
+
+/// The hint stands on `i32.const`, at an offset of the whole module, of which not all sections are held.
+#[test]
+fn judge_says_which_hint_is_on_no_branch() {
+    let judged = fed(&["judge", "-"], &hinted_code(1));
+    judged.ends(
+        1,
+        "module accepted\nname none\nhints accepted, canonical already\nold_hints none\n\
+         on_branches refused, number 21: a hint does not stand on br_if or if: the hint's offset starts \
+         at byte 0x31 (49)\n\
+         \x20 00000020  64 65 2E 62 72 61 6E 63 68 5F 68 69 6E 74 01 00  |de.branch_hint..|\n\
+         \x20 00000030  01 01 01 01 0A 09 01 07 00 41 01 04 40 0B 0B     |.........A..@..|\n\
+         \x20              ^^\n\
+         \x20 what to do: the code was changed after its hints were written: strip them, or write them \
+         anew\n",
+    );
+    let judged = fed(&["judge", "-", "--json"], &hinted_code(1));
+    assert_eq!(judged.status, 1);
+    let refusal = "\"on_branches\":{\"verdict\":\"refused\",\"refusal\":{\"number\":21,";
+    assert!(judged.out().contains(refusal), "{}", judged.out());
+}
+
+/// A list of imports that ends before its count, with sections between it and the hints.
+#[test]
+fn judge_says_where_imports_are_cut() {
+    let imports = [BARE, &[2, 0], &[3, 1, 0]].concat();
+    let judged = fed(&["judge", "-"], &joined(&imports, &hinted(b"\x00")));
+    assert_eq!(judged.status, 1);
+    let (_, refused) = judged.out().split_once("on_branches ").unwrap();
+    assert!(refused.starts_with("refused, number 2: "), "{refused}");
+    assert!(refused.contains("starts at byte 0xA (10)\n"), "{refused}");
 }

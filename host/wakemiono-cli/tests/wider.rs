@@ -145,11 +145,11 @@ fn not_the_same_gives_the_first_question_of_the_edition() {
 #[test]
 fn judge_by_the_edition() {
     let canonical =
-        "module accepted\nname accepted, canonical already\nhints none\nold_hints none\n";
+        "module accepted\nname accepted, canonical already\nhints none\nold_hints none\non_branches none\n";
     fed(&["judge", "-", "--wide"], WIDE).prints(canonical);
     fed(&["judge", "-"], &named(NO_GLOBALS)).prints(canonical);
     fed(&["judge", "-", "--wide"], &named(NO_GLOBALS))
-        .prints("module accepted\nname accepted, not canonical\nhints none\nold_hints none\n");
+        .prints("module accepted\nname accepted, not canonical\nhints none\nold_hints none\non_branches none\n");
     fed(&["judge", "-"], &named(NO_MAP)).prints(canonical);
     let refused = fed(&["judge", "-", "--wide"], &named(NO_MAP));
     assert_eq!(refused.status, 1);

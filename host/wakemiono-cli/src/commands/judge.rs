@@ -1,10 +1,10 @@
-//! `judge`: whether a module and its payloads are accepted, and the payloads canonical.
+//! `judge`: whether a module and its payloads are accepted, the payloads canonical, and hints on branches.
 
 use std::ffi::OsStr;
 
 use wakemiono::{Hints, NamePayload, OldHints, Place, Refusal, Walked};
 
-use crate::arriving::Arrived;
+use crate::arriving::{Arrived, Wanted};
 use crate::edition::Edition;
 use crate::json::Json;
 use crate::payloads::{HINTS, NAMES, OLD_HINTS};
@@ -13,7 +13,7 @@ use crate::report::{Failure, Report, Status};
 
 /// What there is to say of a module or of one of its payloads.
 enum Verdict {
-    /// The module is accepted.
+    /// The module is accepted, or every hint stands on a branch.
     Accepted,
     /// The payload is accepted, and is its own canonical form or not.
     AcceptedPayload {
@@ -22,7 +22,7 @@ enum Verdict {
     /// There is no such section.
     None,
     Refused(Refused),
-    /// The module around it is refused.
+    /// The module around it is refused, or the hints that it is about.
     NotAsked,
 }
 
@@ -68,9 +68,17 @@ impl Verdict {
     }
 }
 
+/// All that is judged, but for code, which is kept where there are hints on it.
+const JUDGED: [Wanted; 4] = [
+    Wanted::Custom(NAMES),
+    Wanted::Custom(HINTS),
+    Wanted::Custom(OLD_HINTS),
+    Wanted::Imports,
+];
+
 /// Judges the module and then its payloads, each whatever is wrong with the other.
 pub fn run<E: Edition>(file: &OsStr, json: bool) -> Result<Report, Failure> {
-    let module = Arrived::<E>::read(file, &[NAMES, HINTS, OLD_HINTS])?;
+    let module = Arrived::<E>::read(file, &JUDGED)?;
     let verdicts = verdicts(&module)?;
     let accepted = !verdicts.iter().any(|(_, verdict)| verdict.is_refused());
     let status = Status::good_if(accepted);
@@ -83,12 +91,12 @@ pub fn run<E: Edition>(file: &OsStr, json: bool) -> Result<Report, Failure> {
     Ok(Report::ending(status, lines))
 }
 
-fn verdicts<E: Edition>(module: &Arrived<E>) -> Result<[(&'static str, Verdict); 4], Failure> {
-    let (of_module, [name, hints, old_hints]) = match module.walked {
-        Ok(walked) => (Verdict::Accepted, of_payloads(module, walked)?),
+fn verdicts<E: Edition>(module: &Arrived<E>) -> Result<[(&'static str, Verdict); 5], Failure> {
+    let (of_module, [name, hints, old_hints, on_branches]) = match module.walked {
+        Ok(walked) => (Verdict::Accepted, of_all(module, walked)?),
         Err(refusal) => (
             Verdict::Refused(module.refused(refusal)),
-            [Verdict::NotAsked, Verdict::NotAsked, Verdict::NotAsked],
+            [const { Verdict::NotAsked }; 4],
         ),
     };
     Ok([
@@ -96,7 +104,28 @@ fn verdicts<E: Edition>(module: &Arrived<E>) -> Result<[(&'static str, Verdict);
         ("name", name),
         ("hints", hints),
         ("old_hints", old_hints),
+        ("on_branches", on_branches),
     ])
+}
+
+/// Of the payloads of an accepted module, and of hints on branches.
+fn of_all<E: Edition>(module: &Arrived<E>, walked: Walked) -> Result<[Verdict; 4], Failure> {
+    let [name, hints, old_hints] = of_payloads(module, walked)?;
+    let on_branches = match walked.hints {
+        None => Verdict::None,
+        Some(_) if hints.is_refused() => Verdict::NotAsked,
+        Some(place) => of_branches(module, place)?,
+    };
+    Ok([name, hints, old_hints, on_branches])
+}
+
+/// Of accepted hints, by the sections that say whether they stand on branches.
+fn of_branches<E: Edition>(module: &Arrived<E>, hints: Place) -> Result<Verdict, Failure> {
+    let excerpt = module.of_branches(hints)?;
+    Ok(match excerpt.module().hints_on_branches() {
+        Ok(()) => Verdict::Accepted,
+        Err(refusal) => Verdict::Refused(module.refused(excerpt.in_whole(refusal))),
+    })
 }
 
 /// Of the names and of the hints of both editions, in an accepted module.

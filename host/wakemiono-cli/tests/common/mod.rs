@@ -78,6 +78,15 @@ pub fn hinted(payload: &[u8]) -> Vec<u8> {
     custom("metadata.code.branch_hint", payload)
 }
 
+/// A module of one function, `i32.const 1`, `if`, `end`, `end`, with a hint at an offset of it. The `if`
+/// is at 3.
+pub fn hinted_code(offset: u8) -> Vec<u8> {
+    let types = [BARE, &[1, 4, 1, 0x60, 0, 0, 3, 2, 1, 0]].concat();
+    let hint = hinted(&[1, 0, 1, offset, 1, 1]);
+    let code = [10, 9, 1, 7, 0, 0x41, 1, 0x04, 0x40, 0x0B, 0x0B];
+    [joined(&types, &hint), code.to_vec()].concat()
+}
+
 /// A module with branch hints of the older edition.
 pub fn old_hinted(payload: &[u8]) -> Vec<u8> {
     custom("branchHints", payload)
