@@ -1,16 +1,19 @@
 //! What may be taken at most: so many times what other operations take, or so many instructions.
 
+use crate::code;
 use crate::modules;
-use crate::operation::Operation;
+use crate::operation::{Operation, Who};
 use crate::pairs;
 use crate::payload::Kind;
-use crate::table::{library, Row};
+use crate::table::{executed, Row};
 
 /// What an operation is held to.
 #[derive(Clone, Copy)]
 enum Most {
     /// So many times what other operations take in all.
     Times(f64, &'static [Operation]),
+    /// So many times what the second reader takes for the same.
+    TimesSecondReader(f64),
     Instructions(u64),
 }
 
@@ -107,11 +110,22 @@ fn of_module(payload: &'static str) -> [Bar; 2] {
 /// Large contents in 342 parts of 4,096 bytes: 150 instructions each, so that their bytes cost nothing.
 const LARGE_IN_PARTS: u64 = 342 * 150;
 
-/// All bars, those of pairs and of modules last.
+/// Hints on code: twice the second reader, which keeps a list of the bodies.
+fn of_code(payload: &'static str) -> Bar {
+    Bar {
+        payload,
+        operation: Operation::OnBranches,
+        most: Most::TimesSecondReader(2.0),
+    }
+}
+
+/// All bars, those of pairs, of modules and of code last.
 fn bars() -> impl Iterator<Item = Bar> {
     let of_modules = modules::all().flat_map(of_module);
     let of_pairs = pairs::all().flat_map(of_pair);
-    BARS.into_iter().chain(of_pairs).chain(of_modules)
+    let of_code = code::all().map(of_code);
+    let made = BARS.into_iter().chain(of_pairs);
+    made.chain(of_modules).chain(of_code)
 }
 
 /// A line for each bar, or a sentence on those that are broken.
@@ -140,6 +154,14 @@ fn held(rows: &[Row], bar: &Bar) -> Result<(bool, String), String> {
             let line = format!("{payload}: '{words}' takes {taken} instructions, at most {most}");
             (taken <= most, line)
         }
+        Most::TimesSecondReader(most) => {
+            let of_reader = count_of(rows, payload, bar.operation, Who::SecondReader)?;
+            let times = taken as f64 / of_reader as f64;
+            let line = format!(
+                "{payload}: '{words}' takes {times:.3} times what the second reader takes, at most {most}"
+            );
+            (times <= most, line)
+        }
         Most::Times(most, bases) => {
             let mut in_all = 0;
             for base in bases {
@@ -155,15 +177,20 @@ fn held(rows: &[Row], bar: &Bar) -> Result<(bool, String), String> {
     })
 }
 
+/// What the library takes.
 fn count(rows: &[Row], payload: &str, operation: Operation) -> Result<u64, String> {
+    count_of(rows, payload, operation, Who::Library)
+}
+
+fn count_of(rows: &[Row], payload: &str, operation: Operation, who: Who) -> Result<u64, String> {
     let missing = || format!("{payload} has no count of '{}'.", operation.words());
-    library(rows, payload, operation).ok_or_else(missing)
+    executed(rows, payload, operation, who).ok_or_else(missing)
 }
 
 #[cfg(test)]
 mod tests {
     use super::*;
-    use crate::operation::{region, Who};
+    use crate::operation::region;
     use crate::table;
 
     const JUDGED: u64 = 1_000;
@@ -174,6 +201,7 @@ mod tests {
         for bar in bars() {
             let most = match bar.most {
                 Most::Instructions(most) => most,
+                Most::TimesSecondReader(times) => (times * JUDGED as f64) as u64,
                 Most::Times(times, bases) => {
                     for base in bases {
                         counts.push_str(&run(bar.payload, *base, JUDGED));
@@ -188,11 +216,15 @@ mod tests {
         table::rows(&counts).expect("rows")
     }
 
-    /// A run that measures one operation.
-    fn run(payload: &str, operation: Operation, sum: u64) -> String {
+    /// A run that measures one operation. The second reader takes what judging takes, whatever it is.
+    fn run(payload: &str, operation: Operation, by_library: u64) -> String {
         let mut counts = format!("payload\t{payload}\t1\n");
         for who in Who::BOTH {
             let number = region(operation, who);
+            let sum = match who {
+                Who::Library => by_library,
+                Who::SecondReader => JUDGED,
+            };
             let (words, who) = (operation.words(), who.words());
             counts.push_str(&format!("region\t{number}\t{words}\t{who}\n"));
             counts.push_str(&format!("icount region {number} hits 1 sum {sum}\n"));
@@ -227,6 +259,13 @@ mod tests {
         let said = lines(&rows("module-rustc", Operation::StreamInParts, 2));
         let line = "module-rustc: 'stream, parts of 4096' takes 2.002 times 'walk', at most 2 is the bar, so speed it up.\n";
         assert_eq!(said.expect_err("one is broken"), line);
+    }
+
+    #[test]
+    fn so_is_one_over_the_second_reader() {
+        let said = lines(&rows("code-go", Operation::OnBranches, 2)).expect_err("one is broken");
+        let line = "code-go: 'hints on branches' takes 2.002 times what the second reader takes, at most 2 is the bar, so speed it up.\n";
+        assert_eq!(said, line);
     }
 
     #[test]

@@ -208,7 +208,9 @@ mod tests {
                 library::old_hints_judge(bytes),
                 second_reader::old_hints_judge(bytes).into(),
             ],
-            Kind::Pair | Kind::WidePair | Kind::Module => panic!("payloads alone are made here"),
+            Kind::Pair | Kind::WidePair | Kind::Module | Kind::Code => {
+                panic!("payloads alone are made here")
+            }
         }
     }
 

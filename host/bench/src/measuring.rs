@@ -65,6 +65,7 @@ pub fn measure(payload: &Payload) -> Result<Vec<Operation>, String> {
         Kind::Pair => pair(bytes, &payload.own),
         Kind::WidePair => wide_pair(bytes, &payload.own),
         Kind::Module => module(bytes),
+        Kind::Code => vec![walk(bytes), on_branches(bytes)],
     };
     let agreed = |(operation, alike): Compared| match alike {
         true => Ok(operation),
@@ -79,6 +80,10 @@ pub fn measure(payload: &Payload) -> Result<Vec<Operation>, String> {
 
 fn walk(module: &[u8]) -> Compared {
     asked!(Operation::Walk, walk(lent) where lent = module)
+}
+
+fn on_branches(module: &[u8]) -> Compared {
+    asked!(Operation::OnBranches, hints_on_branches(lent) where lent = module)
 }
 
 /// A module lent whole, and given in parts.
@@ -456,6 +461,7 @@ mod tests {
             Operation::StreamWhole,
             Operation::StreamInParts,
             Operation::StreamInBytes,
+            Operation::OnBranches,
         ] {
             assert!(operations.contains(&tried), "not tried: {}", tried.words());
         }

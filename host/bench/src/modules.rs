@@ -115,9 +115,7 @@ fn large_contents(_: &mut Random) -> Vec<u8> {
 }
 
 fn fixture(name: &str) -> Vec<u8> {
-    let mut paths = fixtures::modules().into_iter();
-    let path = paths.find(|path| path.file_stem().is_some_and(|stem| stem == name));
-    fs::read(path.expect("there is such a fixture")).expect("a fixture can be read")
+    fs::read(fixtures::module(name)).expect("a fixture can be read")
 }
 
 #[cfg(test)]

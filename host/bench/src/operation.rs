@@ -41,6 +41,7 @@ pub enum Operation {
     StreamWhole,
     StreamInParts,
     StreamInBytes,
+    OnBranches,
 }
 
 impl Operation {
@@ -84,6 +85,7 @@ impl Operation {
             Operation::StreamWhole => "stream, one part",
             Operation::StreamInParts => "stream, parts of 4096",
             Operation::StreamInBytes => "stream, parts of 1",
+            Operation::OnBranches => "hints on branches",
         }
     }
 }

@@ -1,6 +1,6 @@
 //! A payload, and the names of all that are measured.
 
-use crate::{bytes, fixtures, made, modules, pairs};
+use crate::{bytes, code, fixtures, made, modules, pairs};
 
 /// The name of the section with names.
 pub const NAMES: &str = "name";
@@ -21,6 +21,8 @@ pub enum Kind {
     WidePair,
     /// A whole module, by the walk and as it arrives.
     Module,
+    /// A whole module with hints on its code.
+    Code,
 }
 
 impl Kind {
@@ -30,7 +32,7 @@ impl Kind {
             Kind::Names | Kind::WideNames | Kind::Pair | Kind::WidePair => Some(NAMES),
             Kind::Hints => Some("metadata.code.branch_hint"),
             Kind::OldHints => Some("branchHints"),
-            Kind::Module => None,
+            Kind::Module | Kind::Code => None,
         }
     }
 }
@@ -65,10 +67,12 @@ impl Payload {
     }
 }
 
-/// The names of all payloads: the made ones, the pairs of these, whole modules, then those of the fixtures.
+/// The names of all payloads: the made ones, the pairs of these, whole modules, some with hints on their code, then those of
+/// the fixtures.
 pub fn names() -> Vec<String> {
     let pairs = pairs::all().map(|(name, _)| name);
-    let made = made::payloads().chain(pairs).chain(modules::all());
+    let made = made::payloads().chain(pairs);
+    let made = made.chain(modules::all()).chain(code::all());
     let of_fixtures = fixtures::payloads().into_iter().map(|payload| payload.name);
     made.map(str::to_string).chain(of_fixtures).collect()
 }
@@ -82,5 +86,6 @@ pub fn named(name: &str) -> Option<Payload> {
     made::payload(name)
         .or_else(|| pairs::payload(name))
         .or_else(|| modules::payload(name))
+        .or_else(|| code::payload(name))
         .or_else(of_fixtures)
 }

@@ -27,10 +27,13 @@ pub struct Row {
     second_reader: u64,
 }
 
-/// What the library executed for an operation on a payload, where that was counted.
-pub fn library(rows: &[Row], payload: &str, operation: Operation) -> Option<u64> {
+/// What a reader executed for an operation on a payload, where that was counted.
+pub fn executed(rows: &[Row], payload: &str, operation: Operation, who: Who) -> Option<u64> {
     let wanted = |row: &&Row| row.payload == payload && row.operation == operation.words();
-    rows.iter().find(wanted).map(|row| row.library)
+    rows.iter().find(wanted).map(|row| match who {
+        Who::Library => row.library,
+        Who::SecondReader => row.second_reader,
+    })
 }
 
 /// The rows of a file that has, for each run, its mapping and the plugin's counts.

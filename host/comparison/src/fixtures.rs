@@ -19,3 +19,10 @@ pub fn files(kind: &str) -> Vec<PathBuf> {
     files.sort();
     files
 }
+
+/// The path of the module of a fixture.
+pub fn module(name: &str) -> PathBuf {
+    let mut paths = modules().into_iter();
+    let path = paths.find(|path| path.file_stem().is_some_and(|stem| stem == name));
+    path.expect("there is such a fixture")
+}

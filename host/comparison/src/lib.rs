@@ -12,6 +12,7 @@ pub mod held;
 pub mod library;
 pub mod made;
 pub mod markers;
+pub mod places;
 pub mod random;
 pub mod spelling;
 pub mod tally;

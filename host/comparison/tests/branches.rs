@@ -1,16 +1,14 @@
 //! Hints on code: of several producers, with a hint on each of its instructions; of every opcode; and made at random.
 
 use comparison::fixtures::files;
-use comparison::held::{Entries, Groups, Held};
+use comparison::held::{Entries, Groups};
 use comparison::library::{Told, FOUND};
 use comparison::made;
+use comparison::places::{hints_at, instructions, with_hints, BRANCHES};
 use comparison::random::{seed, Random};
-use comparison::spelling::{custom, section, unpadded, PREAMBLE};
-use comparison::tally::{Tally, HINTS};
+use comparison::spelling::{section, unpadded, PREAMBLE};
+use comparison::tally::Tally;
 use std::fs;
-
-/// The opcodes that a hint may stand on.
-const BRANCHES: [u8; 2] = [0x04, 0x0D];
 
 /// The refusals of a hint behind what version 1.0 cannot read, and of one that is on no branch.
 const UNREADABLE: u32 = 20;
@@ -23,52 +21,6 @@ const OF_LATER_IMPORTS: usize = 2;
 const ON_BRANCHES: usize = 920;
 const ON_OTHERS: usize = 21_117;
 const BEHIND_UNREADABLE: usize = 160;
-
-/// The data of a hint, whichever it is.
-const LIKELY: u8 = 1;
-
-/// What the hints of one function are, by their offsets.
-fn hints_at(offsets: &[u32]) -> Entries {
-    Entries::from_iter(offsets.iter().map(|offset| (*offset, vec![LIKELY])))
-}
-
-/// A module with a section of hints as its first. One that it had is renamed.
-fn with_hints(module: &[u8], hints: &Groups) -> Vec<u8> {
-    let payload = hints.spelled(&mut unpadded);
-    let mut rest = module[PREAMBLE.len()..].to_vec();
-    let own = rest.windows(HINTS.len()).position(|bytes| bytes == HINTS);
-    if let Some(at) = own {
-        rest[at] = b'M';
-    }
-    [PREAMBLE, &custom(HINTS, &payload, &mut unpadded), &rest].concat()
-}
-
-/// An instruction as another tool found it.
-struct Instruction {
-    /// Counted from the first byte of the body.
-    offset: u32,
-    opcode: u8,
-    /// Whether version 1.0 can read it.
-    readable: bool,
-}
-
-/// The instructions of one body, and the function's index, by a line of a fixture's places.
-fn instructions(module: &[u8], line: &str) -> (u32, Vec<Instruction>) {
-    let words: Vec<&str> = line.split(' ').collect();
-    let [function, at, locals] = [0, 1, 2].map(|word| words[word].parse().expect("a number"));
-    let mut offset: u32 = locals;
-    let mut found = vec![];
-    for word in &words[3..] {
-        let length = word.trim_end_matches('!');
-        found.push(Instruction {
-            offset,
-            opcode: module[(at + offset) as usize],
-            readable: length.len() == word.len(),
-        });
-        offset += length.parse::<u32>().expect("a length");
-    }
-    (function, found)
-}
 
 /// What hints on the instructions of a fixture are told.
 #[derive(Debug, Default, PartialEq, Eq)]
@@ -99,7 +51,7 @@ impl Placed {
                 assert_eq!(told.code, NOT_ON_A_BRANCH, "{at}");
                 self.on_others += 1;
             }
-            readable &= instruction.readable;
+            readable &= instruction.is_readable;
         }
         self.on_branches += branches.len();
         (function, hints_at(&branches))

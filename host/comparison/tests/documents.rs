@@ -377,11 +377,19 @@ fn one_hint(function: u8, offset: u8) -> [u8; 6] {
     [1, function, 1, offset, 1, 1]
 }
 
-/// What is said of one hint in a module of one body.
-fn on_body(body: &[u8], offset: u8) -> (u32, u64) {
-    let bodies = [&[1, body.len() as u8], body].concat();
-    on_branches(&one_hint(0, offset), None, Some(&bodies))
-}
+/// Lists of imports that are refused, with the number and the offset in the list: kinds and flags, what is missing, and what
+/// is left.
+const IMPORTS: [(&[u8], u32, u64); 9] = [
+    (&[1, 0, 0, 4], 29, 3),
+    (&[1, 0, 0], 2, 3),
+    (&[1, 0, 0, 1, 0x70, 2, 1], 29, 5),
+    (&[1, 0, 0, 2, 2, 1], 29, 4),
+    (&[1, 0, 0, 2], 2, 4),
+    (&[1, 0, 0, 2, 1, 1], 2, 6),
+    (&[1, 0, 0, 3, 0xFF], 2, 5),
+    (&[1, 0, 1, 0xFF], 4, 3),
+    (&[0, 0], 10, 1),
+];
 
 /// The readings of which hints sit on a branch: in which order lists are judged, and when.
 #[test]
@@ -406,18 +414,7 @@ fn hints_behind_lists() {
         on_branches(&payload, Some(&[0]), Some(&[0])),
         (19, FUNCTION_AT)
     );
-    // kinds and flags, what is missing, and what is left
-    for (imports, code, at) in [
-        (&[1, 0, 0, 4][..], 29, 3),
-        (&[1, 0, 0], 2, 3),
-        (&[1, 0, 0, 1, 0x70, 2, 1], 29, 5),
-        (&[1, 0, 0, 2, 2, 1], 29, 4),
-        (&[1, 0, 0, 2], 2, 4),
-        (&[1, 0, 0, 2, 1, 1], 2, 6),
-        (&[1, 0, 0, 3, 0xFF], 2, 5),
-        (&[1, 0, 1, 0xFF], 4, 3),
-        (&[0, 0], 10, 1),
-    ] {
+    for (imports, code, at) in IMPORTS {
         let said = on_branches(&payload, Some(imports), Some(&[]));
         assert_eq!(said, (code, contents_at + at), "{imports:02X?}");
     }
@@ -429,9 +426,9 @@ fn hints_behind_lists() {
     assert_eq!(Tally::default().on_branches(without).code, 0);
 }
 
-/// The readings of one hint: its function, the locals, and what stands before it.
+/// The readings of a hint's function.
 #[test]
-fn hints_on_bodies() {
+fn hints_of_functions() {
     // imported, or no such body; a function without hints is not looked for
     let one_function = [1, 0, 0, 0, 5];
     let body = [1, 5, 0x00, 0x04, 0x40, 0x0B, 0x0B];
@@ -444,58 +441,48 @@ fn hints_on_bodies() {
     // 21 of function 0 before 19 of function 9
     let both = [2, 0, 1, 2, 1, 1, 9, 1, 1, 1, 1];
     assert_eq!(on_branches(&both, None, Some(&body)), (21, OFFSET_AT));
-    let [accepted, unreadable, no_branch] = [(0, 0), (20, OFFSET_AT), (21, OFFSET_AT)];
-    for (body, offset, said) in [
-        // locals that cannot be read, whatever the place
-        (&[0x01, 0x01, 0x7B, 0x0B][..], 0, unreadable),
-        (&[0x01, 0x01, 0x7B, 0x0B], 9, unreadable),
-        (&[], 0, unreadable),
-        // an instruction before the place, and at it
-        (&[0x00, 0x43, 0x00, 0x0D], 3, unreadable),
-        (&[0x00, 0xC0, 0x0D, 0x00, 0x0B], 2, unreadable),
-        (&[0x00, 0xC0, 0x0D, 0x00, 0x0B], 1, no_branch),
-        (&[0x00, 0x04], 1, accepted),
-        // inside locals, inside an instruction, at the end and behind it
-        (&[0x01, 0x04, 0x7F, 0x0B], 1, no_branch),
-        (&[0x00, 0x41, 0x04, 0x0B], 2, no_branch),
-        (&[0x00, 0x0B], 2, no_branch),
-        (&[0x00, 0x0B], 3, no_branch),
-        // a table's number in five bytes, and in one
-        (
-            &[0x00, 0x11, 0x00, 0x80, 0x80, 0x80, 0x80, 0x00, 0x0D, 0x00],
-            8,
-            unreadable,
-        ),
-        (&[0x00, 0x11, 0x00, 0x00, 0x0D, 0x00], 4, accepted),
-        // fifth bytes of a constant
-        (
-            &[0x00, 0x41, 0x80, 0x80, 0x80, 0x80, 0x07, 0x0D],
-            7,
-            accepted,
-        ),
-        (
-            &[0x00, 0x41, 0x80, 0x80, 0x80, 0x80, 0x08, 0x0D],
-            7,
-            unreadable,
-        ),
-        (
-            &[0x00, 0x41, 0x80, 0x80, 0x80, 0x80, 0x77, 0x0D],
-            7,
-            unreadable,
-        ),
-        (
-            &[0x00, 0x41, 0x80, 0x80, 0x80, 0x80, 0x78, 0x0D],
-            7,
-            accepted,
-        ),
-        // an alignment of 127, `else` without `if`, code behind an `end`
-        (
-            &[0x00, 0x28, 0x7F, 0x00, 0x05, 0x0B, 0x0D, 0x00],
-            6,
-            accepted,
-        ),
-    ] {
-        assert_eq!(on_body(body, offset), said, "{body:02X?}");
+}
+
+const ACCEPTED: (u32, u64) = (0, 0);
+const UNREADABLE: (u32, u64) = (20, OFFSET_AT);
+const NO_BRANCH: (u32, u64) = (21, OFFSET_AT);
+
+/// Bodies, the offset of a hint, and what is said of it.
+#[rustfmt::skip]
+const BODIES: [(&[u8], u8, (u32, u64)); 18] = [
+    // locals that cannot be read, whatever the place
+    (&[0x01, 0x01, 0x7B, 0x0B], 0, UNREADABLE),
+    (&[0x01, 0x01, 0x7B, 0x0B], 9, UNREADABLE),
+    (&[], 0, UNREADABLE),
+    // an instruction before the place, and at it
+    (&[0x00, 0x43, 0x00, 0x0D], 3, UNREADABLE),
+    (&[0x00, 0xC0, 0x0D, 0x00, 0x0B], 2, UNREADABLE),
+    (&[0x00, 0xC0, 0x0D, 0x00, 0x0B], 1, NO_BRANCH),
+    (&[0x00, 0x04], 1, ACCEPTED),
+    // inside locals, inside an instruction, at the end and behind it
+    (&[0x01, 0x04, 0x7F, 0x0B], 1, NO_BRANCH),
+    (&[0x00, 0x41, 0x04, 0x0B], 2, NO_BRANCH),
+    (&[0x00, 0x0B], 2, NO_BRANCH),
+    (&[0x00, 0x0B], 3, NO_BRANCH),
+    // a table's number in five bytes, and in one
+    (&[0x00, 0x11, 0x00, 0x80, 0x80, 0x80, 0x80, 0x00, 0x0D, 0x00], 8, UNREADABLE),
+    (&[0x00, 0x11, 0x00, 0x00, 0x0D, 0x00], 4, ACCEPTED),
+    // fifth bytes of a constant
+    (&[0x00, 0x41, 0x80, 0x80, 0x80, 0x80, 0x07, 0x0D], 7, ACCEPTED),
+    (&[0x00, 0x41, 0x80, 0x80, 0x80, 0x80, 0x08, 0x0D], 7, UNREADABLE),
+    (&[0x00, 0x41, 0x80, 0x80, 0x80, 0x80, 0x77, 0x0D], 7, UNREADABLE),
+    (&[0x00, 0x41, 0x80, 0x80, 0x80, 0x80, 0x78, 0x0D], 7, ACCEPTED),
+    // an alignment of 127, `else` without `if`, code behind an `end`
+    (&[0x00, 0x28, 0x7F, 0x00, 0x05, 0x0B, 0x0D, 0x00], 6, ACCEPTED),
+];
+
+/// The readings of one hint: the locals, and what stands before it.
+#[test]
+fn hints_on_bodies() {
+    for (body, offset, said) in BODIES {
+        let bodies = [&[1, body.len() as u8], body].concat();
+        let hint = on_branches(&one_hint(0, offset), None, Some(&bodies));
+        assert_eq!(hint, said, "{body:02X?}");
     }
 }
 
