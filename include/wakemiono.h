@@ -24,7 +24,8 @@
  *    7  second section `name`, `metadata.code.branch_hint`, `branchHints`   its id byte
  *    8  data after `name`; hints after code                                 id byte of the later section
  *    9  subsection id not above the one before                              id byte
- *   10  bytes left over in a subsection, in metadata or in hints            first of them
+ *   10  bytes left over in a subsection, in metadata or in hints, or
+ *       behind the list of imports or of bodies                             first of them
  *   11  index or offset not above the one before                            that number (from lists: its position)
  *   12  hint of size other than 1, or data above 1; older: kind above 1     the size number; older: the kind
  *   13  output shorter than needed                                          the needed length (markers: their number)

@@ -246,6 +246,7 @@ fn through_answers(module: &[u8]) -> Vec<Answer> {
     let mut answers = vec![
         hint_in(module, 0, 0),
         old_hint_in(module, 0, 0),
+        hints_on_branches(module),
         metadata_in(module, b"branch_hint", 0, 0),
         metadata_in(module, b"x", 0, 0),
     ];

@@ -41,8 +41,8 @@ pub enum Reason {
     SectionTooLate = 8,
     /// 9: a subsection's id is not above the one before. The offset is that of the id.
     SubsectionOrder = 9,
-    /// 10: bytes are left over in a subsection, in metadata or in hints. The offset is that of the
-    /// first of them.
+    /// 10: bytes are left over in a subsection, in metadata or in hints, or behind the list of imports or
+    /// of bodies. The offset is that of the first of them.
     LeftOver = 10,
     /// 11: an index or code offset is not above the one before. The offset is that of the number;
     /// from lists, its position in the list.
@@ -232,7 +232,9 @@ impl fmt::Display for Reason {
             }
             Reason::SectionTooLate => "a data section follows `name`, or branch hints follow code",
             Reason::SubsectionOrder => "a subsection id is not above the one before",
-            Reason::LeftOver => "bytes are left over in a subsection, in metadata or in hints",
+            Reason::LeftOver => {
+                "bytes are left over in a subsection, in metadata or in hints, or behind imports or bodies"
+            }
             Reason::NotRising => "an index or code offset is not above the one before",
             Reason::NotAHint => "a branch hint has a size other than 1, or data or a kind above 1",
             Reason::OutputTooShort => "the output is shorter than needed",

@@ -130,7 +130,8 @@ impl<'s, 'o> From<SuppliedBytes<'s, 'o>> for SuppliedName<'s, 'o> {
 /// assert_eq!((refused.refusal().number(), refused.refusal().offset()), (10, 3));
 /// assert_eq!(
 ///     refused.to_string(),
-///     "the module's own payload: bytes are left over in a subsection, in metadata or in hints: the \
+///     "the module's own payload: bytes are left over in a subsection, in metadata or in hints, or \
+///      behind imports or bodies: the \
 ///      first of them stands at byte 0x3 (3)"
 /// );
 /// ```

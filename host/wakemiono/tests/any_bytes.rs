@@ -5,7 +5,7 @@
 mod common;
 
 use common::{
-    custom, module, AllQuestions, Asked, PairAsked, EVERY_ID, HINTS_NAME, OLD_HINTS_NAME,
+    custom, module, section, AllQuestions, Asked, PairAsked, EVERY_ID, HINTS_NAME, OLD_HINTS_NAME,
     ONLY_WIDER, P, SMALL,
 };
 use wakemiono::{
@@ -259,6 +259,22 @@ fn module_agrees(bytes: &[u8]) {
     for function in (0..4).map(FunctionIndex) {
         hints_agree_through(&module, function);
     }
+    branches_agree(&module);
+}
+
+/// Whether hints stand on branches is asked behind all that module and hints are refused for, and without hints it is
+/// accepted.
+fn branches_agree(module: &Module<'_>) {
+    let on_branches = module.hints_on_branches();
+    match module.hint(FunctionIndex(0), CodeOffset(0)) {
+        Err(refusal) => assert_eq!(on_branches, Err(refusal)),
+        Ok(_) if module.custom(HINTS_NAME) == Ok(None) => assert_eq!(on_branches, Ok(())),
+        Ok(_) => {
+            let number = on_branches.map_or_else(|refusal| refusal.number(), |()| 0);
+            let of_code = [0, 2, 3, 4, 10, 19, 20, 21, 29];
+            assert!(of_code.contains(&number), "{number}");
+        }
+    }
 }
 
 /// All calls that walk give the same refusal, and the steps of `sections` are those of `section`.
@@ -487,5 +503,11 @@ fn modules() {
     near(&whole).for_each(|bytes| module_agrees(&bytes));
     let older = module(&[custom(OLD_HINTS_NAME, &[0]), custom("name", &[])]);
     near(&older).for_each(|bytes| module_agrees(&bytes));
+    let imports = section(2, &[2, 0, 0, 0, 0, 0, 0, 2, 0, 1]);
+    let code = section(10, &[1, 5, 0x00, 0x04, 0x40, 0x0B, 0x0B]);
+    let hints = custom(HINTS_NAME, &[0x01, 0x01, 0x01, 0x01, 0x01, 0x01]);
+    let on_branches = module(&[imports, hints, code]);
+    assert_eq!(Module::new(&on_branches).hints_on_branches(), Ok(()));
+    near(&on_branches).for_each(|bytes| module_agrees(&bytes));
     generated(500).for_each(|bytes| module_agrees(&module(&[bytes])));
 }

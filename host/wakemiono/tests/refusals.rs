@@ -74,8 +74,8 @@ fn of_payloads() {
     says(
         names(&[0x01, 0x02, 0x00, 0x00]),
         Reason::LeftOver,
-        "bytes are left over in a subsection, in metadata or in hints: the first of them stands at \
-         byte 0x3 (3)",
+        "bytes are left over in a subsection, in metadata or in hints, or behind imports or bodies: \
+         the first of them stands at byte 0x3 (3)",
     );
     says(
         names(&[0x01, 0x07, 0x02, 0x03, 0x01, 0x62, 0x03, 0x01, 0x61]),
@@ -222,6 +222,27 @@ fn of_hints_on_branches() {
     );
 }
 
+/// The imports of a module with hints: a kind that there is not, and bytes behind the list.
+#[test]
+fn of_imports_beside_hints() {
+    let with = |imports: &[u8]| {
+        let bytes = module(&[section(2, imports), custom(HINTS_NAME, &[0])]);
+        Module::new(&bytes).hints_on_branches()
+    };
+    says(
+        with(&[1, 0, 0, 4]),
+        Reason::UnknownImport,
+        "an import's kind is above 3, or the flag of its limits above 1: the kind, or the flag, \
+         stands at byte 0xD (13)",
+    );
+    says(
+        with(&[0, 0]),
+        Reason::LeftOver,
+        "bytes are left over in a subsection, in metadata or in hints, or behind imports or bodies: \
+         the first of them stands at byte 0xB (11)",
+    );
+}
+
 #[test]
 fn of_pairs() {
     let (accepted, left_over) = (
@@ -230,7 +251,8 @@ fn of_pairs() {
     );
     let said = |separate, own| Pair::new(separate, own).module_name().unwrap_err();
     let sentence =
-        "bytes are left over in a subsection, in metadata or in hints: the first of them \
+        "bytes are left over in a subsection, in metadata or in hints, or behind imports or \
+                    bodies: the first of them \
                     stands at byte 0x3 (3)";
     assert_eq!(
         said(left_over, accepted).to_string(),
