@@ -12,12 +12,12 @@ use Rattle.format.specs.Numbers.{limit32}
 use Rattle.format.specs.Older.{times}
 use Rattle.format.specs.Parts.{Part}
 use Rattle.format.specs.Questions.{answered, asPlace}
-use Rattle.format.specs.Reading.{accepted, refused, verdict}
-use Rattle.format.specs.Refusals.{numberOf}
+use Rattle.format.specs.Reading.{accepted, verdict}
 use Rattle.format.specs.Verdicts.{verdictOf}
-use Rattle.format.specs.Walk.{hintSection, customPayload}
+use Rattle.format.specs.Walk.{hintSection, customPayload, walk, payloadIn}
 use Rattle.format.specs.Laws.Answers.{place-none, place-found, place-refused}
 use Rattle.format.specs.Laws.Found.{payload-lies}
+use Rattle.format.specs.Laws.Outcomes.{mapped}
 use Rattle.format.specs.Laws.Places.{lies-inside, lies-slice}
 use Rattle.format.specs.declared.Answer.{Answer}
 use Rattle.format.specs.declared.Answer.the-variants.{Found as FoundAt, Refused as NotAnswered}
@@ -37,13 +37,11 @@ use Rattle.branches.specs.Hints.{placedRows, functionHints, allHints}
 use Rattle.branches.specs.Laws.Hints.{read-again}
 use Rattle.branches.specs.Lists.{Standing, JudgesBodies, AllBodies, Kept}
 use Rattle.branches.specs.Reads.{counted, Counts}
-use Rattle.branches.specs.Sections.{Finds}
+use Rattle.branches.specs.Sections.{Walked, Finds}
 use Rattle.branches.specs.declared.bodies.BodiesRead.{BodiesRead}
 use Rattle.branches.specs.declared.bodies.BodiesRead.the-variants.{All, Refused as NoBodies}
 use Rattle.branches.specs.declared.imports.Counted.{Counted}
 use Rattle.branches.specs.declared.imports.Counted.the-variants.{Functions, Refused as NotCounted}
-use Rattle.branches.specs.declared.sections.Sought.{Sought}
-use Rattle.branches.specs.declared.sections.Sought.the-variants.{Found, Refused}
 use Rattle.branches.specs.declared.sections.Spot.{Spot}
 use Rattle.branches.specs.declared.sections.Spot.the-variants.{At}
 use Rattle.branches.proofs.sections.Spot as spot-type
@@ -57,58 +55,45 @@ sought m r x name is e = rw (← is) e
 pub ruleset hint-sections = (sought, needs)
 
 -- a section's contents
-module _ {m : List ℕ} {id : ℕ} {x : Sought} (f : Finds m id x) where
-  contents-refused : {r : Refusal} → x ≡ Refused r → contentsOf id m ≡ refused (numberOf (r .reason)) (r .offset .0)
-  contents-refused e = sym (rw e at (f .says))
+module _ {m : List ℕ} {id : ℕ} {spot : Spot} (f : Finds m id spot) where
+  contents-none : tagOf spot-type.the-type spot ≡ 0 → contentsOf id m ≡ accepted none
+  contents-none t = sym (rw (as-nowhere spot t) at (f .says))
 
-  module _ {spot : Spot} (e : x ≡ Found spot) where
-    contents-none : tagOf spot-type.the-type spot ≡ 0 → contentsOf id m ≡ accepted none
-    contents-none t = sym (rw (e, as-nowhere spot t) at (f .says))
+  module _ {c : Cursor} (q : spot ≡ At c) where
+    contents-there : contentsOf id m ≡ accepted (some (partOf m c))
+    contents-there = sym (rw q at (f .says))
 
-    contents-there : {c : Cursor} → spot ≡ At c → contentsOf id m ≡ accepted (some (partOf m c))
-    contents-there q = sym (rw (e, q) at (f .says))
-
-    pub spot-inside : {c : Cursor} → spot ≡ At c → Inside m c
-    spot-inside q = rw (e, q) at (f .inside)
+    pub spot-inside : Inside m c
+    spot-inside = rw q at (f .inside)
 
 -- the imports
-module _ {m : List ℕ} {x : Sought} (f : Finds m 2 x) where
-  pub imports-refused : {r : Refusal} → x ≡ Refused r → counted (NotCounted r) ≡ importedFunctions m
+module _ {m : List ℕ} {spot : Spot} (f : Finds m 2 spot) where
+  pub imports-none : tagOf spot-type.the-type spot ≡ 0 → counted (Functions 0) ≡ importedFunctions m
   unfolding importedFunctions
-  imports-refused e = rw (contents-refused f e)
+  imports-none t = rw (contents-none f t)
 
-  module _ {spot : Spot} (e : x ≡ Found spot) where
-    pub imports-none : tagOf spot-type.the-type spot ≡ 0 → counted (Functions 0) ≡ importedFunctions m
-    unfolding importedFunctions
-    imports-none t = rw (contents-none f e t)
+  pub imports-there : {c : Cursor} {y : Counted} → spot ≡ At c → Counts m c y → counted y ≡ importedFunctions m
+  unfolding importedFunctions
+  imports-there q g = g .says ∙ rw (contents-there f q)
 
-    pub imports-there : {c : Cursor} {y : Counted} → spot ≡ At c → Counts m c y → counted y ≡ importedFunctions m
-    unfolding importedFunctions
-    imports-there q g = g .says ∙ rw (contents-there f e q)
-
-pub ruleset imported-steps = (imports-refused, imports-none, imports-there, spot-inside, needs)
+pub ruleset imported-steps = (imports-none, imports-there, spot-inside, needs)
 
 -- the bodies
-module _ {m : List ℕ} {x : Sought} (f : Finds m 10 x) where
-  pub bodies-refused : {r : Refusal} → x ≡ Refused r → AllBodies m (NoBodies r)
+module _ {m : List ℕ} {spot : Spot} (f : Finds m 10 spot) where
+  pub bodies-none : tagOf spot-type.the-type spot ≡ 0 → AllBodies m (All (record { at = 0; end = 0 }) 0)
+  unfolding functionBodies times
+  bodies-none t =
+      let here : Inside m (record { at = 0; end = 0 }) = record { ahead = omega arith; within = omega arith } in
+      record { says = record { parts = []; last = record { at = 0; end = 0 }; are = rw (contents-none f t); stand = record { inside = here; reads = refl; behind = here; same-end = refl } } }
+
+  pub bodies-there : {c : Cursor} (y : BodiesRead) → spot ≡ At c → JudgesBodies m c y → AllBodies m y
   unfolding functionBodies
-  bodies-refused e = record { says = rw (contents-refused f e) }
+  bodies-there (All next n) q g =
+      let w = g .says in
+      record { says = record { parts = w .parts; last = w .last; are = rw (contents-there f q) (w .are); stand = w .stand } }
+  bodies-there (NoBodies r) q g = record { says = rw (contents-there f q) (g .says) }
 
-  module _ {spot : Spot} (e : x ≡ Found spot) where
-    pub bodies-none : tagOf spot-type.the-type spot ≡ 0 → AllBodies m (All (record { at = 0; end = 0 }) 0)
-    unfolding functionBodies times
-    bodies-none t =
-        let here : Inside m (record { at = 0; end = 0 }) = record { ahead = omega arith; within = omega arith } in
-        record { says = record { parts = []; last = record { at = 0; end = 0 }; are = rw (contents-none f e t); stand = record { inside = here; reads = refl; behind = here; same-end = refl } } }
-
-    pub bodies-there : {c : Cursor} (y : BodiesRead) → spot ≡ At c → JudgesBodies m c y → AllBodies m y
-    unfolding functionBodies
-    bodies-there (All next n) q g =
-        let w = g .says in
-        record { says = record { parts = w .parts; last = w .last; are = rw (contents-there f e q) (w .are); stand = w .stand } }
-    bodies-there (NoBodies r) q g = record { says = rw (contents-there f e q) (g .says) }
-
-pub ruleset bodies-found = (bodies-refused, bodies-none, bodies-there, spot-inside, needs)
+pub ruleset bodies-found = (bodies-none, bodies-there, spot-inside, needs)
 
 -- then hint by hint
 module _ (m : List ℕ) (payload : Cursor) {x : Counted} (says : counted x ≡ importedFunctions m) where
@@ -180,6 +165,12 @@ module _ (m : List ℕ) (a : Answer) (e : answered a ≡ asPlace (customPayload 
   no-hints t = rw (place-none (customPayload hintSection m) (rw (no-answer a t) at e))
 
   module _ {place : Place} (is : a ≡ FoundAt place) where
+    pub walk-accepts : Walked m
+    unfolding customPayload
+    walk-accepts =
+        let (p, found, there) = place-found (customPayload hintSection m) (rw is at e) in
+        mapped (payloadIn hintSection) (walk m) found λ ss are _. record { sections = ss; are = are }
+
     place-inside : place .offset .0 + place .length ≤ length m
     place-inside =
         let (p, found, there) = place-found (customPayload hintSection m) (rw is at e) in
@@ -198,4 +189,4 @@ module _ (m : List ℕ) (a : Answer) (e : answered a ≡ asPlace (customPayload 
         let part : partOf m (cursorOver place) ≡ p = subst (λ (k : Place). partOf m (cursorOver k) ≡ p) there (λ i. record { at = p .at; bytes = bytes i }) in
         says ∙ ap (payloadOnBranches m) part ∙ found-hints m p found
 
-pub ruleset branch-checks = (walk-refused, no-hints, place-fits, hints-inside, hints-there, needs)
+pub ruleset branch-checks = (walk-refused, no-hints, walk-accepts, place-fits, hints-inside, hints-there, needs)

@@ -1,119 +1,122 @@
--- The contents of a section, found on the walk.
-use Prim.Native.Nat.{ℕ, _≤_}
-use mathlib.Core.Bool.{Bool, true, false}
-use mathlib.Core.List.{List, _∷_}
-use mathlib.Core.Option.{Option}
+-- The contents of a section, found from id byte to id byte.
+use Prim.Native.Nat.{ℕ, suc, _+_, _-_, _≤_, _<_}
+use mathlib.Core.List.{List, [], _∷_}
 use mathlib.Core.Path.{_≡_, refl, sym, ap, _∙_}
+use native.Mathlib.Numerals.{add-one}
 use native.Mathlib.Omega.{arith}
 use borrow.Author.Needs.{needs}
+use borrow.Author.Tests.{le-leb, eq-eqb, ne-eqb}
 use denote.Enum.Declared.{tagOf}
-use lib.Dec.{eqb}
-use lib.ListN.{length}
-use Rattle.format.specs.Options.{orElse}
-use Rattle.format.specs.Parts.{Part}
-use Rattle.format.specs.Reading.{Judged, accepted, refused, mapJudged}
-use Rattle.format.specs.Walk.{Section as AnySection, walk, walkFrom}
-use Rattle.format.specs.Laws.Options.{or-none}
-use Rattle.format.specs.Laws.Outcomes.{byTest}
-use Rattle.format.specs.Laws.Walk.{walk-ended, walk-refused, walk-begun, walk-not-begun}
-use Rattle.format.specs.declared.Refusal.{Refusal}
-use Rattle.reading.specs.Cursors.{Inside, partOf}
+use lib.ListN.{length, drop, getD, length-take, length-drop}
+use lib.Seq.{slice, take-length, drop-cons, length-slice}
+use Rattle.format.specs.Holding.{Framed, Covers, atTheEnd, aSection}
+use Rattle.format.specs.Parts.{sized}
+use Rattle.format.specs.Reading.{got, accepted}
+use Rattle.format.specs.Walk.{preamble, Section}
+use Rattle.format.specs.Laws.Codecs.{sized-codec}
+use Rattle.format.specs.Laws.Walk.{walk-covers}
+use Rattle.reading.specs.Cursors.{Inside, left}
+use Rattle.reading.specs.Standing.{Stands, Known, TakesPart}
 use Rattle.reading.specs.declared.Cursor.{Cursor}
-use Rattle.walk.specs.Sections.{seenOf, sectionOf}
-use Rattle.walk.specs.Steps.{Steps, Begins}
-use Rattle.walk.specs.declared.step.Began.{Began}
-use Rattle.walk.specs.declared.step.Began.the-variants.{At as BegunAt, Refused as NotBegun}
-use Rattle.walk.specs.declared.step.Section.{Section}
-use Rattle.walk.specs.declared.step.Step.{Step}
-use Rattle.walk.specs.declared.step.Step.the-variants.{Section as ASection, Refused as StepRefused}
-use Rattle.walk.specs.declared.step.Walk.{Walk}
-use Rattle.walk.proofs.step.Step as step-type
-use Rattle.walk.proofs.SurveyLaws.{step-shorter, stepped, begun-within}
-use Rattle.walk.proofs.Tags.{at-end}
+use Rattle.reading.specs.declared.again.Piece.{Piece}
+use Rattle.reading.proofs.Standing.{stand, one-value, one-end}
 use Rattle.branches.specs.Branches.{contentsIn, contentsOf}
-use Rattle.branches.specs.Sections.{spotOf, SpotInside, keptSpot, FindsFrom, Finds}
-use Rattle.branches.specs.declared.sections.Sought.{Sought}
-use Rattle.branches.specs.declared.sections.Sought.the-variants.{Found, Refused}
+use Rattle.branches.specs.Sections.{Walked, Finds}
 use Rattle.branches.specs.declared.sections.Spot.{Spot}
 use Rattle.branches.specs.declared.sections.Spot.the-variants.{Nowhere, At}
 use Rattle.branches.proofs.sections.Spot as spot-type
+use Rattle.branches.proofs.RowLaws.{sized-passable}
 
 pub as-nowhere : (x : Spot) → tagOf spot-type.the-type x ≡ 0 → x ≡ Nowhere
 as-nowhere Nowhere h = refl
 as-nowhere (At c) h = absurd (omega arith)
 
--- what was found before stays
-module _ (before : Spot) (here : Bool) (contents : Cursor) where
-  pub spot-found : {c : Cursor} → before ≡ At c → At c ≡ keptSpot before here contents
-  spot-found e = rw e
+-- the cursor behind an id byte
+abbrev behindId : List ℕ → ℕ → Cursor
+behindId m at = record { at = at + 1; end = length m }
 
-  pub spot-here : tagOf spot-type.the-type before ≡ 0 → here ≡ true → At contents ≡ keptSpot before here contents
-  spot-here n t = rw (as-nowhere before n, t)
+-- where a section ends
+abbrev endOf : Section → ℕ
+endOf s = s .contents .at + length (s .contents .bytes)
 
-  pub spot-not-here : tagOf spot-type.the-type before ≡ 0 → here ≡ false → Nowhere ≡ keptSpot before here contents
-  spot-not-here n t = rw (as-nowhere before n, t)
+left-all : (m : List ℕ) (o : ℕ) → slice o (length m) m ≡ drop o m
+left-all m o = ap (drop o) (take-length m)
 
-pub ruleset spots-kept = (spot-found, spot-here, spot-not-here, needs)
+-- a section of a module that is covered: its id byte, and its contents behind that
+module _ {m : List ℕ} {s : Section} (f : Framed m s) where
+  framed-within : s .at < length m
+  framed-within = omega (arith, ap length (f .id-byte), length-take 1 (drop (s .at) m), length-drop (s .at) m)
 
-kept-inside : {m : List ℕ} (before : Spot) (here : Bool) {contents : Cursor} → SpotInside m before → Inside m contents → SpotInside m (keptSpot before here contents)
-kept-inside (At c) here i j = i
-kept-inside Nowhere true i j = j
-kept-inside Nowhere false i j = tt
+  framed-id : getD m (s .at) 0 ≡ s .id
+  framed-id = let e : getD m (s .at) 0 ∷ [] ≡ s .id ∷ [] = rw (drop-cons m (s .at) 0 framed-within) at (f .id-byte) in cc
 
-kept-more : (m : List ℕ) (id : ℕ) (before : Spot) (s : AnySection) (contents : Cursor) (ss : List AnySection) → s .contents ≡ partOf m contents → orElse (spotOf m before) (contentsIn id (s ∷ ss)) ≡ orElse (spotOf m (keptSpot before (eqb (s .id) id) contents)) (contentsIn id ss)
-unfolding contentsIn
-kept-more m id (At c) s contents ss is = refl
-kept-more m id Nowhere s contents ss is = byTest (eqb (s .id) id) (λ t. rw (t, is)) (λ t. rw t)
+  framed-reads : sized (suc (s .at)) (drop (suc (s .at)) m) ≡ got (s .contents) (endOf s) (drop (length (s .contents .bytes)) (drop (s .contents .at) m))
+  unfolding sized
+  framed-reads =
+      let fits = le-leb (length (s .contents .bytes)) (length (drop (s .contents .at) m)) (omega (arith, f .inside, length-drop (s .contents .at) m)) in
+      rw (f .size-number, fits, f .contents)
 
--- what was found, or else what the rest of the module has
-abbrev seeking : (m : List ℕ) (id : ℕ) → Spot → Judged (List AnySection) → Judged (Option Part)
-seeking m id found j = mapJudged (λ ss. orElse (spotOf m found) (contentsIn id ss)) j
+  framed-stands : Stands sized m (behindId m (s .at)) (s .contents) (record { at = endOf s; end = length m })
+  framed-stands =
+      let here : Inside m (behindId m (s .at)) = record { ahead = omega (arith, framed-within); within = omega arith } in
+      let same : sized (s .at + 1) (left m (behindId m (s .at))) ≡ sized (suc (s .at)) (drop (suc (s .at)) m) = rw (left-all m (s .at + 1), add-one) in
+      stand sized-passable here (same ∙ framed-reads)
 
-seek-more : (m : List ℕ) (id : ℕ) (found : Spot) (s : Section) (j : Judged (List AnySection)) → seeking m id found (mapJudged (λ more. sectionOf m s ∷ more) j) ≡ seeking m id (keptSpot found (eqb (s .id) id) (s .contents)) j
-seek-more m id found s (accepted ss) = ap accepted (kept-more m id found (sectionOf m s) (s .contents) ss refl)
-seek-more m id found s (refused n at) = refl
+-- the sections that are still to come: the next one, and those behind it
+record Next (m : List ℕ) (at : ℕ) (ss : List Section) : Type 0 where
+  first : Section
+  more : List Section
+  id-there : getD m at 0 ≡ first .id
+  stands : Stands sized m (behindId m at) (first .contents) (record { at = endOf first; end = length m })
+  covers : Covers m (endOf first) more
+  are : ss ≡ first ∷ more
 
-seek-first : (m : List ℕ) (id : ℕ) (j : Judged (List AnySection)) → mapJudged (contentsIn id) j ≡ seeking m id Nowhere j
-seek-first m id (accepted ss) = refl
-seek-first m id (refused n at) = refl
+next-there : {m : List ℕ} {at : ℕ} {ss : List Section} → at < length m → Covers m at ss → Next m at ss
+next-there h atTheEnd = absurd (omega arith)
+next-there h (aSection {s} {ss} f behind) = record { first = s; more = ss; id-there = framed-id f; stands = framed-stands f; covers = behind; are = refl }
 
-pub record Turn (m : List ℕ) (id : ℕ) (begun walk : Walk) (found : Spot) : Type 0 where
-  pub within : walk .at ≤ length m
-  pub inside : SpotInside m found
-  pub same : mapJudged (contentsIn id) (walkFrom m (seenOf (begun .seen)) (begun .at)) ≡ seeking m id found (walkFrom m (seenOf (walk .seen)) (walk .at))
+none-there : {m : List ℕ} {at : ℕ} {ss : List Section} → length m ≤ at → Covers m at ss → ss ≡ []
+none-there h atTheEnd = refl
+none-there h (aSection f behind) = absurd (omega (arith, framed-within f))
 
-pub turn-first : {m : List ℕ} {id : ℕ} {begun : Walk} → begun .at ≤ length m → Turn m id begun begun Nowhere
-turn-first {m} {id} {begun} h = record { within = h; inside = tt; same = seek-first m id (walkFrom m (seenOf (begun .seen)) (begun .at)) }
+-- the loop: the contents are those that the sections to come have
+pub record Turn (m : List ℕ) (id at : ℕ) : Type 0 where
+  pub to-come : List Section
+  pub covers : Covers m at to-come
+  pub same : contentsOf id m ≡ accepted (contentsIn id to-come)
 
-module _ {m : List ℕ} {id : ℕ} {begun walk : Walk} {found : Spot} (t : Turn m id begun walk found) {x : Step} (p : Steps m walk x) where
-  pub turn-refused : {r : Refusal} → x ≡ StepRefused r → FindsFrom m id begun (Refused r)
-  turn-refused e = record { says = sym (t .same ∙ ap (seeking m id found) (walk-refused m (seenOf (walk .seen)) (walk .at) (sym (rw e at (p .means))))); inside = tt }
+pub turn-first : {m : List ℕ} {id : ℕ} → Walked m → Turn m id 8
+unfolding contentsOf preamble
+turn-first {m} w = record { to-come = w .sections; covers = walk-covers m (w .are); same = rw (w .are) }
 
-  pub turn-done : tagOf step-type.the-type x ≡ 1 → FindsFrom m id begun (Found found)
+module _ {m : List ℕ} {id at : ℕ} (t : Turn m id at) where
+  pub turn-done : length m ≤ at → Finds m id Nowhere
   unfolding contentsIn
-  turn-done h = record { says = sym (t .same ∙ ap (seeking m id found) (walk-ended m (seenOf (walk .seen)) (walk .at) (sym (rw (at-end x h) at (p .means)))) ∙ ap accepted (or-none (spotOf m found))); inside = t .inside }
+  turn-done h = record { says = sym (t .same ∙ rw (none-there h (t .covers))); inside = tt }
 
-  pub turn-next : {s : Section} {next : Walk} {u : Spot} → x ≡ ASection s next → u ≡ keptSpot found (eqb (s .id) id) (s .contents) → Turn m id begun next u
-  turn-next {s} {next} e is =
-      let f = rw e at (p .forward) in
-      rw is (record {
-        within = f .within;
-        inside = kept-inside found (eqb (s .id) id) (t .inside) (f .inside .contents);
-        same = t .same ∙ ap (seeking m id found) (stepped p e) ∙ seek-more m id found s (walkFrom m (seenOf (next .seen)) (next .at));
-      })
+  module _ (h : at < length m) where
+    pub turn-known : Known sized m (behindId m at)
+    turn-known = let n = next-there h (t .covers) in record { value = _; next = _; stands = n .stands }
 
-pub ruleset section-turns = (turn-first, turn-refused, turn-done, turn-next, step-shorter, needs)
+    module _ {p : Piece} (k : TakesPart m (behindId m at) p) where
+      pub turn-found : getD m at 0 ≡ id → Finds m id (At (p .part))
+      unfolding contentsIn
+      turn-found e =
+          let n = next-there h (t .covers) in
+          let here = eq-eqb (n .first .id) id (sym (n .id-there) ∙ e) in
+          record { says = sym (t .same ∙ rw (n .are, here, one-value (n .stands) (k .stands))); inside = k .in-part }
 
--- and from the preamble on
-module _ {m : List ℕ} (id : ℕ) {x : Began} (b : Begins m x) where
-  pub seek-not-begun : {r : Refusal} → x ≡ NotBegun r → Finds m id (Refused r)
-  unfolding contentsOf
-  seek-not-begun e = record { says = sym (ap (mapJudged (contentsIn id)) (walk-not-begun m (sym (rw e at (b .means))))); inside = tt }
+      pub turn-next : (getD m at 0 ≡ id → ⊥) → Turn m id (p .next .at)
+      unfolding contentsIn
+      turn-next other =
+          let n = next-there h (t .covers) in
+          let behind = one-end (n .stands) (k .stands) in
+          let elsewhere = ne-eqb (n .first .id) id (λ e. other (n .id-there ∙ e)) in
+          record { to-come = n .more; covers = rw (← behind) (n .covers); same = t .same ∙ ap (λ ss. accepted (contentsIn id ss)) (n .are) ∙ rw elsewhere }
 
-  pub seek-begun : {begun : Walk} {r : Sought} → x ≡ BegunAt begun → FindsFrom m id begun r → Finds m id r
-  unfolding contentsOf
-  seek-begun {begun} e f =
-      let seen = rw e at (b .seen) in
-      record { says = f .says ∙ ap (mapJudged (contentsIn id)) (ap (λ s. walkFrom m s (begun .at)) (seen .0) ∙ sym (walk-begun m (sym (rw e at (b .means))))); inside = f .inside }
+      pub turn-shorter : length m - p .next .at < length m - at
+      turn-shorter =
+          let w = k .stands in
+          omega (arith, sized-codec .sound (at + 1) (left m (behindId m at)) (w .reads) .shorter, length-slice (at + 1) (length m) m (w .inside .within), length-slice (p .next .at) (p .next .end) m (w .behind .within), w .same-end, w .behind .ahead)
 
-pub ruleset section-seeks = (seek-not-begun, seek-begun, begun-within, needs)
+pub ruleset section-turns = (turn-first, turn-done, turn-known, turn-found, turn-next, turn-shorter, needs)

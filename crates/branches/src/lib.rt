@@ -9,6 +9,7 @@ ghost use Rattle.branches.specs.Functions.{Listed};
 ghost use Rattle.branches.specs.Lists.{AllBodies};
 ghost use Rattle.branches.specs.Promises.{branches-hints-on-branches};
 ghost use Rattle.branches.specs.Reads.{counted};
+ghost use Rattle.branches.specs.Sections.{Walked};
 use crate::bodies::Bodies;
 use crate::bodies::BodiesRead;
 use crate::bodies::bodies_in;
@@ -17,7 +18,6 @@ use crate::imports::Counted;
 use crate::imports::imports_in;
 use crate::sections::CODE;
 use crate::sections::IMPORTS;
-use crate::sections::Sought;
 use crate::sections::Spot;
 use crate::sections::contents_of;
 use format::Answer;
@@ -44,32 +44,29 @@ fn hint_section(m: &[u8]) -> Answer
 
 // How many functions are imported: without an import section none.
 fn imported(m: &[u8]) -> Counted
+    requires { ⌜ Walked (now m) ⌝ }
     ensures { λ r. ⌜ counted r ≡ importedFunctions (now (m .entry)) ⌝ }
 {
     match contents_of(m, IMPORTS) {
-        Sought::Refused(r) => Counted::Refused(r),
-        Sought::Found(spot) => match spot {
-            Spot::Nowhere => Counted::Functions(0),
-            Spot::At(c) => imports_in(c, m),
-        },
+        Spot::Nowhere => Counted::Functions(0),
+        Spot::At(c) => imports_in(c, m),
     }
 }
 
 // The bodies: without a code section there is none.
 fn all_bodies(m: &[u8]) -> BodiesRead
+    requires { ⌜ Walked (now m) ⌝ }
     ensures { λ r. ⌜ AllBodies (now (m .entry)) r ⌝ }
 {
     match contents_of(m, CODE) {
-        Sought::Refused(r) => BodiesRead::Refused(r),
-        Sought::Found(spot) => match spot {
-            Spot::Nowhere => BodiesRead::All(Cursor { at: 0, end: 0 }, 0),
-            Spot::At(c) => bodies_in(c, m),
-        },
+        Spot::Nowhere => BodiesRead::All(Cursor { at: 0, end: 0 }, 0),
+        Spot::At(c) => bodies_in(c, m),
     }
 }
 
 // The imports, the bodies, and then hint by hint.
 fn checked(m: &[u8], payload: Cursor) -> Verdict
+    requires { ⌜ Walked (now m) ⌝ }
     requires { ⌜ Listed (now m) payload ⌝ }
     ensures { λ r. ⌜ verdictOf r ≡ hintsChecked (now (m .entry)) (partOf (now (m .entry)) payload) ⌝ }
 {
@@ -87,6 +84,7 @@ fn checked(m: &[u8], payload: Cursor) -> Verdict
 
 // The payload comes first.
 fn on_branches(m: &[u8], payload: Cursor) -> Verdict
+    requires { ⌜ Walked (now m) ⌝ }
     requires { ⌜ Inside (now m) payload ⌝ }
     ensures { λ r. ⌜ verdictOf r ≡ payloadOnBranches (now (m .entry)) (partOf (now (m .entry)) payload) ⌝ }
 {

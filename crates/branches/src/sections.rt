@@ -1,17 +1,14 @@
-// Where the contents of the section with an id lie.
-ghost use Prim.Native.Nat.{_≤_};
-ghost use lib.ListN.{length};
-ghost use mathlib.Core.Path.{_≡_};
-ghost use Rattle.branches.specs.Sections.{keptSpot, FindsFrom, Finds};
-use format::Refusal;
+// Where the contents of the section with an id lie, in a module that the walk has accepted.
+ghost use Rattle.branches.specs.Sections.{Walked, Finds};
 use reading::Cursor;
-use walk::step::Began;
-use walk::step::Step;
-use walk::step::Walk;
+use reading::again::part_here;
 
 pub const IMPORTS: u8 = 2;
 
 pub const CODE: u8 = 10;
+
+// Behind the preamble.
+const FIRST: usize = 8;
 
 // The contents of a section, if there is one.
 pub enum Spot {
@@ -19,55 +16,21 @@ pub enum Spot {
     At(Cursor),
 }
 
-pub enum Sought {
-    Found(Spot),
-    Refused(Refusal),
-}
-
-// The first that is found stays.
-fn kept(before: Spot, here: bool, contents: Cursor) -> Spot
-    ensures { λ r. ⌜ r ≡ keptSpot before here contents ⌝ }
-{
-    match before {
-        Spot::At(c) => Spot::At(c),
-        Spot::Nowhere => {
-            if here {
-                return Spot::At(contents);
-            }
-            Spot::Nowhere
-        }
-    }
-}
-
-// From a section on to the module's end.
-fn contents_from(m: &[u8], first: Walk, id: u8) -> Sought
-    requires { ⌜ first .at ≤ length (now m) ⌝ }
-    ensures { λ r. ⌜ FindsFrom (now (m .entry)) id first r ⌝ }
-{
-    let mut walk = first;
-    let mut found = Spot::Nowhere;
-    loop {
-        match walk.step(m) {
-            Step::Refused(r) => {
-                return Sought::Refused(r);
-            }
-            Step::Done => {
-                return Sought::Found(found);
-            }
-            Step::Section(section, next) => {
-                let contents = section.contents;
-                found = kept(found, section.id == id, contents);
-                walk = next;
-            }
-        }
-    }
-}
-
-pub fn contents_of(m: &[u8], id: u8) -> Sought
+// From id byte to id byte: the walk has judged what lies between, so it is passed over by its size.
+pub fn contents_of(m: &[u8], id: u8) -> Spot
+    requires { ⌜ Walked (now m) ⌝ }
     ensures { λ r. ⌜ Finds (now (m .entry)) id r ⌝ }
 {
-    match Walk::begin(m) {
-        Began::Refused(r) => Sought::Refused(r),
-        Began::At(first) => contents_from(m, first, id),
+    let end = m.len();
+    let mut at = FIRST;
+    while at < end {
+        let section = part_here(Cursor { at: at + 1, end }, m);
+        let contents = section.part;
+        let next = section.next;
+        if m[at] == id {
+            return Spot::At(contents);
+        }
+        at = next.at;
     }
+    Spot::Nowhere
 }

@@ -5,17 +5,11 @@ use Rattle.branches.proofs.imported.Tie as tie
 contents-of-requires : tie.Need-contents-of-requires
 contents-of-requires c κs = search imported-steps
 
-enum-known-r : tie.Need-enum-known-r
-enum-known-r c = search imported-steps
-
-enum-known-spot : tie.Need-enum-known-spot
-enum-known-spot c = search imported-steps
-
 enum-told : tie.Need-enum-told
 enum-told c = search imported-steps
 
-enum-known-spot-2 : tie.Need-enum-known-spot-2
-enum-known-spot-2 c = search imported-steps
+enum-known-c : tie.Need-enum-known-c
+enum-known-c c = search imported-steps
 
 imports-in-requires : tie.Need-imports-in-requires
 imports-in-requires c κs = search imported-steps
@@ -26,8 +20,5 @@ returns c = search imported-steps
 returns-2 : tie.Need-returns-2
 returns-2 c = search imported-steps
 
-returns-3 : tie.Need-returns-3
-returns-3 c = search imported-steps
-
 pub imported-spec : {M : Type 1} → statement M
-imported-spec = tie.close (tie.spec contents-of-requires enum-known-r enum-known-spot enum-told enum-known-spot-2 imports-in-requires returns returns-2 returns-3)
+imported-spec = tie.close (tie.spec contents-of-requires enum-told enum-known-c imports-in-requires returns returns-2)
