@@ -126,7 +126,7 @@ module _ {m : List ℕ} {walk : Walk} {x : Step} (p : Steps m walk x) where
     pub step-shorter : length m - next .at < length m - walk .at
     step-shorter = let f = forward in omega (arith, f .moves, f .within)
 
-  pub stepped : {s : Section} {next : Walk} → x ≡ ASection s next → walkFrom m (seenOf (walk .seen)) (walk .at) ≡ mapJudged (λ more. sectionOf m s ∷ more) (walkFrom m (seenOf (next .seen)) (next .at))
+  stepped : {s : Section} {next : Walk} → x ≡ ASection s next → walkFrom m (seenOf (walk .seen)) (walk .at) ≡ mapJudged (λ more. sectionOf m s ∷ more) (walkFrom m (seenOf (next .seen)) (next .at))
   stepped {s} {next} e = walk-stepped m (seenOf (walk .seen)) (walk .at) (sym (rw e at (p .means))) ∙ ap (λ seen. mapJudged (λ more. sectionOf m s ∷ more) (walkFrom m seen (next .at))) (sym (rw e at (p .seen)))
 
   module _ {position : ℕ} {name : List ℕ} {begun : Walk} {tally : Tally} (t : Turn m position name begun walk tally) where
