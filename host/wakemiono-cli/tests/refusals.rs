@@ -185,8 +185,8 @@ fn judge_says_which_hint_is_on_no_branch() {
          \x20 00000020  64 65 2E 62 72 61 6E 63 68 5F 68 69 6E 74 01 00  |de.branch_hint..|\n\
          \x20 00000030  01 01 01 01 0A 09 01 07 00 41 01 04 40 0B 0B     |.........A..@..|\n\
          \x20              ^^\n\
-         \x20 what to do: the code was changed after its hints were written: strip them, or write them \
-         anew\n",
+         \x20 what to do: the code was changed after its hints were written, or a tool put them beside the \
+         branch, as wabt does before a folded one: strip them, or write them anew\n",
     );
     let judged = fed(&["judge", "-", "--json"], &hinted_code(1));
     assert_eq!(judged.status, 1);

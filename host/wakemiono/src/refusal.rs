@@ -198,7 +198,7 @@ impl Reason {
                 "code of a later version of WebAssembly, or a damaged file: its hints cannot be checked"
             }
             Reason::NotOnABranch => {
-                "the code was changed after its hints were written: strip them, or write them anew"
+                "the code was changed after its hints were written, or a tool put them beside the branch, as wabt does before a folded one: strip them, or write them anew"
             }
             Reason::NotMarkers => "the markers are not those of the payload: make them anew",
             Reason::StreamTooLong => {
