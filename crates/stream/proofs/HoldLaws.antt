@@ -8,9 +8,9 @@ use lib.Dec.{leb, eqb}
 use Rattle.format.specs.Laws.Outcomes.{byTest}
 use Rattle.stream.specs.Contents.{Contents}
 use Rattle.stream.specs.Stream.{Phase, inCustom}
-use Rattle.stream.specs.Fields.{rowNumber, inPhase, held, rowFrom, doneFrom, contentsFrom, stateFrom}
+use Rattle.stream.specs.Fields.{inPhase, held, doneFrom, contentsFrom, stateFrom}
 use Rattle.stream.specs.Phases.{blankAt, behindOf}
-use Rattle.stream.specs.Known.{knownIn, betweenAt}
+use Rattle.stream.specs.Known.{knownIn, betweenAt, skippingAt, payingAt}
 use Rattle.stream.specs.declared.Stream.{Stream}
 use Rattle.stream.specs.declared.known.Known.{Known}
 use Rattle.stream.proofs.States.{at, at-same, as-starting, as-between, as-refused, as-measuring, as-skipping, as-custom, as-sizing, as-naming, as-paying, as-failing}
@@ -35,13 +35,16 @@ module _ (f : Stream) where
       → mixed x (x .phase) (x .id) (x .at) (x .left) (x .come) (x .low) (x .begins) (f .text) (x .rest) (x .wanted) (x .least) (x .point) (x .met) (x .row) (f .refusal) ≡ held (stateFrom f)
   tidy-refused e p = ap (λ x. mixed x (x .phase) (x .id) (x .at) (x .left) (x .come) (x .low) (x .begins) (f .text) (x .rest) (x .wanted) (x .least) (x .point) (x .met) (x .row) (f .refusal)) e ∙ sym (held-at f (as-refused f p))
 
+  module _ {k : Known} (e : k ≡ knownIn f 0) {x : Stream} where
+    pub tidy-skipping : x ≡ skippingAt (f .total) k (f .at) (f .left) → f .phase ≡ 4 → x ≡ held (stateFrom f)
+    tidy-skipping q p = q ∙ ap (λ k. skippingAt (f .total) k (f .at) (f .left)) e ∙ sym (held-at f (as-skipping f p))
+
+    pub tidy-paying : x ≡ payingAt (f .total) k (f .at) (f .left) (f .row) (f .text) → f .phase ≡ 7 → x ≡ held (stateFrom f)
+    tidy-paying q p = q ∙ ap (λ k. payingAt (f .total) k (f .at) (f .left) (f .row) (f .text)) e ∙ sym (held-at f (as-custom f (omega arith) ∙ at-same refl (ap (inCustom (doneFrom f) (f .at) (f .left)) (as-paying f p))))
+
   module _ {x : Stream} (e : x ≡ behindOf f) where
     pub tidy-between : f .phase ≡ 1 → x ≡ held (stateFrom f)
     tidy-between p = e ∙ sym (held-at f (as-between f p))
-
-    pub tidy-skipping : f .phase ≡ 4
-        → mixed x 4 (x .id) (f .at) (f .left) (x .come) (x .low) (x .begins) (x .text) (x .rest) (x .wanted) (x .least) (x .point) (x .met) (x .row) (x .refusal) ≡ held (stateFrom f)
-    tidy-skipping p = ap (λ x. mixed x 4 (x .id) (f .at) (f .left) (x .come) (x .low) (x .begins) (x .text) (x .rest) (x .wanted) (x .least) (x .point) (x .met) (x .row) (x .refusal)) e ∙ sym (held-at f (as-skipping f p))
 
     pub tidy-measuring : f .phase ≡ 3
         → mixed x 3 (f .id) (f .at) (x .left) (f .come) (f .low) (x .begins) (x .text) (x .rest) (x .wanted) (x .least) (x .point) (x .met) (x .row) (x .refusal) ≡ held (stateFrom f)
@@ -55,23 +58,12 @@ in-custom (suc (suc (suc zero))) a b c d e = absurd (e refl)
 in-custom (suc (suc (suc (suc zero)))) a b c d e = absurd (d refl)
 in-custom (suc (suc (suc (suc (suc p))))) a b c d e = omega arith
 
-pub ruleset tidying = (tidy-starting, tidy-refused, tidy-between, tidy-skipping, tidy-measuring, in-custom, needs)
+pub ruleset tidying = (tidy-starting, tidy-refused, tidy-skipping, tidy-paying, tidy-between, tidy-measuring, in-custom, needs)
 
 -- of a custom section
-module _ (f : Stream) {x : Stream} (k : (x ≡ behindOf f) × (4 < f .phase)) where
+module _ (f : Stream) {x : Stream} (k : (x ≡ behindOf f) × (4 < f .phase) × (f .phase ≡ 7 → ⊥)) where
   custom-at : {c : Contents} → contentsFrom f ≡ c → held (stateFrom f) ≡ inPhase (f .total) (inCustom (doneFrom f) (f .at) (f .left) c)
   custom-at q = held-at f (as-custom f (k .1) ∙ at-same refl (ap (inCustom (doneFrom f) (f .at) (f .left)) q))
-
-  pub tidy-paying : f .phase ≡ 7
-      → mixed x 7 (x .id) (f .at) (f .left) (x .come) (x .low) (x .begins) (f .text) (x .rest) (x .wanted) (x .least) (x .point) (x .met) (f .row) (x .refusal) ≡ held (stateFrom f)
-  tidy-paying p =
-      ap (λ x. mixed x 7 (x .id) (f .at) (f .left) (x .come) (x .low) (x .begins) (f .text) (x .rest) (x .wanted) (x .least) (x .point) (x .met) (f .row) (x .refusal)) (k .0)
-      ∙ ap (λ n. mixed (behindOf f) 7 0 (f .at) (f .left) 0 0 0 (f .text) 0 0 0 0 (record { name = 0; hints = 0; older = 0 }) n 0) (row-again (f .row))
-      ∙ sym (custom-at (as-paying f p))
-    where
-      row-again : (n : ℕ) → n ≡ rowNumber (rowFrom n)
-      row-again zero = refl
-      row-again (suc n) = refl
 
   pub tidy-sizing : f .phase ≡ 5
       → mixed x 5 (x .id) (f .at) (f .left) (f .come) (f .low) (f .begins) (x .text) (x .rest) (x .wanted) (x .least) (x .point) (x .met) (x .row) (x .refusal) ≡ held (stateFrom f)
@@ -85,10 +77,10 @@ module _ (f : Stream) {x : Stream} (k : (x ≡ behindOf f) × (4 < f .phase)) wh
       ap (λ x. mixed x 6 (x .id) (f .at) (f .left) (x .come) (x .low) (f .begins) (f .text) (f .rest) (f .wanted) (f .least) (f .point) (f .met) (x .row) (x .refusal)) (k .0)
       ∙ sym (custom-at (as-naming f p))
 
-  pub tidy-failing : (f .phase ≡ 7 → ⊥) → (f .phase ≡ 5 → ⊥) → (f .phase ≡ 6 → ⊥)
+  pub tidy-failing : (f .phase ≡ 5 → ⊥) → (f .phase ≡ 6 → ⊥)
       → mixed x 8 (x .id) (f .at) (f .left) (x .come) (x .low) (x .begins) (f .text) (x .rest) (x .wanted) (x .least) (x .point) (x .met) (x .row) (f .refusal) ≡ held (stateFrom f)
-  tidy-failing a b c =
-      let h = k .1 in
+  tidy-failing b c =
+      let h = k .1 in let a = k .2 in
       ap (λ x. mixed x 8 (x .id) (f .at) (f .left) (x .come) (x .low) (x .begins) (f .text) (x .rest) (x .wanted) (x .least) (x .point) (x .met) (x .row) (f .refusal)) (k .0)
       ∙ sym (custom-at (as-failing f (above (f .phase) h a b c)))
     where
@@ -98,4 +90,4 @@ module _ (f : Stream) {x : Stream} (k : (x ≡ behindOf f) × (4 < f .phase)) wh
           (λ t. byTest (eqb p 7) (λ u. absurd (a (eqb-true p 7 u))) (λ u. byTest (eqb p 6) (λ v. absurd (c (eqb-true p 6 v))) (λ v. absurd (b (let q = leb-true p 7 t in let r = eqb-false p 7 u in let s = eqb-false p 6 v in omega arith)))))
           (λ t. leb-false p 7 t)
 
-pub ruleset tidying-custom = (tidy-paying, tidy-sizing, tidy-naming, tidy-failing, needs)
+pub ruleset tidying-custom = (tidy-sizing, tidy-naming, tidy-failing, needs)

@@ -17,6 +17,8 @@ use crate::STARTING;
 use crate::Stream;
 use crate::known::between;
 use crate::known::known_in;
+use crate::known::paying;
+use crate::known::skipping;
 
 // A state in a phase that has use for the total alone.
 pub fn blank(total: u64, phase: u8) -> Stream
@@ -56,20 +58,14 @@ fn behind(s: Stream) -> Stream
     between(known_in(s, 0), s.total)
 }
 
-// A custom section that is read, behind which so much is known.
+// A custom section that is read up to its payload, or refused, behind which so much is known.
 fn tidy_custom(s: Stream, known: Stream) -> Stream
-    requires { ⌜ (known ≡ behindOf s) × (4 < s .phase) ⌝ }
+    requires { ⌜ (known ≡ behindOf s) × (4 < s .phase) × (s .phase ≡ 7 → ⊥) ⌝ }
     ensures { λ r. ⌜ r ≡ held (stateFrom s) ⌝ }
 {
     let mut next = known;
     next.at = s.at;
     next.left = s.left;
-    if s.phase == PAYING {
-        next.phase = PAYING;
-        next.text = s.text;
-        next.row = s.row;
-        return next;
-    }
     if s.phase == SIZING {
         next.phase = SIZING;
         next.begins = s.begins;
@@ -108,14 +104,14 @@ pub fn tidy(s: Stream) -> Stream
         next.text = s.text;
         return next;
     }
+    if s.phase == SKIPPING {
+        return skipping(known_in(s, 0), s.total, s.at, s.left);
+    }
+    if s.phase == PAYING {
+        return paying(known_in(s, 0), s.total, s.at, s.left, s.row, s.text);
+    }
     let mut next = behind(s);
     if s.phase == BETWEEN {
-        return next;
-    }
-    if s.phase == SKIPPING {
-        next.phase = SKIPPING;
-        next.at = s.at;
-        next.left = s.left;
         return next;
     }
     if s.phase == MEASURING {

@@ -11,8 +11,5 @@ returns-2 c = search tidying-custom
 returns-3 : tie.Need-returns-3
 returns-3 c = search tidying-custom
 
-returns-4 : tie.Need-returns-4
-returns-4 c = search tidying-custom
-
 pub tidy-custom-spec : {M : Type 1} → statement M
-tidy-custom-spec = tie.close (tie.spec returns returns-2 returns-3 returns-4)
+tidy-custom-spec = tie.close (tie.spec returns returns-2 returns-3)
