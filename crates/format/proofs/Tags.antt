@@ -13,7 +13,7 @@ use Rattle.format.specs.Verdicts.{verdictOf, refusalIn}
 use Rattle.format.specs.Laws.Outcomes.{mapped, refused-exactly}
 use Rattle.format.specs.declared.Answer.the-variants.{None, Found, Refused as NotAnswered}
 use Rattle.format.specs.declared.Reason.{Reason}
-use Rattle.format.specs.declared.Reason.the-variants.{NoPreamble, PastItsPart, NumberTooLarge, NotText, SectionUnknown, SectionOrder, SectionTwice, SectionTooLate, SubsectionOrder, LeftOver, NotAbove, NotHint, OutputTooShort, ListsDisagree, SubsectionTooLarge, InputTooLarge, NotZero, AfterFinish, NoBody, NotReadable, NotOnBranch, NotMarkers, TotalTooLarge, NotImport}
+use Rattle.format.specs.declared.Reason.the-variants.{NoPreamble, PastItsPart, NumberTooLarge, NotText, SectionUnknown, SectionOrder, SectionTwice, SectionTooLate, SubsectionOrder, LeftOver, NotAbove, NotHint, OutputTooShort, ListsDisagree, SubsectionTooLarge, InputTooLarge, NotZero, AfterFinish, NoBody, NotReadable, NotOnBranch, NotMarkers, NoCustomer, NotOpen, HoldsInUse, NoRoom, Damaged, TotalTooLarge, NotImport, NotTheStore}
 use Rattle.format.specs.declared.Refusal.{Refusal}
 use Rattle.format.specs.declared.Verdict.{Verdict}
 use Rattle.format.specs.declared.Verdict.the-variants.{Accepted, Refused}
@@ -52,7 +52,7 @@ no-answer (NotAnswered r) h = absurd (omega arith)
 
 -- the numbers that are given, in the order in which the reasons are declared
 abbrev pub given : List ℕ
-given = 1 ∷ 2 ∷ 3 ∷ 4 ∷ 5 ∷ 6 ∷ 7 ∷ 8 ∷ 9 ∷ 10 ∷ 11 ∷ 12 ∷ 13 ∷ 14 ∷ 15 ∷ 16 ∷ 17 ∷ 18 ∷ 19 ∷ 20 ∷ 21 ∷ 22 ∷ 28 ∷ 29 ∷ []
+given = 1 ∷ 2 ∷ 3 ∷ 4 ∷ 5 ∷ 6 ∷ 7 ∷ 8 ∷ 9 ∷ 10 ∷ 11 ∷ 12 ∷ 13 ∷ 14 ∷ 15 ∷ 16 ∷ 17 ∷ 18 ∷ 19 ∷ 20 ∷ 21 ∷ 22 ∷ 23 ∷ 24 ∷ 25 ∷ 26 ∷ 27 ∷ 28 ∷ 29 ∷ 30 ∷ []
 
 by-tag : (r : Reason) → numberOf r ≡ getD given (tagOf reason-type.the-type r) 0
 by-tag NoPreamble = refl
@@ -77,8 +77,14 @@ by-tag NoBody = refl
 by-tag NotReadable = refl
 by-tag NotOnBranch = refl
 by-tag NotMarkers = refl
+by-tag NoCustomer = refl
+by-tag NotOpen = refl
+by-tag HoldsInUse = refl
+by-tag NoRoom = refl
+by-tag Damaged = refl
 by-tag TotalTooLarge = refl
 by-tag NotImport = refl
+by-tag NotTheStore = refl
 
 pub number-told : (r : Reason) (tag n : ℕ) → tagOf reason-type.the-type r ≡ tag → n ≡ getD given tag 0 → n ≡ numberOf r
 number-told r tag n e is = is ∙ sym (by-tag r ∙ ap (λ t. getD given t 0) e)

@@ -1,7 +1,7 @@
 -- Refusal numbers: what each is given for. Where its offset points is said where it is given. Assumes nothing.
 use Prim.Native.Nat.{ℕ}
 use Rattle.format.specs.declared.Reason.{Reason}
-use Rattle.format.specs.declared.Reason.the-variants.{NoPreamble, PastItsPart, NumberTooLarge, NotText, SectionUnknown, SectionOrder, SectionTwice, SectionTooLate, SubsectionOrder, LeftOver, NotAbove, NotHint, OutputTooShort, ListsDisagree, SubsectionTooLarge, InputTooLarge, NotZero, AfterFinish, NoBody, NotReadable, NotOnBranch, NotMarkers, TotalTooLarge, NotImport}
+use Rattle.format.specs.declared.Reason.the-variants.{NoPreamble, PastItsPart, NumberTooLarge, NotText, SectionUnknown, SectionOrder, SectionTwice, SectionTooLate, SubsectionOrder, LeftOver, NotAbove, NotHint, OutputTooShort, ListsDisagree, SubsectionTooLarge, InputTooLarge, NotZero, AfterFinish, NoBody, NotReadable, NotOnBranch, NotMarkers, NoCustomer, NotOpen, HoldsInUse, NoRoom, Damaged, TotalTooLarge, NotImport, NotTheStore}
 
 abbrev pub numberOf : Reason → ℕ
 -- preamble missing or different
@@ -48,7 +48,19 @@ numberOf NotReadable = 20
 numberOf NotOnBranch = 21
 -- markers of unequal counts, with an end outside the payload, not rising, or not below the end
 numberOf NotMarkers = 22
+-- no such customer of a shared table
+numberOf NoCustomer = 23
+-- a hold that is not open, or above 7
+numberOf NotOpen = 24
+-- all eight holds of a customer in use
+numberOf HoldsInUse = 25
+-- no run of free blocks that is long enough for a payload that is not stored yet
+numberOf NoRoom = 26
+-- a block whose check is wrong, or a stored payload that is no longer accepted
+numberOf Damaged = 27
 -- a part that takes the total above 18,446,744,073,709,551,615 bytes
 numberOf TotalTooLarge = 28
 -- an import kind above 3, or a limits flag above 1
 numberOf NotImport = 29
+-- a store of another length than at the start, or not of 1 to 128 blocks
+numberOf NotTheStore = 30

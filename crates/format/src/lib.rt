@@ -91,7 +91,7 @@ pub const FIELD_NAMES: u8 = 10;
 
 pub const TAG_NAMES: u8 = 11;
 
-// Why an input is refused, in the order of the numbers: 1 to 22, 28 (K5) and 29 (K6).
+// Why an input is refused, in the order of the numbers, which are 1 to 30.
 pub enum Reason {
     NoPreamble,
     PastItsPart,
@@ -115,8 +115,14 @@ pub enum Reason {
     NotReadable,
     NotOnBranch,
     NotMarkers,
+    NoCustomer,
+    NotOpen,
+    HoldsInUse,
+    NoRoom,
+    Damaged,
     TotalTooLarge,
     NotImport,
+    NotTheStore,
 }
 
 pub struct Refusal {
@@ -229,8 +235,14 @@ impl Reason {
             Reason::NotReadable => 20,
             Reason::NotOnBranch => 21,
             Reason::NotMarkers => 22,
+            Reason::NoCustomer => 23,
+            Reason::NotOpen => 24,
+            Reason::HoldsInUse => 25,
+            Reason::NoRoom => 26,
+            Reason::Damaged => 27,
             Reason::TotalTooLarge => 28,
             Reason::NotImport => 29,
+            Reason::NotTheStore => 30,
         }
     }
 }

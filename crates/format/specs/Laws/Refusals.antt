@@ -12,14 +12,14 @@ use Rattle.format.specs.declared.Refusal.{Refusal}
 use Rattle.format.specs.declared.Verdict.{Verdict}
 use Rattle.format.specs.declared.Verdict.the-variants.{Accepted, Refused}
 use Rattle.format.specs.declared.Reason.{Reason}
-use Rattle.format.specs.declared.Reason.the-variants.{NoPreamble, PastItsPart, NumberTooLarge, NotText, SectionUnknown, SectionOrder, SectionTwice, SectionTooLate, SubsectionOrder, LeftOver, NotAbove, NotHint, OutputTooShort, ListsDisagree, SubsectionTooLarge, InputTooLarge, NotZero, AfterFinish, NoBody, NotReadable, NotOnBranch, NotMarkers, TotalTooLarge, NotImport}
+use Rattle.format.specs.declared.Reason.the-variants.{NoPreamble, PastItsPart, NumberTooLarge, NotText, SectionUnknown, SectionOrder, SectionTwice, SectionTooLate, SubsectionOrder, LeftOver, NotAbove, NotHint, OutputTooShort, ListsDisagree, SubsectionTooLarge, InputTooLarge, NotZero, AfterFinish, NoBody, NotReadable, NotOnBranch, NotMarkers, NoCustomer, NotOpen, HoldsInUse, NoRoom, Damaged, TotalTooLarge, NotImport, NotTheStore}
 
 -- for numbers that are not given
 notGiven : Reason
 notGiven = NoPreamble
 
 reasons : List Reason
-reasons = NoPreamble ∷ PastItsPart ∷ NumberTooLarge ∷ NotText ∷ SectionUnknown ∷ SectionOrder ∷ SectionTwice ∷ SectionTooLate ∷ SubsectionOrder ∷ LeftOver ∷ NotAbove ∷ NotHint ∷ OutputTooShort ∷ ListsDisagree ∷ SubsectionTooLarge ∷ InputTooLarge ∷ NotZero ∷ AfterFinish ∷ NoBody ∷ NotReadable ∷ NotOnBranch ∷ NotMarkers ∷ notGiven ∷ notGiven ∷ notGiven ∷ notGiven ∷ notGiven ∷ TotalTooLarge ∷ NotImport ∷ []
+reasons = NoPreamble ∷ PastItsPart ∷ NumberTooLarge ∷ NotText ∷ SectionUnknown ∷ SectionOrder ∷ SectionTwice ∷ SectionTooLate ∷ SubsectionOrder ∷ LeftOver ∷ NotAbove ∷ NotHint ∷ OutputTooShort ∷ ListsDisagree ∷ SubsectionTooLarge ∷ InputTooLarge ∷ NotZero ∷ AfterFinish ∷ NoBody ∷ NotReadable ∷ NotOnBranch ∷ NotMarkers ∷ NoCustomer ∷ NotOpen ∷ HoldsInUse ∷ NoRoom ∷ Damaged ∷ TotalTooLarge ∷ NotImport ∷ NotTheStore ∷ []
 
 -- the reason with a number, counted from 1
 numbered : ℕ → Reason
@@ -49,8 +49,14 @@ numbered-is NoBody = refl
 numbered-is NotReadable = refl
 numbered-is NotOnBranch = refl
 numbered-is NotMarkers = refl
+numbered-is NoCustomer = refl
+numbered-is NotOpen = refl
+numbered-is HoldsInUse = refl
+numbered-is NoRoom = refl
+numbered-is Damaged = refl
 numbered-is TotalTooLarge = refl
 numbered-is NotImport = refl
+numbered-is NotTheStore = refl
 
 -- a refusal's number is a byte
 pub number-small : (r : Reason) → numberOf r < 256
@@ -76,8 +82,14 @@ number-small NoBody = omega arith
 number-small NotReadable = omega arith
 number-small NotOnBranch = omega arith
 number-small NotMarkers = omega arith
+number-small NoCustomer = omega arith
+number-small NotOpen = omega arith
+number-small HoldsInUse = omega arith
+number-small NoRoom = omega arith
+number-small Damaged = omega arith
 number-small TotalTooLarge = omega arith
 number-small NotImport = omega arith
+number-small NotTheStore = omega arith
 
 pub told-apart : (r s : Reason) → numberOf r ≡ numberOf s → r ≡ s
 told-apart r s e = sym (numbered-is r) ∙ ap numbered e ∙ numbered-is s

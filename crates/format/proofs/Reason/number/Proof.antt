@@ -74,6 +74,24 @@ enum-told-23 c = search numbers-told
 enum-told-24 : tie.Need-enum-told-24
 enum-told-24 c = search numbers-told
 
+enum-told-25 : tie.Need-enum-told-25
+enum-told-25 c = search numbers-told
+
+enum-told-26 : tie.Need-enum-told-26
+enum-told-26 c = search numbers-told
+
+enum-told-27 : tie.Need-enum-told-27
+enum-told-27 c = search numbers-told
+
+enum-told-28 : tie.Need-enum-told-28
+enum-told-28 c = search numbers-told
+
+enum-told-29 : tie.Need-enum-told-29
+enum-told-29 c = search numbers-told
+
+enum-told-30 : tie.Need-enum-told-30
+enum-told-30 c = search numbers-told
+
 returns : tie.Need-returns
 returns c = search numbers-told
 
@@ -146,5 +164,23 @@ returns-23 c = search numbers-told
 returns-24 : tie.Need-returns-24
 returns-24 c = search numbers-told
 
+returns-25 : tie.Need-returns-25
+returns-25 c = search numbers-told
+
+returns-26 : tie.Need-returns-26
+returns-26 c = search numbers-told
+
+returns-27 : tie.Need-returns-27
+returns-27 c = search numbers-told
+
+returns-28 : tie.Need-returns-28
+returns-28 c = search numbers-told
+
+returns-29 : tie.Need-returns-29
+returns-29 c = search numbers-told
+
+returns-30 : tie.Need-returns-30
+returns-30 c = search numbers-told
+
 pub number-spec : {M : Type 1} → statement M
-number-spec = tie.close (tie.spec enum-told enum-told-2 enum-told-3 enum-told-4 enum-told-5 enum-told-6 enum-told-7 enum-told-8 enum-told-9 enum-told-10 enum-told-11 enum-told-12 enum-told-13 enum-told-14 enum-told-15 enum-told-16 enum-told-17 enum-told-18 enum-told-19 enum-told-20 enum-told-21 enum-told-22 enum-told-23 enum-told-24 returns returns-2 returns-3 returns-4 returns-5 returns-6 returns-7 returns-8 returns-9 returns-10 returns-11 returns-12 returns-13 returns-14 returns-15 returns-16 returns-17 returns-18 returns-19 returns-20 returns-21 returns-22 returns-23 returns-24)
+number-spec = tie.close (tie.spec enum-told enum-told-2 enum-told-3 enum-told-4 enum-told-5 enum-told-6 enum-told-7 enum-told-8 enum-told-9 enum-told-10 enum-told-11 enum-told-12 enum-told-13 enum-told-14 enum-told-15 enum-told-16 enum-told-17 enum-told-18 enum-told-19 enum-told-20 enum-told-21 enum-told-22 enum-told-23 enum-told-24 enum-told-25 enum-told-26 enum-told-27 enum-told-28 enum-told-29 enum-told-30 returns returns-2 returns-3 returns-4 returns-5 returns-6 returns-7 returns-8 returns-9 returns-10 returns-11 returns-12 returns-13 returns-14 returns-15 returns-16 returns-17 returns-18 returns-19 returns-20 returns-21 returns-22 returns-23 returns-24 returns-25 returns-26 returns-27 returns-28 returns-29 returns-30)
