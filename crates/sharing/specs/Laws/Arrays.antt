@@ -1,0 +1,38 @@
+-- A mark in two arrays: one store to each.
+use Prim.Native.Nat.{ℕ, zero, suc}
+use mathlib.Core.Path.{_≡_, refl, ap}
+use mathlib.Core.List.{List, [], _∷_}
+use native.Mathlib.Omega.{arith}
+use lib.ListN.{length, getD, set, replicate}
+use Rattle.sharing.specs.Arrays.{marksFrom}
+use Rattle.sharing.specs.Table.{Mark, mark, blank, Table, table, started}
+
+-- one mark is one store to each array
+pub set-mark : (us ns : List ℕ) (i u n : ℕ) → set (marksFrom us ns) i (mark u n) ≡ marksFrom (set us i u) (set ns i n)
+unfolding marksFrom
+set-mark [] ns i u n = refl
+set-mark (x ∷ us) [] i u n = nothing-set x us i u n
+  where
+    nothing-set : (x : ℕ) (us : List ℕ) (i u n : ℕ) → [] ≡ marksFrom (set (x ∷ us) i u) []
+    nothing-set x us zero u n = refl
+    nothing-set x us (suc i) u n = refl
+set-mark (x ∷ us) (y ∷ ns) zero u n = refl
+set-mark (x ∷ us) (y ∷ ns) (suc i) u n = ap (λ (l : List Mark). mark x y ∷ l) (set-mark us ns i u n)
+
+pub get-mark : (us ns : List ℕ) (i : ℕ) → length us ≡ length ns → getD (marksFrom us ns) i blank ≡ mark (getD us i 0) (getD ns i 0)
+unfolding marksFrom
+get-mark [] [] i e = refl
+get-mark [] (y ∷ ns) i e = absurd (omega arith)
+get-mark (x ∷ us) [] i e = absurd (omega arith)
+get-mark (x ∷ us) (y ∷ ns) zero e = refl
+get-mark (x ∷ us) (y ∷ ns) (suc i) e = get-mark us ns i (omega arith)
+
+none-marked : (n : ℕ) → marksFrom (replicate n 0) (replicate n 0) ≡ replicate n blank
+unfolding marksFrom
+none-marked zero = refl
+none-marked (suc n) = ap (λ (l : List Mark). blank ∷ l) (none-marked n)
+
+-- arrays of zeros are the table at the start
+pub zeros-start : (bytes : ℕ) → table bytes (replicate 128 0) (marksFrom (replicate 128 0) (replicate 128 0)) ≡ started bytes
+unfolding started
+zeros-start bytes = ap (table bytes (replicate 128 0)) (none-marked 128)

@@ -1,0 +1,181 @@
+-- In the model a customer's answers follow from that customer's own calls.
+use Prim.Native.Nat.{ℕ, zero, suc, _+_, _-_, _*_, _≤_, _<_}
+use mathlib.Core.Path.{_≡_, refl, sym, ap, ap₂, _∙_}
+use mathlib.Core.Bool.{Bool, true, false, cond}
+use mathlib.Core.List.{List, [], _∷_, map}
+use mathlib.Core.Logic.{_≢_}
+use mathlib.Core.Option.{Option, none, some}
+use native.Mathlib.Omega.{arith}
+use lib.Dec.{ltb, leb}
+use lib.ListN.{length, getD, set, take, drop, length-take}
+use lib.Seq.{drop-set-add, take-set-lt, take-set-le, set-out, drop-set-lt}
+use borrow.Author.Tests.{eqb-true, eqb-false, ltb-true, ltb-false}
+use Rattle.format.specs.Laws.Outcomes.{byTest}
+use Rattle.sharing.specs.Laws.Blocks.{no-true}
+use Rattle.format.specs.Reading.{Judged, refused, accepted}
+use Rattle.sharing.specs.Histories.{owns}
+use Rattle.sharing.specs.Model.{Payloads, Call, opening, asking, closing, tidying, Answer, desk, after, firstTrue, Front, stop, go, withHold, withWork, front, Entry, Model, vacant, Change, keep, put, roomFor, opened, asked, shut, acts, customer, changed, acting, next}
+
+-- One desk and the others
+
+module _ {A : Type 0} where
+  pub desk-same : (c h : ℕ) (l : List A) (v : A) → desk c (set l (c * 8 + h) v) ≡ set (desk c l) h v
+  unfolding desk
+  desk-same c h l v = ap (take 8) (drop-set-add (c * 8) l h v) ∙ byTest (ltb h 8)
+      (λ t. take-set-lt 8 (drop (c * 8) l) h v (ltb-true h 8 t))
+      (λ t. let b = ltb-false h 8 t in take-set-le 8 (drop (c * 8) l) h v b ∙ sym (set-out (take 8 (drop (c * 8) l)) h v (simp length-take (omega arith))))
+
+  pub desk-other : (c d h : ℕ) (l : List A) (v : A) → c ≢ d → h < 8 → desk c (set l (d * 8 + h) v) ≡ desk c l
+  unfolding desk
+  desk-other c d h l v n b = byTest (ltb c d)
+      (λ t. let u = ltb-true c d t in
+      let e : d * 8 + h ≡ c * 8 + (d * 8 + h - c * 8) = omega arith in
+      ap (λ (i : ℕ). take 8 (drop (c * 8) (set l i v))) e ∙ ap (take 8) (drop-set-add (c * 8) l (d * 8 + h - c * 8) v)
+      ∙ take-set-le 8 (drop (c * 8) l) (d * 8 + h - c * 8) v (omega arith))
+      (λ t. let u = ltb-false c d t in ap (take 8) (drop-set-lt (c * 8) l (d * 8 + h) v (omega arith)))
+
+  pub desk-length : (c : ℕ) (l : List A) → length (desk c l) ≤ 8
+  unfolding desk
+  desk-length c l = simp length-take (omega arith)
+
+pub not-some : {A : Type 0} {x : A} → none ≡ some x → ⊥
+not-some e = let z : _≡_ {A = ℕ} 0 1 = cc in omega arith
+
+-- the first place is a place, and the test is true there
+firstLater : (l : List Bool) (h : ℕ) (o : Option ℕ) → ((k : ℕ) → o ≡ some k → (k < length l) × (getD l k false ≡ true)) → after o ≡ some h → (h < suc (length l)) × (getD (false ∷ l) h false ≡ true)
+unfolding after
+firstLater l h none r e = absurd (not-some e)
+firstLater l h (some k) r e = let z : h ≡ suc k = cc in rw z (let q = r k refl in (omega (arith, q .0), q .1))
+
+pub firstTrue-is : (l : List Bool) (h : ℕ) → firstTrue l ≡ some h → (h < length l) × (getD l h false ≡ true)
+unfolding firstTrue
+firstTrue-is [] h e = absurd (not-some e)
+firstTrue-is (true ∷ l) h e = let z : h ≡ 0 = cc in rw z (omega arith, refl)
+firstTrue-is (false ∷ l) h e = firstLater l h (firstTrue l) (λ k. firstTrue-is l k) e
+
+-- A change is made to one of eight holds
+pub data InDesk : Change → Type 0 where
+  kept : InDesk keep
+  within : {h : ℕ} {e : Entry} → h < 8 → InDesk (put h e)
+
+not-go : {n at h : ℕ} {q : List ℕ} → stop n at ≡ go q h → ⊥
+not-go e = let z : _≡_ {A = ℕ} 0 1 = cc in omega arith
+
+-- an opening that comes as far as the store: the payload was accepted, and the hold is the first unused one
+pub record Passed (P : Payloads) (c : ℕ) (free : Option ℕ) (payload work q : List ℕ) (h : ℕ) : Type 0 where
+  pub someone : c < 16
+  pub taken : P .canonical payload ≡ accepted q
+  pub unused : free ≡ some h
+
+withHold-go : (p : List ℕ) (free : Option ℕ) {q : List ℕ} {h : ℕ} → withHold p free ≡ go q h → (p ≡ q) × (free ≡ some h)
+unfolding withHold
+withHold-go p none e = absurd (not-go e)
+withHold-go p (some k) {q} {h} e = let a : p ≡ q = cc in let b : k ≡ h = cc in (a, ap (λ (n : ℕ). some n) b)
+
+withWork-go : (j : Judged (List ℕ)) (free : Option ℕ) (work : List ℕ) {q : List ℕ} {h : ℕ} → withWork j free work ≡ go q h → (j ≡ accepted q) × (free ≡ some h)
+unfolding withWork
+withWork-go (refused n at) free work e = absurd (not-go e)
+withWork-go (accepted p) free work e = byTest (leb (length p) (length work))
+    (λ t. let r = withHold-go p free (rw t at e) in (ap (λ (x : List ℕ). accepted x) (r .0), r .1))
+    (λ t. absurd (not-go (rw t at e)))
+
+pub front-go : (P : Payloads) (c : ℕ) (free : Option ℕ) (payload work : List ℕ) {q : List ℕ} {h : ℕ} → front P c free payload work ≡ go q h → Passed P c free payload work q h
+unfolding front
+front-go P c free payload work e = byTest (ltb c 16)
+    (λ t. let r = withWork-go (P .canonical payload) free work (rw t at e) in record { someone = ltb-true c 16 t; taken = r .0; unused = r .1 })
+    (λ t. absurd (not-go (rw t at e)))
+
+map-length : (own : List Entry) → length (map vacant own) ≡ length own
+map-length [] = refl
+map-length (x ∷ own) = ap suc (map-length own)
+
+opened-in-desk : (room : Bool) (work : List ℕ) (f : Front) → ((q : List ℕ) (h : ℕ) → f ≡ go q h → h < 8) → InDesk (opened room work f .change)
+unfolding opened roomFor
+opened-in-desk room work (stop n at) b = kept
+opened-in-desk true work (go q h) b = within (b q h refl)
+opened-in-desk false work (go q h) b = kept
+
+getD-in : (l : List Entry) (h : ℕ) (p : List ℕ) → getD l h none ≡ some p → h < length l
+getD-in [] h p e = absurd (not-some e)
+getD-in (x ∷ l) zero p e = omega arith
+getD-in (x ∷ l) (suc h) p e = omega (arith, getD-in l h p e)
+
+asked-in-desk : (P : Payloads) (x : Entry) (index : ℕ) (out : List ℕ) → InDesk (asked P x index out .change)
+unfolding asked
+asked-in-desk P none index out = kept
+asked-in-desk P (some p) index out = kept
+
+shut-in-desk : (x : Entry) (h : ℕ) → ((p : List ℕ) → x ≡ some p → h < 8) → InDesk (shut x h .change)
+unfolding shut
+shut-in-desk none h b = kept
+shut-in-desk (some p) h b = within (b p refl)
+
+pub acts-in-desk : (P : Payloads) (room : Bool) (own : List Entry) (call : Call) → length own ≤ 8 → InDesk (acts P room own call .change)
+unfolding acts
+acts-in-desk P room own (opening c payload work) l = opened-in-desk room work (front P c (firstTrue (map vacant own)) payload work)
+    (λ q h e. omega (arith, firstTrue-is (map vacant own) h (front-go P c (firstTrue (map vacant own)) payload work e .unused) .0, map-length own))
+acts-in-desk P room own (asking c hold index out) l = byTest (ltb c 16) (λ t. rw t (asked-in-desk P (getD own hold none) index out)) (λ t. rw t kept)
+acts-in-desk P room own (closing c hold) l = byTest (ltb c 16) (λ t. rw t (shut-in-desk (getD own hold none) hold (λ p e. omega (arith, getD-in own hold p e)))) (λ t. rw t kept)
+acts-in-desk P room own tidying l = kept
+
+-- Histories: each call with whether the store had room for it
+
+pub record Turn : Type 0 where
+  pub room : Bool
+  pub call : Call
+
+-- the turns of one customer
+unfoldable pub said : ℕ → List Turn → List Turn
+said c [] = []
+said c (t ∷ ts) = cond (owns c (t .call)) (t ∷ said c ts) (said c ts)
+
+-- the answers to one customer
+unfoldable pub heard : Payloads → ℕ → Model → List Turn → List Answer
+heard P c m [] = []
+heard P c m (t ∷ ts) = cond (owns c (t .call)) (acting P (t .room) m (t .call) .answer ∷ heard P c (next P (t .room) m (t .call)) ts) (heard P c (next P (t .room) m (t .call)) ts)
+
+owns-is : (c : ℕ) (call : Call) → owns c call ≡ true → customer call ≡ c
+unfolding owns customer
+owns-is c (opening d payload work) e = sym (eqb-true c d e)
+owns-is c (asking d hold index out) e = sym (eqb-true c d e)
+owns-is c (closing d hold) e = sym (eqb-true c d e)
+owns-is c tidying e = absurd (no-true e)
+
+module _ (P : Payloads) (room : Bool) (c : ℕ) where
+  changed-same : (x : Change) (m n : Model) → desk c m ≡ desk c n → desk c (changed c x m) ≡ desk c (changed c x n)
+  unfolding changed
+  changed-same keep m n e = e
+  changed-same (put h v) m n e = desk-same c h m v ∙ ap (λ (d : List Entry). set d h v) e ∙ sym (desk-same c h n v)
+
+  changed-other : (d : ℕ) (x : Change) (m : Model) → c ≢ d → InDesk x → desk c (changed d x m) ≡ desk c m
+  unfolding changed
+  changed-other d keep m n i = refl
+  changed-other d (put h v) m n (within b) = desk-other c d h m v n b
+
+  own-answer : (call : Call) (m n : Model) → owns c call ≡ true → desk c m ≡ desk c n → acting P room m call .answer ≡ acting P room n call .answer
+  unfolding acting
+  own-answer call m n o e = rw (owns-is c call o, e)
+
+  own-desk : (call : Call) (m n : Model) → owns c call ≡ true → desk c m ≡ desk c n → desk c (next P room m call) ≡ desk c (next P room n call)
+  unfolding next acting
+  own-desk call m n o e = rw (owns-is c call o) (rw e (changed-same (acts P room (desk c n) call .change) m n e))
+
+  other-desk : (call : Call) (m : Model) → owns c call ≡ false → desk c (next P room m call) ≡ desk c m
+  unfolding next acting owns customer
+  other-desk (opening d payload work) m o = changed-other d (acts P room (desk d m) (opening d payload work) .change) m (eqb-false c d o) (acts-in-desk P room (desk d m) (opening d payload work) (desk-length d m))
+  other-desk (asking d hold index out) m o = changed-other d (acts P room (desk d m) (asking d hold index out) .change) m (eqb-false c d o) (acts-in-desk P room (desk d m) (asking d hold index out) (desk-length d m))
+  other-desk (closing d hold) m o = changed-other d (acts P room (desk d m) (closing d hold) .change) m (eqb-false c d o) (acts-in-desk P room (desk d m) (closing d hold) (desk-length d m))
+  other-desk tidying m o = unfold changed acts in refl
+
+-- the answers are those to the customer's turns alone
+heard-said : (P : Payloads) (c : ℕ) (ts : List Turn) (m n : Model) → desk c m ≡ desk c n → heard P c m ts ≡ heard P c n (said c ts)
+unfolding heard said
+heard-said P c [] m n e = refl
+heard-said P c (t ∷ ts) m n e = byTest (owns c (t .call))
+    (λ o. rw (o, o) (ap₂ (λ (a : Answer) (l : List Answer). a ∷ l) (own-answer P (t .room) c (t .call) m n o e)
+    (heard-said P c ts (next P (t .room) m (t .call)) (next P (t .room) n (t .call)) (own-desk P (t .room) c (t .call) m n o e))))
+    (λ o. rw o (heard-said P c ts (next P (t .room) m (t .call)) n (other-desk P (t .room) c (t .call) m o ∙ e)))
+
+-- Isolation in the model
+pub isolated : (P : Payloads) (c : ℕ) (ts us : List Turn) (m n : Model) → desk c m ≡ desk c n → said c ts ≡ said c us → heard P c m ts ≡ heard P c n us
+isolated P c ts us m n e s = heard-said P c ts m n e ∙ ap (heard P c n) s ∙ sym (heard-said P c us n n refl)

@@ -1,0 +1,11 @@
+pub mod Blocks
+pub mod Model
+pub mod Table
+pub mod Tidy
+pub mod Step
+pub mod Histories
+pub mod Named
+pub mod Arrays
+pub mod Promises
+pub mod Examples
+pub mod Laws
