@@ -1,4 +1,6 @@
 // K12: payloads that customers share, in a store of blocks that the caller lends at each call. The table is the caller's too and goes by value: a table goes in, and the table behind the call comes out.
+mod blocks;
+
 ghost use Rattle.sharing.specs.Promises.{sharing-start};
 
 // As many holds as sixteen customers have, eight each; and as many blocks as a store has at most.

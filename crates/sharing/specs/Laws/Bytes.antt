@@ -1,14 +1,14 @@
 -- What a call writes, as bytes of the store: for code, which has the bytes and no blocks.
-use Prim.Native.Nat.{ℕ, zero, suc, _+_, _*_, _/_}
+use Prim.Native.Nat.{ℕ, zero, suc, _+_, _*_, _/_, _≤_, _<_}
 use mathlib.Core.List.{List, [], _∷_, _++_, append-assoc}
 use mathlib.Core.Path.{_≡_, refl, sym, ap, ap₂, _∙_}
 use native.Mathlib.Omega.{arith}
-use lib.ListN.{length, take, drop}
-use lib.Seq.{take-nil, drop-nil, take-append-add, drop-append-add}
+use lib.ListN.{length, take, drop, drop-of-length-le}
+use lib.Seq.{drop-drop, take-nil, drop-nil, take-append-add, drop-append-add}
 use Rattle.sharing.specs.Blocks.{join, cut}
 use Rattle.sharing.specs.Laws.Blocks.{Whole}
 use Rattle.sharing.specs.Table.{blocks, paste}
-use Rattle.sharing.specs.Laws.Histories.{join-cut, whole-cut}
+use Rattle.sharing.specs.Laws.Histories.{join-cut, whole-cut, cut-length}
 
 join-append : (ks bs : List (List ℕ)) → join (ks ++ bs) ≡ join ks ++ join bs
 unfolding join
@@ -47,3 +47,24 @@ module _ (s : List ℕ) (n : ℕ) (e : length s ≡ n * 512) where
   -- a payload's blocks are the bytes from its first block on
   pub blocks-bytes : (at : ℕ) → join (drop at (blocks s)) ≡ drop (at * 512) s
   blocks-bytes at = rw blocks-cut (join-drop at (cut n s) (whole-cut n s e) ∙ ap (drop (at * 512)) (join-cut n s e))
+
+-- One block of a store, by its place
+
+cut-cons : (b n : ℕ) (s : List ℕ) → b < n → drop b (cut n s) ≡ take 512 (drop (b * 512) s) ∷ drop (suc b) (cut n s)
+unfolding cut
+cut-cons b zero s h = absurd (omega arith)
+cut-cons zero (suc n) s h = refl
+cut-cons (suc b) (suc n) s h =
+    let z : 512 + b * 512 ≡ suc b * 512 = omega arith in
+    cut-cons b n (drop 512 s) (omega arith) ∙ ap (λ (l : List ℕ). take 512 l ∷ drop (suc b) (cut n (drop 512 s))) (drop-drop (b * 512) 512 s ∙ ap (λ (i : ℕ). drop i s) z)
+
+pub blocks-cons : (s : List ℕ) (b : ℕ) → b < length s / 512 → drop b (blocks s) ≡ take 512 (drop (b * 512) s) ∷ drop (suc b) (blocks s)
+unfolding blocks
+blocks-cons s b h = cut-cons b (length s / 512) s h
+
+pub blocks-length : (s : List ℕ) → length (blocks s) ≡ length s / 512
+unfolding blocks
+blocks-length s = cut-length (length s / 512) s
+
+pub blocks-end : (s : List ℕ) (b : ℕ) → length s / 512 ≤ b → drop b (blocks s) ≡ []
+blocks-end s b h = drop-of-length-le (blocks s) {i = b} (omega (arith, blocks-length s))

@@ -50,7 +50,7 @@ join-cut zero [] e = refl
 join-cut zero (x ∷ s) e = absurd (omega arith)
 join-cut (suc n) s e = ap (λ (l : List ℕ). take 512 s ++ l) (join-cut n (drop 512 s) (length-drop 512 s ∙ omega arith)) ∙ take-append-drop 512 s
 
-cut-length : (n : ℕ) (s : List ℕ) → length (cut n s) ≡ n
+pub cut-length : (n : ℕ) (s : List ℕ) → length (cut n s) ≡ n
 unfolding cut
 cut-length zero s = refl
 cut-length (suc n) s = ap suc (cut-length n (drop 512 s))
