@@ -1,1 +1,4 @@
 pub mod BlockLaws
+pub mod RowLaws
+pub mod PieceLaws
+pub mod FindLaws

@@ -6,6 +6,7 @@ pub mod Step
 pub mod Histories
 pub mod Named
 pub mod Arrays
+pub mod Marks
 pub mod Words
 pub mod Promises
 pub mod Examples

@@ -101,3 +101,10 @@ pub fn need(size: usize) -> usize
     }
     (size - 1) / BODY + 1
 }
+
+// A size as the table has it.
+pub fn as_size(size: u32) -> usize
+    ensures { λ r. ⌜ r ≡ size ⌝ }
+{
+    size as usize
+}

@@ -1,5 +1,6 @@
 // K12: payloads that customers share, in a store of blocks that the caller lends at each call. The table is the caller's too and goes by value: a table goes in, and the table behind the call comes out.
 mod blocks;
+mod rows;
 
 ghost use Rattle.sharing.specs.Promises.{sharing-start};
 

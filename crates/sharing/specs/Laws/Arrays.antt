@@ -1,9 +1,10 @@
 -- A mark in two arrays: one store to each.
-use Prim.Native.Nat.{ℕ, zero, suc}
-use mathlib.Core.Path.{_≡_, refl, ap}
+use Prim.Native.Nat.{ℕ, zero, suc, _<_}
+use mathlib.Core.Path.{_≡_, refl, ap, _∙_}
 use mathlib.Core.List.{List, [], _∷_}
 use native.Mathlib.Omega.{arith}
-use lib.ListN.{length, getD, set, replicate}
+use lib.ListN.{length, getD, set, drop, replicate}
+use lib.Seq.{drop-cons}
 use Rattle.sharing.specs.Arrays.{marksFrom}
 use Rattle.sharing.specs.Table.{Mark, mark, blank, Table, table, started}
 
@@ -36,3 +37,13 @@ none-marked (suc n) = ap (λ (l : List Mark). blank ∷ l) (none-marked n)
 pub zeros-start : (bytes : ℕ) → table bytes (replicate 128 0) (marksFrom (replicate 128 0) (replicate 128 0)) ≡ started bytes
 unfolding started
 zeros-start bytes = ap (table bytes (replicate 128 0)) (none-marked 128)
+
+marks-length : (us ns : List ℕ) → length us ≡ length ns → length (marksFrom us ns) ≡ length us
+unfolding marksFrom
+marks-length [] ns e = refl
+marks-length (u ∷ us) [] e = absurd (omega arith)
+marks-length (u ∷ us) (n ∷ ns) e = ap suc (marks-length us ns (omega arith))
+
+-- the mark at a place, and those behind it
+pub marks-cons : (us ns : List ℕ) (b : ℕ) → length us ≡ length ns → b < length us → drop b (marksFrom us ns) ≡ mark (getD us b 0) (getD ns b 0) ∷ drop (suc b) (marksFrom us ns)
+marks-cons us ns b e h = drop-cons (marksFrom us ns) b blank (omega (arith, marks-length us ns e)) ∙ ap (λ (m : Mark). m ∷ drop (suc b) (marksFrom us ns)) (get-mark us ns b e)
