@@ -2,3 +2,4 @@ pub mod BlockLaws
 pub mod RowLaws
 pub mod PieceLaws
 pub mod FindLaws
+pub mod RunLaws

@@ -1,6 +1,7 @@
 // K12: payloads that customers share, in a store of blocks that the caller lends at each call. The table is the caller's too and goes by value: a table goes in, and the table behind the call comes out.
 mod blocks;
 mod rows;
+mod runs;
 
 ghost use Rattle.sharing.specs.Promises.{sharing-start};
 
