@@ -3,3 +3,4 @@ pub mod RowLaws
 pub mod PieceLaws
 pub mod FindLaws
 pub mod RunLaws
+pub mod StoreLaws

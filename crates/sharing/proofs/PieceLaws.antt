@@ -83,3 +83,7 @@ need-some n = omega arith
 pub need-inside : (n k : ℕ) → k < need n → k * 508 ≤ n
 unfolding need extra
 need-inside n k h = omega arith
+
+pub need-last : (n k : ℕ) → k < need n → n - k * 508 ≤ 508 → suc k ≡ need n
+unfolding need extra
+need-last n k h l = omega arith

@@ -16,14 +16,14 @@ const WORD: usize = 4;
 const WORDS: usize = 127;
 
 // What a byte counts in a word, by its place.
-const SECOND: u64 = 1 << 8;
+pub const SECOND: u64 = 1 << 8;
 
-const THIRD: u64 = 1 << 16;
+pub const THIRD: u64 = 1 << 16;
 
-const FOURTH: u64 = 1 << 24;
+pub const FOURTH: u64 = 1 << 24;
 
 // What a word is below.
-const WORD_LIMIT: u64 = 1 << 32;
+pub const WORD_LIMIT: u64 = 1 << 32;
 
 // A byte as a number: where a byte is read for its value, nothing is left to show of its range.
 fn wide(x: u8) -> u64

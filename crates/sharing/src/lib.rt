@@ -2,6 +2,7 @@
 mod blocks;
 mod rows;
 mod runs;
+mod storing;
 
 ghost use Rattle.sharing.specs.Promises.{sharing-start};
 
