@@ -4,3 +4,5 @@ pub mod PieceLaws
 pub mod FindLaws
 pub mod RunLaws
 pub mod StoreLaws
+pub mod HoldLaws
+pub mod CloseLaws

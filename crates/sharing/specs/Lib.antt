@@ -8,6 +8,7 @@ pub mod Named
 pub mod Arrays
 pub mod Marks
 pub mod Words
+pub mod Calls
 pub mod Promises
 pub mod Examples
 pub mod Laws

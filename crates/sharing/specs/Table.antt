@@ -33,8 +33,11 @@ unfoldable pub started : ℕ → Table
 started n = table n (replicate 128 0) (replicate 128 blank)
 
 -- 30: 1 to 128 whole blocks, as at the start
-unfoldable pub fits : Table → List ℕ → Bool
-fits t store = eqb (length store) (t .bytes) && (eqb (length store % 512) 0 && (ltb 0 (length store) && leb (length store) 65536))
+unfoldable pub lengthFits : (bytes length : ℕ) → Bool
+lengthFits bytes n = eqb n bytes && (eqb (n % 512) 0 && (ltb 0 n && leb n 65536))
+
+abbrev pub fits : Table → List ℕ → Bool
+fits t store = lengthFits (t .bytes) (length store)
 
 unfoldable pub blocks : List ℕ → List (List ℕ)
 blocks store = cut (length store / 512) store

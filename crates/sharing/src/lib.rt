@@ -1,13 +1,26 @@
 // K12: payloads that customers share, in a store of blocks that the caller lends at each call. The table is the caller's too and goes by value: a table goes in, and the table behind the call comes out.
 mod blocks;
+mod holds;
 mod rows;
 mod runs;
 mod storing;
 
-ghost use Rattle.sharing.specs.Promises.{sharing-start};
+ghost use mathlib.Core.Path.{_≡_};
+ghost use Rattle.sharing.specs.Calls.{notClosed};
+ghost use Rattle.sharing.specs.Promises.{sharing-start, sharing-close};
+use crate::holds::HOLDS;
+use crate::holds::entry;
+use crate::holds::fits;
+use crate::holds::release;
+use format::Offset;
+use format::Reason;
+use format::Refusal;
+use format::Verdict;
 
 // As many holds as sixteen customers have, eight each; and as many blocks as a store has at most.
 pub const PLACES: usize = 128;
+
+pub const CUSTOMERS: u32 = 16;
 
 // What is known between two calls: numbers alone, 776 bytes, with nothing between them. A hold is 0, or one more than the first block of its payload; users and size stand at the first block of a payload, and are 0 at every other.
 #[repr(C)]
@@ -27,5 +40,51 @@ pub fn start(bytes: u64) -> Table
         users: [0; PLACES],
         sizes: [0; PLACES],
         bytes,
+    }
+}
+
+// What a close leaves, and its verdict.
+pub struct Closed {
+    pub table: Table,
+    pub verdict: Verdict,
+}
+
+// The new refusals give offset 0.
+fn refuse(reason: Reason) -> Refusal
+    ensures { λ r. ⌜ r ≡ record { reason = reason; offset = record { 0 = 0 } } ⌝ }
+{
+    Refusal {
+        reason,
+        offset: Offset(0),
+    }
+}
+
+fn not_closed(t: Table, reason: Reason) -> Closed
+    ensures { λ r. ⌜ r ≡ notClosed t reason ⌝ }
+{
+    Closed {
+        table: t,
+        verdict: Verdict::Refused(refuse(reason)),
+    }
+}
+
+// A customer closes a hold. The store is needed for its length alone.
+pub fn close(t: Table, store: &[u8], customer: u32, hold: u32) -> Closed
+    ensures { λ r. ⌜ sharing-close t (now (store .entry)) customer hold r ⌝ }
+{
+    if !fits(t.bytes, store.len()) {
+        return not_closed(t, Reason::NotTheStore);
+    }
+    if CUSTOMERS <= customer {
+        return not_closed(t, Reason::NoCustomer);
+    }
+    let stands = entry(&t.holds, customer, hold);
+    if stands == 0 {
+        return not_closed(t, Reason::NotOpen);
+    }
+    let at = customer as usize * HOLDS + hold as usize;
+    Closed {
+        table: release(t, at, stands as usize - 1),
+        verdict: Verdict::Accepted,
     }
 }

@@ -38,7 +38,7 @@ pub zeros-start : (bytes : ℕ) → table bytes (replicate 128 0) (marksFrom (re
 unfolding started
 zeros-start bytes = ap (table bytes (replicate 128 0)) (none-marked 128)
 
-marks-length : (us ns : List ℕ) → length us ≡ length ns → length (marksFrom us ns) ≡ length us
+pub marks-length : (us ns : List ℕ) → length us ≡ length ns → length (marksFrom us ns) ≡ length us
 unfolding marksFrom
 marks-length [] ns e = refl
 marks-length (u ∷ us) [] e = absurd (omega arith)

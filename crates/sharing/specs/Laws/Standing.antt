@@ -13,7 +13,7 @@ use Rattle.sharing.specs.Laws.Blocks.{Whole, cut-join, join-length}
 use Rattle.sharing.specs.Blocks.{cut, join}
 use Rattle.format.specs.Reading.{accepted}
 use Rattle.sharing.specs.Model.{Payloads, Entry, Model}
-use Rattle.sharing.specs.Table.{Table, Mark, fits, blocks}
+use Rattle.sharing.specs.Table.{lengthFits, Table, Mark, fits, blocks}
 use Rattle.sharing.specs.Laws.Shelf.{Shelf, size, spread, blocksOf, marksOf, spread-length, blocks-width, At, at-right, at-left}
 use Rattle.sharing.specs.Laws.Holds.{hit, count, count-set, Led, empty, Leads, leads-set, leads-again}
 use Rattle.sharing.specs.Laws.Swaps.{between, Where, inside, outside, at-where}
@@ -56,7 +56,7 @@ module _ {t : Table} {s : List ℕ} {sh : Shelf} (l : Laid t s sh) where
       ap₂ cut e (l .store) ∙ cut-join (l .whole)
 
   pub fits-is : fits t s ≡ true
-  unfolding fits
+  unfolding lengthFits
   fits-is = rw (eq-eqb (length s) (t .bytes) (store-length ∙ sym (l .bytes)), eq-eqb (length s % 512) 0 (omega (arith, store-length)), lt-ltb 0 (length s) (omega (arith, store-length, l .some)), le-leb (length s) 65536 (omega (arith, store-length, l .few)))
 
 pub by-where {ℓ} : {C : Type ℓ} {b u : ℕ} {p : List ℕ} {pre mid post : Shelf} → Where b p u pre mid post → ((d : ℕ) → b ≡ size pre + d → At d p u mid → C) → (b ≢ size pre → ((new : Shelf) → size new ≡ size mid → At b p u (between pre new post)) → C) → C

@@ -1,0 +1,64 @@
+// A table's holds, and what a call changes in a table.
+ghost use mathlib.Core.Path.{_≡_};
+ghost use Prim.Native.Nat.{_<_, _+_, _*_, suc};
+ghost use lib.ListN.{getD, set, length};
+ghost use Rattle.sharing.specs.Arrays.{tableOf};
+ghost use Rattle.sharing.specs.Calls.{leadsTo, releases};
+ghost use Rattle.sharing.specs.Table.{lengthFits};
+ghost use Rattle.sharing.specs.Model.{desk};
+use crate::PLACES;
+use crate::Table;
+use crate::blocks::BLOCK;
+
+// The holds of a customer.
+pub const HOLDS: usize = 8;
+
+// What a store of 128 blocks takes.
+const MOST_BYTES: usize = 65536;
+
+// Whether a store is 1 to 128 blocks, as at the start.
+pub fn fits(bytes: u64, length: usize) -> bool
+    ensures { λ r. ⌜ r ≡ lengthFits bytes length ⌝ }
+{
+    if length as u64 != bytes {
+        return false;
+    }
+    if length % BLOCK != 0 {
+        return false;
+    }
+    if length == 0 {
+        return false;
+    }
+    length <= MOST_BYTES
+}
+
+// What stands at a hold: 0 where it is not open, and above 7.
+pub fn entry(holds: &[u8; PLACES], customer: u32, hold: u32) -> u8
+    requires { ⌜ customer < 16 ⌝ }
+    ensures { λ r. ⌜ r ≡ getD (desk customer (now (holds .entry))) hold 0 ⌝ }
+{
+    if 8 <= hold {
+        return 0;
+    }
+    holds[customer as usize * HOLDS + hold as usize]
+}
+
+// The table without that hold: one user less at its row, and none left where it was the last.
+pub fn release(t: Table, at: usize, b: usize) -> Table
+    requires { ⌜ at < 128 ⌝ }
+    ensures { λ r. ⌜ tableOf r ≡ releases (tableOf t) at b ⌝ }
+{
+    let mut next = t;
+    next.holds[at] = 0;
+    if PLACES <= b {
+        return next;
+    }
+    let users = t.users[b];
+    if users <= 1 {
+        next.users[b] = 0;
+        next.sizes[b] = 0;
+    } else {
+        next.users[b] = users - 1;
+    }
+    next
+}
