@@ -16,7 +16,7 @@ pub struct Answer {
     /// refusal, the offset that the rules give with it.
     pub offset: u64,
     /// The length in bytes of the thing found; for the walk, the count of sections, and for markers
-    /// theirs.
+    /// theirs; for what a table opens, the hold.
     pub length: u64,
 }
 
@@ -170,10 +170,22 @@ pub enum Reason {
     /// The lists that the quick question is given are of unequal length, have an end outside the
     /// payload, do not rise, or do not stay below the end.
     NotMarkers = 22,
+    /// A table has no such customer.
+    NoCustomer = 23,
+    /// The hold of a customer is not open, or there is no such hold.
+    NotOpen = 24,
+    /// All eight holds of a customer are open.
+    AllHoldsOpen = 25,
+    /// A payload is not stored yet, and no run of free blocks is long enough for it.
+    NoRoom = 26,
+    /// The check of a needed block is wrong, or what a hold has open is no longer accepted.
+    Damaged = 27,
     /// A part takes the total of a stream above 18,446,744,073,709,551,615 bytes.
     StreamTooLong = 28,
     /// The kind of an import is above 3, or the flag of its limits above 1.
     UnknownImport = 29,
+    /// The store is not the one that the table was started over, by its length, or is not 1 to 128 blocks.
+    OtherStore = 30,
 }
 
 impl Reason {

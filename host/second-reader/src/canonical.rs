@@ -37,7 +37,11 @@ pub fn hints_canonical(payload: &[u8], out: &mut [u8]) -> Answer {
     Answer::counted(rewrite_metadata(payload, Format::BranchHint, out))
 }
 
-fn rewrite_names(payload: Part<'_>, edition: Edition, out: &mut [u8]) -> Result<u64, Refusal> {
+pub(crate) fn rewrite_names(
+    payload: Part<'_>,
+    edition: Edition,
+    out: &mut [u8],
+) -> Result<u64, Refusal> {
     names::judge(payload, edition)?;
     let measured = MeasuredNames::of(payload, edition)?;
     let mut writer = Writer::with_room(out, measured.needed)?;

@@ -8,7 +8,8 @@
 //! length. Each takes any bytes, ends in an [`Answer`], in a [`Why`], in a [`PairAnswer`], in a
 //! [`StreamAnswer`] or, to a yes or no, in a `bool`, and asks for no prior check: a payload is judged
 //! whole before it is asked or rewritten, but for the quick question, which judges nothing, and a
-//! refusal changes no byte of an output and nothing of a [`Stream`].
+//! refusal changes no byte of an output and nothing of a [`Stream`] or a [`Table`]; only the work buffer
+//! of an open is written by two of its refusals, as the rule says.
 //!
 //! Names have two editions, which differ in the table of ids alone: `wide_` begins the calls of the
 //! wider one. Hints have two as well, which have no list in common: `old_` begins the calls of the
@@ -40,6 +41,7 @@ mod older;
 mod pairs;
 mod reading;
 mod stream;
+mod table;
 mod telling;
 mod through;
 mod walk;
@@ -65,6 +67,7 @@ pub use pairs::{
     wide_pair_module_name, wide_pair_table_name, wide_pair_tag_name, wide_pair_type_name,
 };
 pub use stream::{stream_begin, stream_finish, stream_part, Stream};
+pub use table::{table_close, table_function_name, table_open, table_start, Stored, Table};
 pub use telling::{
     hints_is_canonical, metadata_is_canonical, names_is_canonical, old_hints_is_canonical,
     wide_names_is_canonical,
