@@ -14,5 +14,6 @@ pub mod made;
 pub mod markers;
 pub mod places;
 pub mod random;
+pub mod sharing;
 pub mod spelling;
 pub mod tally;

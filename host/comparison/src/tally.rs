@@ -24,11 +24,11 @@ const METADATA: &[u8] = b"metadata.code.";
 const ROOM: usize = 1 << 20;
 
 /// Bytes before an output that must stay as they are.
-const GUARD: usize = 32;
+pub(crate) const GUARD: usize = 32;
 const GUARD_BYTE: u8 = 0xA5;
 
 /// What an output holds before a call.
-const UNTOUCHED: u8 = 0xEE;
+pub(crate) const UNTOUCHED: u8 = 0xEE;
 
 /// By how much an output is longer than it ever needs to be.
 const SPARE: usize = 7;
@@ -460,7 +460,7 @@ fn assert_met(met: &BTreeMap<u32, u64>, wanted: &[u32], least: u64) {
 }
 
 /// An output of a length, untouched, with guard bytes before it and nothing mapped behind it.
-fn framed(output: &mut Guarded, room: usize) -> &mut [u8] {
+pub(crate) fn framed(output: &mut Guarded, room: usize) -> &mut [u8] {
     let framed = output.last(GUARD + room);
     framed.fill(UNTOUCHED);
     framed[..GUARD].fill(GUARD_BYTE);
@@ -469,10 +469,15 @@ fn framed(output: &mut Guarded, room: usize) -> &mut [u8] {
 
 /// The output holds what is expected, and the guard bytes are as they were.
 fn assert_left(framed: &[u8], expected: &[u8], put: fmt::Arguments<'_>) {
+    assert_eq!(guarded_output(framed, put), expected, "the output of {put}");
+}
+
+/// The output, whose guard bytes are as they were.
+pub(crate) fn guarded_output<'f>(framed: &'f [u8], put: fmt::Arguments<'_>) -> &'f [u8] {
     let (guard, output) = framed.split_at(GUARD);
-    assert_eq!(output, expected, "the output of {put}");
     assert!(
         guard.iter().all(|byte| *byte == GUARD_BYTE),
         "written before the output of {put}"
     );
+    output
 }

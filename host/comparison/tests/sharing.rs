@@ -1,0 +1,269 @@
+//! Shared tables: random calls of sixteen customers, held to a model that knows no blocks, and one customer's answers
+//! held to those among other customers.
+
+use std::collections::BTreeMap;
+
+use comparison::library::{Told, FOUND, NONE};
+use comparison::random::{seed, Random};
+use comparison::sharing::history::{customers, Event, History, Maker, Payloads, Trouble};
+use comparison::sharing::model::{follow, Model};
+use comparison::sharing::{
+    compare, Difference, Met, Seen, Shop, Step, Table, BLOCK, CUSTOMERS, HOLDS,
+};
+
+const HISTORIES: usize = 250;
+const EVENTS: usize = 500;
+
+/// How many calls are put at least: some of the events are damage.
+const LEAST_CALLS: u64 = 100_000;
+
+/// How often each answer that a call may give is met at least.
+const LEAST_OF_EACH: u64 = 40;
+
+/// Few blocks, so that they are soon used up, and as many as there may be.
+const BLOCKS: [usize; 10] = [1, 2, 3, 4, 5, 8, 12, 20, 40, 128];
+
+/// One customer alone, some, and all of them.
+const COUNTS: [u32; 5] = [1, 2, 5, CUSTOMERS, CUSTOMERS];
+
+/// How many payloads the customers of a history choose from.
+const PAYLOADS: [usize; 4] = [1, 3, 8, 20];
+
+/// Puts random histories, one after the other, until one of them shows a difference.
+fn with_histories(
+    r: &mut Random,
+    histories: usize,
+    trouble: Trouble,
+    mut put: impl FnMut(&History<'_>) -> Result<(), Difference>,
+) -> Result<(), Difference> {
+    for _ in 0..histories {
+        let count = r.one_of(&PAYLOADS);
+        let payloads = Payloads::new(r, count);
+        let count = r.one_of(&COUNTS);
+        let customers = customers(r, count);
+        let length = r.one_of(&BLOCKS) * BLOCK;
+        let maker = Maker::new(r, &payloads, customers, length, trouble);
+        put(&maker.history(r, EVENTS))?;
+    }
+    Ok(())
+}
+
+/// What is stored and how often it is open is what the model says, each payload once, unless a byte of it is damaged.
+fn same_users(shop: &mut Shop<second_reader::Table>, model: &Model) {
+    if shop.is_damaged() {
+        return;
+    }
+    let stored = shop.table.clone().stored(shop.store());
+    let found: BTreeMap<&[u8], usize> = stored
+        .iter()
+        .map(|stored| (&stored.payload[..], stored.users))
+        .collect();
+    assert_eq!(found.len(), stored.len(), "a payload is stored twice");
+    let expected = model.users().iter();
+    let expected = expected.map(|(payload, users)| (&payload[..], *users));
+    assert_eq!(found, expected.collect());
+}
+
+fn assert_met(met: &Met) {
+    let calls: u64 = met.values().sum();
+    println!("put {calls} calls: {met:?}");
+    assert!(calls >= LEAST_CALLS, "only {calls} calls were put");
+    let mut answers = vec![
+        ("open", "kind", FOUND),
+        ("function_name", "kind", FOUND),
+        ("function_name", "kind", NONE),
+        ("close", "kind", FOUND),
+    ];
+    let refusals = [
+        ("open", &[2, 13, 23, 25, 26, 27, 30][..]),
+        ("function_name", &[13, 23, 24, 27, 30]),
+        ("close", &[23, 24, 30]),
+    ];
+    for (call, codes) in refusals {
+        answers.extend(codes.iter().map(|code| (call, "refused", *code)));
+    }
+    for answer in answers {
+        let times = met.get(&answer).copied().unwrap_or_default();
+        assert!(times >= LEAST_OF_EACH, "{answer:?} was met {times} times");
+    }
+}
+
+#[test]
+fn random_calls_are_answered_as_the_model_says() {
+    let mut met = Met::new();
+    let mut r = Random::new(seed());
+    let followed = with_histories(&mut r, HISTORIES, Trouble::OneByte, |history| {
+        follow::<second_reader::Table>(history, &mut met, same_users)
+    });
+    assert_eq!(followed, Ok(()));
+    assert_met(&met);
+}
+
+/// How many pairs of histories are compared, and how many calls one customer has in each.
+const PAIRS: usize = 100;
+const OWN_CALLS: usize = 150;
+
+/// Fewer calls than this are put by others before each call of the customer.
+const OTHERS_BOUND: usize = 8;
+
+/// The calls of one customer, among those of others.
+fn among_others<'p>(
+    r: &mut Random,
+    payloads: &'p Payloads,
+    own: &[Step<'p>],
+    blocks: usize,
+) -> History<'p> {
+    let others = customers(r, CUSTOMERS);
+    let of_others = |customer: &u32| *customer != own[0].customer;
+    let others = others.into_iter().filter(of_others).collect();
+    let store_length = blocks * BLOCK;
+    let others = Maker::new(r, payloads, others, store_length, Trouble::None);
+    let mut history = others.history(r, OTHERS_BOUND);
+    for step in own {
+        for _ in 0..r.below(OTHERS_BOUND) {
+            history.events.push(Event::Step(others.step(r)));
+        }
+        let step = Step {
+            store_length,
+            ..*step
+        };
+        history.events.push(Event::Step(step));
+    }
+    history
+}
+
+/// What a customer sees of a history.
+fn seen_by<T: Table>(customer: u32, history: &History<'_>) -> Vec<Seen> {
+    let mut shop: Shop<T> = Shop::new(&history.store);
+    let mut all = vec![];
+    for event in &history.events {
+        let Event::Step(step) = event else {
+            continue;
+        };
+        let seen = shop.put(step);
+        if step.customer == customer {
+            all.push(seen);
+        }
+    }
+    all
+}
+
+/// Compares what one customer sees among others with what they see alone, and among others again. Says how many pairs
+/// there were in which the customer was never refused for room.
+fn isolated<T: Table>(r: &mut Random, pairs: usize) -> Result<usize, Difference> {
+    const MANY_BLOCKS: [usize; 4] = [30, 50, 100, 128];
+    let mut compared = 0;
+    for _ in 0..pairs {
+        let payloads = Payloads::new(r, 8);
+        let customer = r.below(CUSTOMERS as usize) as u32;
+        let own = Maker::new(r, &payloads, vec![customer], BLOCK, Trouble::None);
+        let own: Vec<Step<'_>> = (0..OWN_CALLS).map(|_| own.step(r)).collect();
+        let seen = [(); 2].map(|()| {
+            let blocks = r.one_of(&MANY_BLOCKS);
+            seen_by::<T>(customer, &among_others(r, &payloads, &own, blocks))
+        });
+        assert_eq!(seen[0].len(), OWN_CALLS);
+        let refused_for_room = |seen: &Seen| seen.told.code == NO_ROOM;
+        if !seen.iter().flatten().any(refused_for_room) {
+            compared += 1;
+            if seen[0] != seen[1] {
+                return Err(format!("customer {customer} in pair {compared}"));
+            }
+        }
+    }
+    Ok(compared)
+}
+
+#[test]
+fn what_a_customer_sees_is_nothing_of_the_others() {
+    let compared = isolated::<second_reader::Table>(&mut Random::new(seed()), PAIRS);
+    let compared = compared.expect("no difference");
+    println!("compared {compared} of {PAIRS} pairs of histories");
+    assert!(compared >= PAIRS / 2, "only {compared} pairs were compared");
+}
+
+/// A table that is wrong in one thing, which the tests above must see.
+#[derive(Clone, Debug, PartialEq)]
+struct Wrong<const FAULT: u8>(second_reader::Table);
+
+/// The work buffer is written although all holds are open.
+const WRITES_TOO_EARLY: u8 = 0;
+/// A hold above 7 is refused before the customer is.
+const REFUSES_IN_ANOTHER_ORDER: u8 = 1;
+/// What is damaged is asked as if there were no name.
+const SERVES_DAMAGED: u8 = 2;
+/// The hold of another customer is closed.
+const CLOSES_ANOTHERS: u8 = 3;
+
+const NO_CUSTOMER: u32 = 23;
+const NOT_OPEN: u32 = 24;
+const ALL_HOLDS_OPEN: u32 = 25;
+const NO_ROOM: u32 = 26;
+const DAMAGED: u32 = 27;
+
+impl<const FAULT: u8> Table for Wrong<FAULT> {
+    fn start(store_length: u64) -> Self {
+        Wrong(Table::start(store_length))
+    }
+
+    fn open(&mut self, store: &mut [u8], customer: u32, payload: &[u8], work: &mut [u8]) -> Told {
+        let told = self.0.open(store, customer, payload, work);
+        if FAULT == WRITES_TOO_EARLY && told.code == ALL_HOLDS_OPEN {
+            let _ = second_reader::names_canonical(payload, work);
+        }
+        told
+    }
+
+    fn function_name(
+        &self,
+        store: &[u8],
+        customer: u32,
+        hold: u32,
+        function: u32,
+        out: &mut [u8],
+    ) -> Told {
+        let told = self.0.function_name(store, customer, hold, function, out);
+        match (FAULT, told.code) {
+            (REFUSES_IN_ANOTHER_ORDER, NO_CUSTOMER) if hold >= HOLDS => Told {
+                code: NOT_OPEN,
+                ..told
+            },
+            (SERVES_DAMAGED, DAMAGED) => Told {
+                kind: NONE,
+                code: 0,
+                ..told
+            },
+            _ => told,
+        }
+    }
+
+    fn close(&mut self, store: &[u8], customer: u32, hold: u32) -> Told {
+        let whose = match (FAULT, customer) {
+            (CLOSES_ANOTHERS, 1) => 0,
+            _ => customer,
+        };
+        self.0.close(store, whose, hold)
+    }
+}
+
+/// The model says so, and so does a comparison with a table that is right.
+fn is_seen<const FAULT: u8>(r: &mut Random) -> bool {
+    const FEW: usize = 40;
+    let by_the_model = with_histories(r, FEW, Trouble::OneByte, |history| {
+        follow::<Wrong<FAULT>>(history, &mut Met::new(), |_, _| {})
+    });
+    let by_comparison = with_histories(r, FEW, Trouble::Tampering, |history| {
+        compare::<Wrong<FAULT>, second_reader::Table>(history, &mut Met::new())
+    });
+    by_the_model.is_err() && by_comparison.is_err()
+}
+
+#[test]
+fn wrong_tables_are_seen() {
+    let mut r = Random::new(seed());
+    assert!(is_seen::<WRITES_TOO_EARLY>(&mut r));
+    assert!(is_seen::<REFUSES_IN_ANOTHER_ORDER>(&mut r));
+    assert!(is_seen::<SERVES_DAMAGED>(&mut r));
+    assert!(is_seen::<CLOSES_ANOTHERS>(&mut r));
+    assert!(isolated::<Wrong<CLOSES_ANOTHERS>>(&mut r, PAIRS).is_err());
+}
