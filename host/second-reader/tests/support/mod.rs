@@ -6,6 +6,7 @@
 pub mod editions;
 pub mod inputs;
 pub mod random;
+pub mod shop;
 
 use editions::Edition;
 use second_reader::{markers, quick_function_name, Answer, Kind, PairAnswer, Whose, Why};
