@@ -27,14 +27,19 @@ pub const MOST_BLOCKS: usize = 128;
 const ROOM: usize = (MOST_BLOCKS + 2) * BLOCK;
 
 /// A table of any make, by the calls that there are on it.
-pub trait Table: Clone + Debug + PartialEq {
+pub trait Table {
+    /// All that the table knows.
+    type State: Debug + PartialEq;
+
     /// A table over a store of a length.
     fn start(store_length: u64) -> Self;
+    /// What it knows now.
+    fn state(&mut self) -> Self::State;
     /// Opens a payload.
     fn open(&mut self, store: &mut [u8], customer: u32, payload: &[u8], work: &mut [u8]) -> Told;
-    /// Asks for the name of a function.
+    /// Asks for the name of a function. It may change the table no more than the calls that are refused.
     fn function_name(
-        &self,
+        &mut self,
         store: &[u8],
         customer: u32,
         hold: u32,
@@ -46,8 +51,14 @@ pub trait Table: Clone + Debug + PartialEq {
 }
 
 impl Table for second_reader::Table {
+    type State = Self;
+
     fn start(store_length: u64) -> Self {
         second_reader::table_start(store_length)
+    }
+
+    fn state(&mut self) -> Self {
+        self.clone()
     }
 
     fn open(&mut self, store: &mut [u8], customer: u32, payload: &[u8], work: &mut [u8]) -> Told {
@@ -55,7 +66,7 @@ impl Table for second_reader::Table {
     }
 
     fn function_name(
-        &self,
+        &mut self,
         store: &[u8],
         customer: u32,
         hold: u32,
@@ -166,7 +177,7 @@ impl<T: Table> Shop<T> {
 
     /// Puts a call. Whatever its answer, it changes nothing that a call of this kind and answer must leave as it is.
     pub fn put(&mut self, step: &Step<'_>) -> Seen {
-        let table = self.table.clone();
+        let state = self.table.state();
         let before = self.store().to_vec();
         let framed = framed(&mut self.output, step.room());
         let buffer = &mut framed[GUARD..];
@@ -189,7 +200,7 @@ impl<T: Table> Shop<T> {
         let granted = told.kind == FOUND;
         let is_question = matches!(step.call, Call::FunctionName { .. });
         if !granted || is_question {
-            assert_eq!(self.table, table, "{step:?} changed the table");
+            assert_eq!(self.table.state(), state, "{step:?} changed the table");
         }
         if !granted || !matches!(step.call, Call::Open { .. }) {
             assert_eq!(self.store(), before, "{step:?} changed the store");

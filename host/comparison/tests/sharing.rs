@@ -53,7 +53,7 @@ fn same_users(shop: &mut Shop<second_reader::Table>, model: &Model) {
     if shop.is_damaged() {
         return;
     }
-    let stored = shop.table.clone().stored(shop.store());
+    let stored = shop.table.state().stored(shop.store());
     let found: BTreeMap<&[u8], usize> = stored
         .iter()
         .map(|stored| (&stored.payload[..], stored.users))
@@ -183,7 +183,6 @@ fn what_a_customer_sees_is_nothing_of_the_others() {
 }
 
 /// A table that is wrong in one thing, which the tests above must see.
-#[derive(Clone, Debug, PartialEq)]
 struct Wrong<const FAULT: u8>(second_reader::Table);
 
 /// The work buffer is written although all holds are open.
@@ -202,8 +201,14 @@ const NO_ROOM: u32 = 26;
 const DAMAGED: u32 = 27;
 
 impl<const FAULT: u8> Table for Wrong<FAULT> {
+    type State = second_reader::Table;
+
     fn start(store_length: u64) -> Self {
         Wrong(Table::start(store_length))
+    }
+
+    fn state(&mut self) -> second_reader::Table {
+        self.0.clone()
     }
 
     fn open(&mut self, store: &mut [u8], customer: u32, payload: &[u8], work: &mut [u8]) -> Told {
@@ -215,7 +220,7 @@ impl<const FAULT: u8> Table for Wrong<FAULT> {
     }
 
     fn function_name(
-        &self,
+        &mut self,
         store: &[u8],
         customer: u32,
         hold: u32,
