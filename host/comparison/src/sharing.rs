@@ -26,6 +26,17 @@ pub const MOST_BLOCKS: usize = 128;
 /// More than any payload or buffer that is lent to a table takes.
 const ROOM: usize = (MOST_BLOCKS + 2) * BLOCK;
 
+/// Whose name a customer asks for.
+#[derive(Clone, Copy)]
+pub struct Asked {
+    /// Who asks.
+    pub customer: u32,
+    /// Through which hold.
+    pub hold: u32,
+    /// The function.
+    pub function: u32,
+}
+
 /// A table of any make, by the calls that there are on it.
 pub trait Table {
     /// All that the table knows.
@@ -38,14 +49,7 @@ pub trait Table {
     /// Opens a payload.
     fn open(&mut self, store: &mut [u8], customer: u32, payload: &[u8], work: &mut [u8]) -> Told;
     /// Asks for the name of a function. It may change the table no more than the calls that are refused.
-    fn function_name(
-        &mut self,
-        store: &[u8],
-        customer: u32,
-        hold: u32,
-        function: u32,
-        out: &mut [u8],
-    ) -> Told;
+    fn function_name(&mut self, store: &[u8], asked: Asked, out: &mut [u8]) -> Told;
     /// Closes a hold.
     fn close(&mut self, store: &[u8], customer: u32, hold: u32) -> Told;
 }
@@ -65,14 +69,12 @@ impl Table for second_reader::Table {
         second_reader::table_open(self, store, customer, payload, work).into()
     }
 
-    fn function_name(
-        &mut self,
-        store: &[u8],
-        customer: u32,
-        hold: u32,
-        function: u32,
-        out: &mut [u8],
-    ) -> Told {
+    fn function_name(&mut self, store: &[u8], asked: Asked, out: &mut [u8]) -> Told {
+        let Asked {
+            customer,
+            hold,
+            function,
+        } = asked;
         second_reader::table_function_name(self, store, customer, hold, function, out).into()
     }
 
@@ -190,9 +192,12 @@ impl<T: Table> Shop<T> {
                 told
             }
             Call::FunctionName { hold, function, .. } => {
-                let customer = step.customer;
-                self.table
-                    .function_name(store, customer, hold, function, buffer)
+                let asked = Asked {
+                    customer: step.customer,
+                    hold,
+                    function,
+                };
+                self.table.function_name(store, asked, buffer)
             }
             Call::Close { hold } => self.table.close(store, step.customer, hold),
         };
@@ -218,6 +223,11 @@ impl<T: Table> Shop<T> {
                 self.damaged = Some(DamagedByte { at, change, block });
             }
             Damage::Word { block, word, add } => self.tamper(block, word, add),
+            Damage::Block { from, to } => {
+                let copied = from * BLOCK..(from + 1) * BLOCK;
+                let store = self.store.last(self.store_length);
+                store.copy_within(copied, to * BLOCK);
+            }
             Damage::Repaired => self.repair(),
         }
     }

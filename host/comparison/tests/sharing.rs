@@ -8,7 +8,7 @@ use comparison::random::{seed, Random};
 use comparison::sharing::history::{customers, Event, History, Maker, Payloads, Trouble};
 use comparison::sharing::model::{follow, Model};
 use comparison::sharing::{
-    compare, Difference, Met, Seen, Shop, Step, Table, BLOCK, CUSTOMERS, HOLDS,
+    compare, Asked, Difference, Met, Seen, Shop, Step, Table, BLOCK, CUSTOMERS, HOLDS,
 };
 
 const HISTORIES: usize = 250;
@@ -219,17 +219,10 @@ impl<const FAULT: u8> Table for Wrong<FAULT> {
         told
     }
 
-    fn function_name(
-        &mut self,
-        store: &[u8],
-        customer: u32,
-        hold: u32,
-        function: u32,
-        out: &mut [u8],
-    ) -> Told {
-        let told = self.0.function_name(store, customer, hold, function, out);
+    fn function_name(&mut self, store: &[u8], asked: Asked, out: &mut [u8]) -> Told {
+        let told = self.0.function_name(store, asked, out);
         match (FAULT, told.code) {
-            (REFUSES_IN_ANOTHER_ORDER, NO_CUSTOMER) if hold >= HOLDS => Told {
+            (REFUSES_IN_ANOTHER_ORDER, NO_CUSTOMER) if asked.hold >= HOLDS => Told {
                 code: NOT_OPEN,
                 ..told
             },

@@ -26,6 +26,13 @@ pub enum Damage {
         /// What is added to both.
         add: u32,
     },
+    /// A block is written over another, with its check.
+    Block {
+        /// The number of the block that is copied.
+        from: usize,
+        /// The number of the block that is written over.
+        to: usize,
+    },
     /// The byte that was changed last is as it was, unless a call has written its block since.
     Repaired,
 }
@@ -54,7 +61,7 @@ pub enum Trouble {
     None,
     /// Stores of other lengths are lent, and at most one byte is damaged at a time.
     OneByte,
-    /// The same, and words are changed together with their checks.
+    /// The same, and words are changed together with their checks, and blocks copied with theirs.
     Tampering,
 }
 
@@ -234,17 +241,22 @@ impl<'p> Maker<'p> {
     }
 
     fn damage(&self, r: &mut Random) -> Damage {
-        if self.trouble == Trouble::Tampering && r.once_in(2) {
-            return Damage::Word {
-                block: r.below(self.store_length / BLOCK),
+        let blocks = self.store_length / BLOCK;
+        match r.below(3) {
+            0 if self.trouble == Trouble::Tampering => Damage::Word {
+                block: r.below(blocks),
                 // Most payloads are short.
                 word: r.below(8),
                 add: 1 << r.below(32),
-            };
-        }
-        Damage::Byte {
-            at: r.below(self.store_length),
-            change: 1 << r.below(8),
+            },
+            1 if self.trouble == Trouble::Tampering => Damage::Block {
+                from: r.below(blocks),
+                to: r.below(blocks),
+            },
+            _ => Damage::Byte {
+                at: r.below(self.store_length),
+                change: 1 << r.below(8),
+            },
         }
     }
 
