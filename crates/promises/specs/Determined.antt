@@ -22,5 +22,6 @@ pub mod Markers
 pub mod Pairs
 pub mod Joining
 pub mod Stream
+pub mod Sharing
 pub mod Wakemiono
 pub mod Saying
