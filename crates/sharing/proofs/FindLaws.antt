@@ -19,7 +19,7 @@ use Rattle.sharing.specs.Blocks.{need, right, allRight, gather}
 use Rattle.sharing.specs.Laws.Arrays.{marks-cons}
 use Rattle.sharing.specs.Laws.Bytes.{blocks-cons, blocks-end, blocks-length}
 use Rattle.sharing.specs.Laws.Walks.{later}
-use Rattle.sharing.specs.Marks.{Walkable, RightRows, FitsRow, SizeFits, RowHolds, rowOf}
+use Rattle.sharing.specs.Marks.{Walkable, RightRows, FitsRow, SizeFits, RowHolds, FindsRow}
 use Rattle.sharing.specs.Model.{after}
 use Rattle.sharing.specs.Table.{Mark, mark, blocks, rowsRight, find}
 use Rattle.sharing.specs.declared.rows.Row.{Row}
@@ -188,10 +188,10 @@ module _ {us ns s q : List ℕ} {b : ℕ} (t : Sought us ns s q b) where
     pub sought-more : {r : Bool} → RowHolds us ns s b q r → r ≡ false → Sought us ns s q (b + 1)
     sought-more x e = record { is = tried x ∙ rw (e, add-one b) (later-after b _) }
 
-    pub sought-found : {r : Bool} → RowHolds us ns s b q r → r ≡ true → rowOf (At b) ≡ find q (marksFrom us ns) (blocks s)
-    sought-found x e = sym (tried x ∙ rw e (later-zero b))
+    pub sought-found : {r : Bool} → RowHolds us ns s b q r → r ≡ true → FindsRow us ns s q (At b)
+    sought-found x e = record { is = sym (tried x ∙ rw e (later-zero b)) }
 
-  pub sought-all : length s / 512 ≤ b → rowOf Nowhere ≡ find q (marksFrom us ns) (blocks s)
-  sought-all h = sym (t .is ∙ ap (later b) (ap (find q (drop b (marksFrom us ns))) (blocks-end s b h) ∙ find-end q (drop b (marksFrom us ns))) ∙ later-none-is b)
+  pub sought-all : length s / 512 ≤ b → FindsRow us ns s q Nowhere
+  sought-all h = record { is = sym (t .is ∙ ap (later b) (ap (find q (drop b (marksFrom us ns))) (blocks-end s b h) ∙ find-end q (drop b (marksFrom us ns))) ∙ later-none-is b) }
 
 pub ruleset finds = (fits-row, sought-none, sought-more, sought-found, sought-all, needs)

@@ -1,19 +1,24 @@
 -- What the functions on holds give, one law for each way through them.
 use Prim.Native.Nat.{ℕ, zero, suc, _+_, _-_, _*_, _%_, _≤_, _<_}
-use mathlib.Core.Bool.{Bool, true, false, _&&_}
-use mathlib.Core.List.{List, [], _∷_}
+use mathlib.Core.Bool.{Bool, true, false, cond, _&&_}
+use mathlib.Core.List.{List, [], _∷_, map}
+use mathlib.Core.Option.{Option, none, some}
+use native.Mathlib.Numerals.{add-one}
 use mathlib.Core.Path.{_≡_, refl, sym, ap, ap₂, _∙_}
 use native.Mathlib.Omega.{arith}
 use borrow.Author.Needs.{needs}
 use borrow.Author.Tests.{eq-eqb, ne-eqb, lt-ltb, le-ltb, le-leb, lt-leb}
 use lib.Dec.{eqb, ltb, leb}
-use lib.ListN.{length, getD, set, take, drop, length-take}
-use lib.Seq.{getD-take, getD-drop, set-getD, set-out}
+use lib.ListN.{length, getD, set, take, drop, length-take, length-drop, drop-of-length-le}
+use lib.Seq.{drop-cons, length-take-le, getD-take, getD-drop, set-getD, set-out}
 use Rattle.sharing.specs.Arrays.{marksFrom, tableOf}
-use Rattle.sharing.specs.Calls.{releases}
+use Rattle.sharing.specs.Calls.{LowestUnused, leadsTo, releases}
 use Rattle.sharing.specs.Laws.Arrays.{set-mark, get-mark, marks-length}
-use Rattle.sharing.specs.Model.{desk}
-use Rattle.sharing.specs.Step.{released}
+use Rattle.sharing.specs.Model.{desk, after, firstTrue}
+use Rattle.sharing.specs.Step.{unused, joined, released}
+use Rattle.sharing.specs.Laws.Walks.{later}
+use Rattle.format.specs.Laws.Outcomes.{byTest}
+use Rattle.sharing.proofs.FindLaws.{later-after, later-none-is, later-zero}
 use Rattle.sharing.specs.Table.{Mark, mark, blank, table, lengthFits}
 use Rattle.sharing.specs.declared.Table.{Table}
 
@@ -76,3 +81,58 @@ module _ (t : Table) (at b : ℕ) (u : length (t .users) ≡ 128) (n : length (t
   release-one h = ap (table (t .bytes) (set (t .holds) at 0)) (sym (rw (mark-there, lt-leb (getD (t .users) b 0) 1 h) (set-mark (t .users) (t .sizes) b (getD (t .users) b 0 - 1) (getD (t .sizes) b 0) ∙ ap (marksFrom (set (t .users) b (getD (t .users) b 0 - 1))) (set-getD (t .sizes) b 0))))
 
 pub ruleset released-so = (release-outside, release-last, release-one, needs)
+
+-- The lowest unused hold
+
+pub record Unused (l : List ℕ) (c h : ℕ) : Type 0 where
+  pub near : h ≤ 8
+  pub is : firstTrue (map unused (desk c l)) ≡ later h (firstTrue (map unused (drop h (desk c l))))
+
+pub unused-none : (l : List ℕ) (c : ℕ) → Unused l c 0
+unused-none l c = record { near = omega arith; is = refl }
+
+desk-long : (l : List ℕ) (c : ℕ) → c < 16 → length l ≡ 128 → length (desk c l) ≡ 8
+unfolding desk
+desk-long l c k e = length-take-le 8 (drop (c * 8) l) (rw length-drop (omega arith))
+
+first-test : (x : ℕ) (l : List ℕ) → firstTrue (map unused (x ∷ l)) ≡ cond (unused x) (some 0) (after (firstTrue (map unused l)))
+unfolding firstTrue
+first-test x l = byTest (unused x) (λ t. rw t) (λ t. rw t)
+
+module _ {l : List ℕ} {c h : ℕ} (t : Unused l c h) (k : c < 16) (e : length l ≡ 128) where
+  tried : h < 8 → firstTrue (map unused (desk c l)) ≡ later h (cond (unused (getD l (c * 8 + h) 0)) (some 0) (after (firstTrue (map unused (drop (suc h) (desk c l))))))
+  tried m =
+      let d = drop-cons (desk c l) h 0 (omega (arith, desk-long l c k e)) in
+      t .is ∙ ap (later h) (ap (λ (x : List ℕ). firstTrue (map unused x)) d ∙ first-test (getD (desk c l) h 0) (drop (suc h) (desk c l)) ∙ rw (← entry-at l c h m) refl)
+
+  pub unused-more : h < 8 → (getD l (c * 8 + h) 0 ≡ 0 → ⊥) → Unused l c (h + 1)
+  unfolding unused
+  unused-more m f = record { near = omega arith; is = tried m ∙ rw (ne-eqb (getD l (c * 8 + h) 0) 0 f, add-one h) (later-after h _) }
+
+  pub unused-found : h < 8 → getD l (c * 8 + h) 0 ≡ 0 → LowestUnused l c h
+  unfolding unused
+  unused-found m f = record { is = tried m ∙ rw (eq-eqb (getD l (c * 8 + h) 0) 0 f, lt-ltb h 8 m) (later-zero h); few = omega arith }
+
+  pub unused-all : 8 ≤ h → LowestUnused l c 8
+  unfolding firstTrue
+  unused-all m = record { is = t .is ∙ ap (λ (x : List ℕ). later h (firstTrue (map unused x))) (drop-of-length-le (desk c l) {i = h} (omega (arith, desk-long l c k e))) ∙ later-none-is h; few = omega arith }
+
+pub ruleset lowest-holds = (unused-none, unused-more, unused-found, unused-all, needs)
+
+-- A user more
+
+pub led-to : (t : Table) (at b u n : ℕ) → tableOf (record { holds = set (t .holds) at (b + 1); users = set (t .users) b u; sizes = set (t .sizes) b n; bytes = t .bytes }) ≡ leadsTo (tableOf t) at b (mark u n)
+led-to t at b u n = rw (add-one b) (ap (table (t .bytes) (set (t .holds) at (suc b))) (sym (set-mark (t .users) (t .sizes) b u n)))
+
+pub ruleset leads = (led-to, needs)
+
+module _ (t : Table) (at b : ℕ) (u : length (t .users) ≡ 128) (n : length (t .sizes) ≡ 128) (r : Table) where
+  pub share-more : getD (t .users) b 0 < 255 → tableOf r ≡ leadsTo (tableOf t) at b (mark (getD (t .users) b 0 + 1) (getD (t .sizes) b 0)) → tableOf r ≡ leadsTo (tableOf t) at b (joined (getD (tableOf t .marks) b blank))
+  unfolding joined
+  share-more h e = e ∙ rw (get-mark (t .users) (t .sizes) b (u ∙ sym n), lt-ltb (getD (t .users) b 0) 255 h, add-one (getD (t .users) b 0)) refl
+
+  pub share-full : 255 ≤ getD (t .users) b 0 → tableOf r ≡ leadsTo (tableOf t) at b (mark (getD (t .users) b 0) (getD (t .sizes) b 0)) → tableOf r ≡ leadsTo (tableOf t) at b (joined (getD (tableOf t .marks) b blank))
+  unfolding joined
+  share-full h e = e ∙ rw (get-mark (t .users) (t .sizes) b (u ∙ sym n), le-ltb (getD (t .users) b 0) 255 h) refl
+
+pub ruleset shares = (share-more, share-full, needs)

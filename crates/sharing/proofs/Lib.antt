@@ -6,3 +6,4 @@ pub mod RunLaws
 pub mod StoreLaws
 pub mod HoldLaws
 pub mod CloseLaws
+pub mod OpenLaws

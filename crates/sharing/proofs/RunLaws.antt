@@ -15,7 +15,7 @@ use Rattle.sharing.specs.Laws.Arrays.{marks-cons}
 use Rattle.sharing.specs.Laws.Bytes.{blocks-cons, blocks-end}
 use Rattle.sharing.specs.Laws.Runs.{run-stops, run-grows, run-full, run-ends}
 use Rattle.sharing.specs.Laws.Walks.{later}
-use Rattle.sharing.specs.Marks.{Walkable, rowOf}
+use Rattle.sharing.specs.Marks.{Walkable, FindsRun}
 use Rattle.sharing.specs.Model.{after}
 use Rattle.sharing.specs.Table.{Mark, mark, blocks, reach, taken, firstRun}
 use Rattle.sharing.specs.declared.rows.Row.the-variants.{At, Nowhere}
@@ -98,18 +98,20 @@ module _ {us ns s : List ℕ} {wanted b cover free : ℕ} (t : Running us ns s w
         let z : b - free ≡ b + 1 - (free + 1) = omega arith in
         record { short = omega (arith, t .short); inside = omega (arith, t .inside); is = grown l ∙ rw (z, n) (ap (λ (i : ℕ). later (b + 1 - (free + 1)) (firstRun wanted (replicate i false ++ taken c (drop (b + 1) (marksFrom us ns)) (drop (b + 1) (blocks s))))) k) }
 
-    pub running-found : c ≤ 0 → free + 1 ≡ wanted → rowOf (At (b + 1 - wanted)) ≡ firstRun wanted (taken 0 (marksFrom us ns) (blocks s))
+    pub running-found : c ≤ 0 → free + 1 ≡ wanted → FindsRun us ns s wanted (At (b + 1 - wanted))
     running-found l f =
         let k : suc free ≡ wanted = omega arith in
         let z : b - free ≡ b + 1 - wanted = omega arith in
         let rest = taken c (drop (suc b) (marksFrom us ns)) (drop (suc b) (blocks s)) in
-        sym (grown l ∙ ap (λ (i : ℕ). later (b - free) (firstRun wanted (replicate i false ++ rest))) k ∙ ap (later (b - free)) (full wanted rest (omega arith)) ∙ later-zero (b - free) ∙ ap some z)
+        record { is = sym (grown l ∙ ap (λ (i : ℕ). later (b - free) (firstRun wanted (replicate i false ++ rest))) k ∙ ap (later (b - free)) (full wanted rest (omega arith)) ∙ later-zero (b - free) ∙ ap some z) }
 
   pub running-room : free + 1 ≡ wanted → wanted ≤ b + 1
   running-room e = omega (arith, t .inside)
 
-  pub running-all : length s / 512 ≤ b → rowOf Nowhere ≡ firstRun wanted (taken 0 (marksFrom us ns) (blocks s))
-  running-all h = sym (t .is ∙ ap (λ (l : List Bool). later (b - free) (firstRun wanted (replicate free false ++ l))) (ap (taken cover (drop b (marksFrom us ns))) (blocks-end s b h) ∙ taken-end cover (drop b (marksFrom us ns)))
-      ∙ ap (λ (l : List Bool). later (b - free) (firstRun wanted l)) (append-nil (replicate free false)) ∙ ap (later (b - free)) (run-ends free wanted (t .short)) ∙ later-none-is (b - free))
+  pub running-all : length s / 512 ≤ b → FindsRun us ns s wanted Nowhere
+  running-all h = record {
+    is = sym (t .is ∙ ap (λ (l : List Bool). later (b - free) (firstRun wanted (replicate free false ++ l))) (ap (taken cover (drop b (marksFrom us ns))) (blocks-end s b h) ∙ taken-end cover (drop b (marksFrom us ns)))
+        ∙ ap (λ (l : List Bool). later (b - free) (firstRun wanted l)) (append-nil (replicate free false)) ∙ ap (later (b - free)) (run-ends free wanted (t .short)) ∙ later-none-is (b - free));
+  }
 
 pub ruleset runs = (running-none, running-stops, running-grows, running-found, running-room, running-all, needs)

@@ -1,16 +1,32 @@
 -- What the calls hand back says, with the lent buffer after the call; and the parts of a call that have functions of their own.
-use Prim.Native.Nat.{ℕ, suc}
-use mathlib.Core.List.{List, []}
-use lib.ListN.{getD, set}
+use Prim.Native.Nat.{ℕ, suc, _+_, _*_, _≤_, _<_}
+use mathlib.Core.Bool.{cond}
+use mathlib.Core.List.{List, [], map}
+use mathlib.Core.Option.{none, some}
+use mathlib.Core.Path.{_≡_}
+use lib.Dec.{ltb}
+use lib.ListN.{length, getD, set}
 use Rattle.format.specs.Refusals.{numberOf}
 use Rattle.format.specs.declared.Reason.{Reason}
 use Rattle.format.specs.declared.Verdict.{Verdict}
 use Rattle.format.specs.declared.Verdict.the-variants.{Accepted, Refused}
-use Rattle.sharing.specs.Model.{Answer, refusal, closed}
-use Rattle.sharing.specs.Step.{released}
-use Rattle.sharing.specs.Table.{Mark, blank, Table, table}
+use Rattle.format.specs.declared.Written.{Written}
+use Rattle.format.specs.declared.Written.the-variants.{Length, Refused as NotWritten}
+use Rattle.sharing.specs.Arrays.{tableOf}
+use Rattle.sharing.specs.Blocks.{need, scatter, join}
+use Rattle.sharing.specs.Marks.{SizeFits}
+use Rattle.writing.specs.Wrote.{Wrote}
+use Rattle.sharing.specs.Model.{Answer, refusal, granted, closed, desk, firstTrue, over, go}
+use Rattle.sharing.specs.Step.{unused, joined, released, leaves, newly, openedIn}
+use Rattle.sharing.specs.Table.{Mark, mark, blank, Table, table, blocks, taken, firstRun}
 use Rattle.sharing.specs.declared.Closed.{Closed}
+use Rattle.sharing.specs.declared.Opened.{Opened}
 use Rattle.sharing.specs.declared.Table.{Table as Arrays}
+
+-- the customer's lowest unused hold, or 8
+pub record LowestUnused (holds : List ℕ) (customer hold : ℕ) : Type 0 where
+  pub is : firstTrue (map unused (desk customer holds)) ≡ cond (ltb hold 8) (some hold) none
+  pub few : hold ≤ 8
 
 -- a hold leads to a row, whose mark becomes this
 abbrev pub leadsTo : Table → (at first : ℕ) → Mark → Table
@@ -26,3 +42,44 @@ closedAs (Refused r) = refusal (numberOf (r .reason)) (r .offset .0) []
 
 abbrev pub notClosed : Arrays → Reason → Closed
 notClosed t why = record { table = t; verdict = Refused (record { reason = why; offset = record { 0 = 0 } }) }
+
+-- Opens
+
+-- a customer that there is, and one of their holds
+pub record Seat (customer hold : ℕ) : Type 0 where
+  pub there : customer < 16
+  pub low : hold < 8
+
+abbrev pub openedAs : Written → List ℕ → Answer
+openedAs (Length hold) work = granted hold work
+openedAs (NotWritten r) work = refusal (numberOf (r .reason)) (r .offset .0) work
+
+abbrev pub opened : Arrays → ℕ → Opened
+opened t hold = record { table = t; answer = Length hold }
+
+abbrev pub notOpened : Arrays → Reason → Opened
+notOpened t why = record { table = t; answer = NotWritten (record { reason = why; offset = record { 0 = 0 } }) }
+
+-- whatever the work buffer was: once it begins with the canonical payload, table, store and answer are what the step says
+pub record OpensNew (t : Arrays) (store : List ℕ) (customer hold : ℕ) (payload after : List ℕ) (r : Opened) : Type 0 where
+  pub is : (work : List ℕ) → leaves (tableOf (r .table)) after (openedAs (r .answer) (over payload work)) ≡ newly (tableOf t) store customer payload work hold (firstRun (need (length payload)) (taken 0 (tableOf t .marks) (blocks store)))
+
+pub record OpensWith (t : Arrays) (store : List ℕ) (customer hold : ℕ) (payload after : List ℕ) (r : Opened) : Type 0 where
+  pub is : (work : List ℕ) → leaves (tableOf (r .table)) after (openedAs (r .answer) (over payload work)) ≡ openedIn (tableOf t) store customer work (go payload hold)
+
+-- room for a payload from a block on
+pub record Settling (store : List ℕ) (first : ℕ) (payload : List ℕ) : Type 0 where
+  pub fits : SizeFits store first (length payload)
+  pub low : first < 128
+  pub small : length payload < 4294967296
+
+-- it is stored there, with one user
+pub record Settles (t : Arrays) (store : List ℕ) (customer hold first : ℕ) (payload after : List ℕ) (r : Opened) : Type 0 where
+  pub table : tableOf (r .table) ≡ leadsTo (tableOf t) (customer * 8 + hold) first (mark 1 (length payload))
+  pub answer : r .answer ≡ Length hold
+  pub wrote : Wrote store after (first * 512) ((first + need (length payload)) * 512) (join (scatter payload))
+
+-- it is there, with a user more
+pub record Joins (t : Arrays) (customer hold first : ℕ) (r : Opened) : Type 0 where
+  pub table : tableOf (r .table) ≡ leadsTo (tableOf t) (customer * 8 + hold) first (joined (getD (tableOf t .marks) first blank))
+  pub answer : r .answer ≡ Length hold

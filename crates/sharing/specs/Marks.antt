@@ -1,5 +1,5 @@
 -- What the walks over marks and blocks are lent, and what each asks of one row.
-use Prim.Native.Nat.{ℕ, _+_, _/_, _≤_, _<_}
+use Prim.Native.Nat.{ℕ, _+_, _/_, _%_, _≤_, _<_}
 use mathlib.Core.Bool.{Bool, true, cond, not, _&&_}
 use mathlib.Core.List.{List}
 use mathlib.Core.Option.{Option, none, some}
@@ -9,15 +9,16 @@ use lib.ListN.{length, getD, drop}
 use Rattle.format.specs.Bytes.{same}
 use Rattle.sharing.specs.Arrays.{marksFrom}
 use Rattle.sharing.specs.Blocks.{need, allRight, gather}
-use Rattle.sharing.specs.Table.{blocks, rowsRight}
+use Rattle.sharing.specs.Table.{blocks, rowsRight, find, taken, firstRun}
 use Rattle.sharing.specs.declared.rows.Row.{Row}
 use Rattle.sharing.specs.declared.rows.Row.the-variants.{At, Nowhere}
 
--- arrays as long as a table's, and a store of no more blocks than they have places
+-- arrays as long as a table's, and a store of whole blocks, no more than they have places
 pub record Walkable (users sizes store : List ℕ) : Type 0 where
   pub users-long : length users ≡ 128
   pub sizes-long : length sizes ≡ 128
   pub few : length store ≤ 65536
+  pub whole : length store % 512 ≡ 0
 
 -- every needed block is there with a right check
 pub record RightRows (users sizes store : List ℕ) : Type 0 where
@@ -43,3 +44,10 @@ pub record RowHolds (users sizes store : List ℕ) (at : ℕ) (bytes : List ℕ)
 abbrev pub rowOf : Row → Option ℕ
 rowOf (At b) = some b
 rowOf Nowhere = none
+
+-- what the walks find
+pub record FindsRow (users sizes store bytes : List ℕ) (r : Row) : Type 0 where
+  pub is : rowOf r ≡ find bytes (marksFrom users sizes) (blocks store)
+
+pub record FindsRun (users sizes store : List ℕ) (wanted : ℕ) (r : Row) : Type 0 where
+  pub is : rowOf r ≡ firstRun wanted (taken 0 (marksFrom users sizes) (blocks store))

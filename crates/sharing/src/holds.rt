@@ -3,8 +3,9 @@ ghost use mathlib.Core.Path.{_≡_};
 ghost use Prim.Native.Nat.{_<_, _+_, _*_, suc};
 ghost use lib.ListN.{getD, set, length};
 ghost use Rattle.sharing.specs.Arrays.{tableOf};
-ghost use Rattle.sharing.specs.Calls.{leadsTo, releases};
-ghost use Rattle.sharing.specs.Table.{lengthFits};
+ghost use Rattle.sharing.specs.Calls.{LowestUnused, leadsTo, releases};
+ghost use Rattle.sharing.specs.Step.{joined};
+ghost use Rattle.sharing.specs.Table.{mark, blank, lengthFits};
 ghost use Rattle.sharing.specs.Model.{desk};
 use crate::PLACES;
 use crate::Table;
@@ -15,6 +16,8 @@ pub const HOLDS: usize = 8;
 
 // What a store of 128 blocks takes.
 const MOST_BYTES: usize = 65536;
+
+const MOST_USERS: u8 = 255;
 
 // Whether a store is 1 to 128 blocks, as at the start.
 pub fn fits(bytes: u64, length: usize) -> bool
@@ -41,6 +44,49 @@ pub fn entry(holds: &[u8; PLACES], customer: u32, hold: u32) -> u8
         return 0;
     }
     holds[customer as usize * HOLDS + hold as usize]
+}
+
+// The lowest hold of a customer that is not open, or 8.
+pub fn lowest(holds: &[u8; PLACES], customer: u32) -> usize
+    requires { ⌜ customer < 16 ⌝ }
+    requires { ⌜ length (now holds) ≡ 128 ⌝ }
+    ensures { λ r. ⌜ LowestUnused (now (holds .entry)) customer r ⌝ }
+{
+    let first = customer as usize * HOLDS;
+    let mut h = 0;
+    while h < HOLDS {
+        if holds[first + h] == 0 {
+            return h;
+        }
+        h += 1;
+    }
+    HOLDS
+}
+
+// The table where that hold leads to the row at a block, with its users and its size.
+pub fn lead(t: Table, at: usize, b: usize, users: u8, size: u32) -> Table
+    requires { ⌜ at < 128 ⌝ }
+    requires { ⌜ b < 128 ⌝ }
+    ensures { λ r. ⌜ tableOf r ≡ leadsTo (tableOf t) at b (mark users size) ⌝ }
+{
+    let mut next = t;
+    next.holds[at] = (b + 1) as u8;
+    next.users[b] = users;
+    next.sizes[b] = size;
+    next
+}
+
+// The same at a row that is there: one user more. No table that is used through the calls has 255.
+pub fn share(t: Table, at: usize, b: usize) -> Table
+    requires { ⌜ at < 128 ⌝ }
+    requires { ⌜ b < 128 ⌝ }
+    ensures { λ r. ⌜ tableOf r ≡ leadsTo (tableOf t) at b (joined (getD (tableOf t .marks) b blank)) ⌝ }
+{
+    let users = t.users[b];
+    if users < MOST_USERS {
+        return lead(t, at, b, users + 1, t.sizes[b]);
+    }
+    lead(t, at, b, users, t.sizes[b])
 }
 
 // The table without that hold: one user less at its row, and none left where it was the last.

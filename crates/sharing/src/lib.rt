@@ -1,6 +1,7 @@
 // K12: payloads that customers share, in a store of blocks that the caller lends at each call. The table is the caller's too and goes by value: a table goes in, and the table behind the call comes out.
 mod blocks;
 mod holds;
+mod opening;
 mod rows;
 mod runs;
 mod storing;
@@ -16,6 +17,7 @@ use format::Offset;
 use format::Reason;
 use format::Refusal;
 use format::Verdict;
+use format::Written;
 
 // As many holds as sixteen customers have, eight each; and as many blocks as a store has at most.
 pub const PLACES: usize = 128;
@@ -41,6 +43,12 @@ pub fn start(bytes: u64) -> Table
         sizes: [0; PLACES],
         bytes,
     }
+}
+
+// What an open leaves, and its answer: the hold, or a refusal.
+pub struct Opened {
+    pub table: Table,
+    pub answer: Written,
 }
 
 // What a close leaves, and its verdict.

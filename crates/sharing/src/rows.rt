@@ -5,7 +5,7 @@ ghost use lib.ListN.{length, take, drop};
 ghost use Rattle.format.specs.Bytes.{same};
 ghost use Rattle.sharing.specs.Arrays.{marksFrom};
 ghost use Rattle.sharing.specs.Blocks.{gather};
-ghost use Rattle.sharing.specs.Marks.{Walkable, RightRows, FitsRow, SizeFits, RowRight, RowHolds, rowOf};
+ghost use Rattle.sharing.specs.Marks.{Walkable, RightRows, FitsRow, SizeFits, RowRight, RowHolds, FindsRow};
 ghost use Rattle.sharing.specs.Table.{rowsRight};
 ghost use Rattle.sharing.specs.Table as table;
 use crate::PLACES;
@@ -116,7 +116,7 @@ fn row_holds<'a>(
 pub fn find<'a>(users: &'a [u8; PLACES], sizes: &'a [u32; PLACES], store: &[u8], q: &[u8]) -> Row
     requires { ⌜ Walkable (now users) (now sizes) (now store) ⌝ }
     requires { ⌜ RightRows (now users) (now sizes) (now store) ⌝ }
-    ensures { λ r. ⌜ rowOf r ≡ table.find (now (q .entry)) (marksFrom (now (users .entry)) (now (sizes .entry))) (table.blocks (now (store .entry))) ⌝ }
+    ensures { λ r. ⌜ FindsRow (now (users .entry)) (now (sizes .entry)) (now (store .entry)) (now (q .entry)) r ⌝ }
 {
     let blocks = store.len() / BLOCK;
     let mut b = 0;

@@ -1,9 +1,8 @@
 // Free blocks: the first run of them that is long enough.
 ghost use mathlib.Core.Path.{_≡_};
 ghost use Prim.Native.Nat.{_<_, max};
-ghost use Rattle.sharing.specs.Arrays.{marksFrom};
-ghost use Rattle.sharing.specs.Marks.{Walkable, rowOf};
-ghost use Rattle.sharing.specs.Table.{mark, taken, firstRun};
+ghost use Rattle.sharing.specs.Marks.{Walkable, FindsRun};
+ghost use Rattle.sharing.specs.Table.{mark};
 ghost use Rattle.sharing.specs.Table as table;
 use crate::PLACES;
 use crate::blocks::BLOCK;
@@ -34,7 +33,7 @@ pub fn first_run<'a>(
 ) -> Row
     requires { ⌜ Walkable (now users) (now sizes) (now store) ⌝ }
     requires { ⌜ 0 < wanted ⌝ }
-    ensures { λ r. ⌜ rowOf r ≡ firstRun wanted (taken 0 (marksFrom (now (users .entry)) (now (sizes .entry))) (table.blocks (now (store .entry)))) ⌝ }
+    ensures { λ r. ⌜ FindsRun (now (users .entry)) (now (sizes .entry)) (now (store .entry)) wanted r ⌝ }
 {
     let blocks = store.len() / BLOCK;
     let mut b = 0;
