@@ -7,24 +7,32 @@ use mathlib.Core.Path.{_≡_, refl, sym, ap, ap₂, _∙_}
 use native.Mathlib.Omega.{arith}
 use borrow.Author.Needs.{needs}
 use borrow.Author.Tests.{not-true, not-false}
-use lib.Dec.{eqb}
+use lib.Dec.{eqb, leb}
+use lib.Seq.{take-at}
 use lib.ListN.{length, getD, set, take, drop, length-append}
 use Rattle.format.specs.Bytes.{same}
-use Rattle.format.specs.Laws.Outcomes.{byTest, false-true}
+use Rattle.format.specs.Canonical.{canonicalNames}
+use Rattle.format.specs.Names.{knownKind}
+use Rattle.format.specs.Outputs as outputs
+use Rattle.format.specs.Outputs.{Writes, writeAnswer, outputAfter}
+use Rattle.format.specs.Reading.{Judged, accepted, refused}
+use Rattle.format.specs.Refusals.{numberOf}
+use Rattle.format.specs.Laws.Outcomes.{byTest, false-true, not-accepted, accepted-is}
 use Rattle.format.specs.declared.Reason.{Reason}
 use Rattle.format.specs.declared.Reason.the-variants.{NoRoom, Damaged}
 use Rattle.format.specs.declared.Refusal.{Refusal}
+use Rattle.format.specs.declared.Written.{Written}
 use Rattle.format.specs.declared.Written.the-variants.{Length, Refused as NotWritten}
 use Rattle.sharing.specs.Arrays.{marksFrom, tableOf}
 use Rattle.sharing.specs.Blocks.{need, extra, scatter, gather, join}
-use Rattle.sharing.specs.Calls.{Seat, Settling, Settles, Joins, OpensNew, OpensWith, notOpened, opened, leadsTo}
+use Rattle.sharing.specs.Calls.{Seat, Settling, Settles, Joins, OpensNew, OpensWith, OpensUnused, openedAs, notOpened, opened, leadsTo}
 use Rattle.sharing.specs.Laws.Blocks.{scatter-length, no-true}
 use Rattle.sharing.specs.Laws.Bytes.{paste-bytes, blocks-length}
 use Rattle.sharing.specs.Laws.Isolation.{not-some}
 use Rattle.sharing.specs.Laws.Walks.{later-some}
 use Rattle.sharing.specs.Marks.{Walkable, RightRows, SizeFits, FindsRow, FindsRun, rowOf}
-use Rattle.sharing.specs.Model.{over, after}
-use Rattle.sharing.specs.Step.{newly, placed, openedIn, leading, joined}
+use Rattle.sharing.specs.Model.{over, after, withWork, withHold}
+use Rattle.sharing.specs.Step.{leaves, newly, placed, openedIn, leading, joined}
 use Rattle.sharing.specs.Table.{Mark, mark, blank, blocks, rowsRight, find, reach, taken, startsFree, firstRun, paste}
 use Rattle.sharing.specs.declared.Opened.{Opened}
 use Rattle.sharing.specs.declared.Table.{Table}
@@ -153,3 +161,51 @@ module _ (t : Table) (s q : List ℕ) {x : Bool} (e : x ≡ rowsRight (marksFrom
     with-stored i p = record { is = λ work. rw (← e, not-false x k, ← f .is, i, p .table, p .answer) refl }
 
 pub ruleset opens-with = (right-rows, find-low, with-damaged, with-new, with-stored, needs)
+
+-- The work buffer
+
+-- what a write that answered with a length, or was refused, says of what was wanted
+pub data Outcome (old new : List ℕ) : Judged (List ℕ) → Written → Type 0 where
+  whole : (q : List ℕ) → leb (length q) (length old) ≡ true → new ≡ over q old → Outcome old new (accepted q) (Length (length q))
+  short : (q : List ℕ) (r : Refusal) → leb (length q) (length old) ≡ false → new ≡ old → numberOf (r .reason) ≡ 13 → r .offset .0 ≡ length q → Outcome old new (accepted q) (NotWritten r)
+  other : (r : Refusal) (n at : ℕ) → new ≡ old → numberOf (r .reason) ≡ n → r .offset .0 ≡ at → Outcome old new (refused n at) (NotWritten r)
+
+pub outcome : {old new : List ℕ} (j : Judged (List ℕ)) (r : Written) → Writes j old new r → Outcome old new j r
+unfolding outputs.fitting writeAnswer outputAfter over
+outcome (refused n at) (Length k) w = absurd (not-accepted (sym (w .says)))
+outcome (refused n at) (NotWritten r) w = let e = w .says in other r n at (w .leaves) (cc) (cc)
+outcome {old} (accepted q) (Length k) w = byTest (leb (length q) (length old))
+    (λ t. let z : k ≡ length q = accepted-is (rw t at (w .says)) in rw z (whole q t (rw t at (w .leaves))))
+    (λ t. absurd (not-accepted (sym (rw t at (w .says)))))
+outcome {old} (accepted q) (NotWritten r) w = byTest (leb (length q) (length old))
+    (λ t. absurd (not-accepted (rw t at (w .says))))
+    (λ t. let e : refused (numberOf (r .reason)) (r .offset .0) ≡ refused 13 (length q) = rw t at (w .says) in short q r t (rw t at (w .leaves)) (cc) (cc))
+
+unused-by : (t : Table) (s : List ℕ) (c h : ℕ) (old new : List ℕ) (j : Judged (List ℕ)) (r : Refusal) → Outcome old new j (NotWritten r) → leaves (tableOf t) s (openedAs (NotWritten r) new) ≡ openedIn (tableOf t) s c old (withWork j (some h) old)
+unfolding withWork openedIn
+unused-by t s c h old new _ _ (short q r l e n a) = rw (l, e, n, a) refl
+unused-by t s c h old new _ _ (other r n at e i a) = rw (e, i, a) refl
+
+written-by : (t : Table) (s : List ℕ) (c h : ℕ) (old new after : List ℕ) (j : Judged (List ℕ)) (n : ℕ) (x : Opened) → Outcome old new j (Length n) → OpensWith t s c h (take n new) after x → leaves (tableOf (x .table)) after (openedAs (x .answer) new) ≡ openedIn (tableOf t) s c old (withWork j (some h) old)
+unfolding withWork withHold over
+written-by t s c h old new after _ n x (whole q l e) o =
+    let f : take (length q) new ≡ q = ap (take (length q)) e ∙ take-at q (drop (length q) old) (length q) refl in
+    rw (l, e) (rw f at (o .is old))
+
+module _ {t : Table} {s : List ℕ} {c h : ℕ} (p old : List ℕ) {new : List ℕ} {r : Written} (w : Writes (canonicalNames knownKind p) old new r) where
+  pub unused-refused : {x : Refusal} → r ≡ NotWritten x → OpensUnused t s c h p old s new (record { table = t; answer = NotWritten x })
+  unused-refused {x} e = record { is = unused-by t s c h old new (canonicalNames knownKind p) x (outcome (canonicalNames knownKind p) (NotWritten x) (rw e at w)) }
+
+  pub unused-written : {n : ℕ} {after : List ℕ} {x : Opened} → r ≡ Length n → OpensWith t s c h (take (n - 0) new) after x → OpensUnused t s c h p old after new x
+  unused-written {n} {after} {x} e o =
+      let z : n - 0 ≡ n = omega arith in
+      record { is = written-by t s c h old new after (canonicalNames knownKind p) n x (outcome (canonicalNames knownKind p) (Length n) (rw e at w)) (rw z at o) }
+
+written-in : {old new : List ℕ} {j : Judged (List ℕ)} (n : ℕ) → Outcome old new j (Length n) → n ≤ length new
+unfolding over
+written-in {old} n (whole q l e) = omega (arith, ap length e, length-append q (drop (length q) old))
+
+pub written-inside : {j : Judged (List ℕ)} {old new : List ℕ} {r : Written} {n : ℕ} → Writes j old new r → r ≡ Length n → n ≤ length new
+written-inside {j} {n = n} w e = written-in n (outcome j (Length n) (rw e at w))
+
+pub ruleset opens-unused = (unused-refused, unused-written, written-inside, needs)

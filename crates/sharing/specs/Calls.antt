@@ -6,6 +6,8 @@ use mathlib.Core.Option.{none, some}
 use mathlib.Core.Path.{_≡_}
 use lib.Dec.{ltb}
 use lib.ListN.{length, getD, set}
+use Rattle.format.specs.Canonical.{canonicalNames}
+use Rattle.format.specs.Names.{knownKind}
 use Rattle.format.specs.Refusals.{numberOf}
 use Rattle.format.specs.declared.Reason.{Reason}
 use Rattle.format.specs.declared.Verdict.{Verdict}
@@ -16,7 +18,7 @@ use Rattle.sharing.specs.Arrays.{tableOf}
 use Rattle.sharing.specs.Blocks.{need, scatter, join}
 use Rattle.sharing.specs.Marks.{SizeFits}
 use Rattle.writing.specs.Wrote.{Wrote}
-use Rattle.sharing.specs.Model.{Answer, refusal, granted, closed, desk, firstTrue, over, go}
+use Rattle.sharing.specs.Model.{Answer, refusal, granted, closed, desk, firstTrue, over, go, withWork}
 use Rattle.sharing.specs.Step.{unused, joined, released, leaves, newly, openedIn}
 use Rattle.sharing.specs.Table.{Mark, mark, blank, Table, table, blocks, taken, firstRun}
 use Rattle.sharing.specs.declared.Closed.{Closed}
@@ -83,3 +85,7 @@ pub record Settles (t : Arrays) (store : List ℕ) (customer hold first : ℕ) (
 pub record Joins (t : Arrays) (customer hold first : ℕ) (r : Opened) : Type 0 where
   pub table : tableOf (r .table) ≡ leadsTo (tableOf t) (customer * 8 + hold) first (joined (getD (tableOf t .marks) first blank))
   pub answer : r .answer ≡ Length hold
+
+-- a payload opened with a hold that is unused
+pub record OpensUnused (t : Arrays) (store : List ℕ) (customer hold : ℕ) (payload work after left : List ℕ) (r : Opened) : Type 0 where
+  pub is : leaves (tableOf (r .table)) after (openedAs (r .answer) left) ≡ openedIn (tableOf t) store customer work (withWork (canonicalNames knownKind payload) (some hold) work)

@@ -1,7 +1,7 @@
 // An open once its payload is canonical: every used block is looked at, and the payload is shared or stored.
 ghost use mathlib.Core.Path.{_≡_};
 ghost use Prim.Native.Nat.{_<_};
-ghost use Rattle.sharing.specs.Calls.{Seat, Settling, Settles, Joins, OpensNew, OpensWith, notOpened, opened};
+ghost use Rattle.sharing.specs.Calls.{Seat, Settling, Settles, Joins, OpensNew, OpensWith, OpensUnused, notOpened, opened};
 ghost use Rattle.sharing.specs.Marks.{Walkable};
 use crate::Opened;
 use crate::Table;
@@ -15,8 +15,10 @@ use crate::rows::find;
 use crate::rows::rows_right;
 use crate::runs::first_run;
 use crate::storing::put_payload;
+use format::Edition;
 use format::Reason;
 use format::Written;
+use rewrite::names;
 
 pub fn not_opened(t: Table, reason: Reason) -> Opened
     ensures { λ r. ⌜ r ≡ notOpened t reason ⌝ }
@@ -81,5 +83,30 @@ pub fn open_with(t: Table, store: &mut [u8], customer: u32, hold: usize, q: &[u8
     match find(&t.users, &t.sizes, &*store, q) {
         Row::Nowhere => store_new(t, store, customer, hold, q),
         Row::At(b) => join(t, customer, hold, b),
+    }
+}
+
+// The canonical form goes to the front of the work buffer, and is opened from there.
+pub fn open_unused(
+    t: Table,
+    store: &mut [u8],
+    customer: u32,
+    hold: usize,
+    payload: &[u8],
+    work: &mut [u8],
+) -> Opened
+    requires { ⌜ Walkable (t .users) (t .sizes) (now store) ⌝ }
+    requires { ⌜ Seat customer hold ⌝ }
+    ensures { λ r. ⌜ OpensUnused t (now (store .entry)) customer hold (now (payload .entry)) (now (work .entry)) (now (store .exit)) (now (work .exit)) r ⌝ }
+{
+    match names(payload, Edition::First, &mut *work) {
+        Written::Refused(r) => Opened {
+            table: t,
+            answer: Written::Refused(r),
+        },
+        Written::Length(n) => {
+            let front = 0;
+            open_with(t, store, customer, hold, &work[front..n])
+        }
     }
 }
