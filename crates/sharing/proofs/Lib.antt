@@ -7,3 +7,4 @@ pub mod StoreLaws
 pub mod HoldLaws
 pub mod CloseLaws
 pub mod OpenLaws
+pub mod UseLaws

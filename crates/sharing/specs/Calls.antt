@@ -10,6 +10,7 @@ use Rattle.format.specs.Canonical.{canonicalNames}
 use Rattle.format.specs.Names.{knownKind}
 use Rattle.format.specs.Refusals.{numberOf}
 use Rattle.format.specs.declared.Reason.{Reason}
+use Rattle.format.specs.declared.Refusal.{Refusal}
 use Rattle.format.specs.declared.Verdict.{Verdict}
 use Rattle.format.specs.declared.Verdict.the-variants.{Accepted, Refused}
 use Rattle.format.specs.declared.Written.{Written}
@@ -18,7 +19,7 @@ use Rattle.sharing.specs.Arrays.{tableOf}
 use Rattle.sharing.specs.Blocks.{need, scatter, join}
 use Rattle.sharing.specs.Marks.{SizeFits}
 use Rattle.writing.specs.Wrote.{Wrote}
-use Rattle.sharing.specs.Model.{Answer, refusal, granted, closed, desk, firstTrue, over, go, withWork}
+use Rattle.sharing.specs.Model.{Answer, refusal, granted, closed, desk, firstTrue, over, stop, go, withWork}
 use Rattle.sharing.specs.Step.{unused, joined, released, leaves, newly, openedIn}
 use Rattle.sharing.specs.Table.{Mark, mark, blank, Table, table, blocks, taken, firstRun}
 use Rattle.sharing.specs.declared.Closed.{Closed}
@@ -89,3 +90,7 @@ pub record Joins (t : Arrays) (customer hold first : ℕ) (r : Opened) : Type 0 
 -- a payload opened with a hold that is unused
 pub record OpensUnused (t : Arrays) (store : List ℕ) (customer hold : ℕ) (payload work after left : List ℕ) (r : Opened) : Type 0 where
   pub is : leaves (tableOf (r .table)) after (openedAs (r .answer) left) ≡ openedIn (tableOf t) store customer work (withWork (canonicalNames knownKind payload) (some hold) work)
+
+-- the refusal of a payload where no hold is unused, for a work buffer of a length
+pub record InUse (payload : List ℕ) (room : ℕ) (r : Refusal) : Type 0 where
+  pub is : (work : List ℕ) → length work ≡ room → withWork (canonicalNames knownKind payload) none work ≡ stop (numberOf (r .reason)) (r .offset .0)

@@ -1,7 +1,7 @@
 // An open once its payload is canonical: every used block is looked at, and the payload is shared or stored.
 ghost use mathlib.Core.Path.{_≡_};
 ghost use Prim.Native.Nat.{_<_};
-ghost use Rattle.sharing.specs.Calls.{Seat, Settling, Settles, Joins, OpensNew, OpensWith, OpensUnused, notOpened, opened};
+ghost use Rattle.sharing.specs.Calls.{Seat, Settling, Settles, Joins, OpensNew, OpensWith, OpensUnused, InUse, notOpened, opened};
 ghost use Rattle.sharing.specs.Marks.{Walkable};
 use crate::Opened;
 use crate::Table;
@@ -17,7 +17,11 @@ use crate::runs::first_run;
 use crate::storing::put_payload;
 use format::Edition;
 use format::Reason;
+use format::Refusal;
+use format::Verdict;
 use format::Written;
+use format::refusal_of;
+use names::judging::judge;
 use rewrite::names;
 
 pub fn not_opened(t: Table, reason: Reason) -> Opened
@@ -107,6 +111,27 @@ pub fn open_unused(
         Written::Length(n) => {
             let front = 0;
             open_with(t, store, customer, hold, &work[front..n])
+        }
+    }
+}
+
+// Why a payload is not opened where all holds are in use: its own refusals and 13 come first. Nothing is written: the canonical form is measured against an output that takes nothing.
+pub fn all_in_use(payload: &[u8], room: usize) -> Refusal
+    ensures { λ r. ⌜ InUse (now (payload .entry)) room r ⌝ }
+{
+    let verdict = judge(payload, Edition::First);
+    let Verdict::Accepted = verdict else {
+        return refusal_of(verdict);
+    };
+    let mut nothing = [0u8; 0];
+    match names(payload, Edition::First, &mut nothing) {
+        Written::Length(_) => refuse(Reason::HoldsInUse),
+        Written::Refused(r) => {
+            let needed = r.offset;
+            if room < needed.0 {
+                return r;
+            }
+            refuse(Reason::HoldsInUse)
         }
     }
 }
