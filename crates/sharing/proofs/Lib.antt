@@ -8,3 +8,4 @@ pub mod HoldLaws
 pub mod CloseLaws
 pub mod OpenLaws
 pub mod UseLaws
+pub mod WholeLaws

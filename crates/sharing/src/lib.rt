@@ -8,11 +8,15 @@ mod storing;
 
 ghost use mathlib.Core.Path.{_≡_};
 ghost use Rattle.sharing.specs.Calls.{notClosed};
-ghost use Rattle.sharing.specs.Promises.{sharing-start, sharing-close};
+ghost use Rattle.sharing.specs.Promises.{sharing-start, sharing-open, sharing-close};
 use crate::holds::HOLDS;
 use crate::holds::entry;
 use crate::holds::fits;
+use crate::holds::lowest;
 use crate::holds::release;
+use crate::opening::all_in_use;
+use crate::opening::not_opened;
+use crate::opening::open_unused;
 use format::Offset;
 use format::Reason;
 use format::Refusal;
@@ -73,6 +77,26 @@ fn not_closed(t: Table, reason: Reason) -> Closed
     Closed {
         table: t,
         verdict: Verdict::Refused(refuse(reason)),
+    }
+}
+
+// A customer opens a payload and gets their lowest unused hold.
+pub fn open(t: Table, store: &mut [u8], customer: u32, payload: &[u8], work: &mut [u8]) -> Opened
+    ensures { λ r. ⌜ sharing-open t (now (store .entry)) customer (now (payload .entry)) (now (work .entry)) (now (store .exit)) (now (work .exit)) r ⌝ }
+{
+    if !fits(t.bytes, store.len()) {
+        return not_opened(t, Reason::NotTheStore);
+    }
+    if CUSTOMERS <= customer {
+        return not_opened(t, Reason::NoCustomer);
+    }
+    let hold = lowest(&t.holds, customer);
+    if hold < HOLDS {
+        return open_unused(t, store, customer, hold, payload, work);
+    }
+    Opened {
+        table: t,
+        answer: Written::Refused(all_in_use(payload, work.len())),
     }
 }
 
