@@ -93,7 +93,7 @@ pub ruleset holds = (held-none, held-piece, held-end, held-more, held-wrong, hel
 
 -- Row by row
 
-right-there : (k : ℕ) (bs : List (List ℕ)) → allRight k bs ≡ true → k ≤ length bs
+pub right-there : (k : ℕ) (bs : List (List ℕ)) → allRight k bs ≡ true → k ≤ length bs
 unfolding allRight
 right-there zero bs e = omega arith
 right-there (suc k) [] e = false-true e

@@ -47,7 +47,7 @@ pub ruleset fits-tests = (fits-other, fits-uneven, fits-none, fits-told, needs)
 
 -- A hold
 
-out-of : (l : List ℕ) (i : ℕ) → length l ≤ i → getD l i 0 ≡ 0
+pub out-of : (l : List ℕ) (i : ℕ) → length l ≤ i → getD l i 0 ≡ 0
 out-of [] i h = refl
 out-of (x ∷ l) zero h = absurd (omega arith)
 out-of (x ∷ l) (suc i) h = out-of l i (omega arith)

@@ -9,3 +9,4 @@ pub mod CloseLaws
 pub mod OpenLaws
 pub mod UseLaws
 pub mod WholeLaws
+pub mod AskLaws

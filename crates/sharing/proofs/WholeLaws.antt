@@ -25,6 +25,13 @@ use Rattle.sharing.specs.declared.Table.{Table}
 pub sits : {c h : ℕ} → c < 16 → h < 8 → Seat c h
 sits k l = record { there = k; low = l }
 
+pub walks-few : (bytes : ℕ) (s : List ℕ) → lengthFits bytes (length s) ≡ true → length s ≤ 65536
+unfolding lengthFits
+walks-few bytes s e =
+    onBoth (eqb (length s) bytes) _ e λ _ x.
+    onBoth (eqb (length s % 512) 0) _ x λ _ y.
+    onBoth (ltb 0 (length s)) (leb (length s) 65536) y λ _ l. leb-true (length s) 65536 l
+
 pub walks-over : {us ns s : List ℕ} (bytes : ℕ) {b : Bool} → length us ≡ 128 → length ns ≡ 128 → b ≡ lengthFits bytes (length s) → not b ≡ false → Walkable us ns s
 unfolding lengthFits
 walks-over {s = s} bytes {b} u n f g =

@@ -5,26 +5,30 @@ use mathlib.Core.List.{List, [], map}
 use mathlib.Core.Option.{none, some}
 use mathlib.Core.Path.{_≡_}
 use lib.Dec.{ltb}
-use lib.ListN.{length, getD, set}
+use lib.ListN.{length, getD, set, drop}
 use Rattle.format.specs.Canonical.{canonicalNames}
 use Rattle.format.specs.Names.{knownKind}
 use Rattle.format.specs.Refusals.{numberOf}
 use Rattle.format.specs.declared.Reason.{Reason}
+use Rattle.format.specs.declared.Reason.the-variants.{Damaged}
 use Rattle.format.specs.declared.Refusal.{Refusal}
 use Rattle.format.specs.declared.Verdict.{Verdict}
 use Rattle.format.specs.declared.Verdict.the-variants.{Accepted, Refused}
 use Rattle.format.specs.declared.Written.{Written}
 use Rattle.format.specs.declared.Written.the-variants.{Length, Refused as NotWritten}
 use Rattle.sharing.specs.Arrays.{tableOf}
-use Rattle.sharing.specs.Blocks.{need, scatter, join}
+use Rattle.sharing.specs.Blocks.{need, scatter, join, gather, allRight}
 use Rattle.sharing.specs.Marks.{SizeFits}
 use Rattle.writing.specs.Wrote.{Wrote}
-use Rattle.sharing.specs.Model.{Answer, refusal, granted, closed, desk, firstTrue, over, stop, go, withWork}
-use Rattle.sharing.specs.Step.{unused, joined, released, leaves, newly, openedIn}
+use Rattle.sharing.specs.Model.{Answer, refusal, granted, nothing, found, closed, replied, desk, firstTrue, over, stop, go, withWork}
+use Rattle.sharing.specs.Step.{judged, unused, joined, released, leaves, newly, openedIn}
 use Rattle.sharing.specs.Table.{Mark, mark, blank, Table, table, blocks, taken, firstRun}
 use Rattle.sharing.specs.declared.Closed.{Closed}
 use Rattle.sharing.specs.declared.Opened.{Opened}
 use Rattle.sharing.specs.declared.Table.{Table as Arrays}
+use Rattle.sharing.specs.declared.Told.{Told}
+use Rattle.sharing.specs.declared.Told.the-variants.{None, Length as Copied, Refused as NotTold}
+use Rattle.sharing.specs.Named.{names}
 
 -- the customer's lowest unused hold, or 8
 pub record LowestUnused (holds : List ℕ) (customer hold : ℕ) : Type 0 where
@@ -94,3 +98,24 @@ pub record OpensUnused (t : Arrays) (store : List ℕ) (customer hold : ℕ) (pa
 -- the refusal of a payload where no hold is unused, for a work buffer of a length
 pub record InUse (payload : List ℕ) (room : ℕ) (r : Refusal) : Type 0 where
   pub is : (work : List ℕ) → length work ≡ room → withWork (canonicalNames knownKind payload) none work ≡ stop (numberOf (r .reason)) (r .offset .0)
+
+-- Questions
+
+abbrev pub askedAs : Told → List ℕ → Answer
+askedAs None out = nothing out
+askedAs (Copied size) out = found size out
+askedAs (NotTold r) out = refusal (numberOf (r .reason)) (r .offset .0) out
+
+-- a name is copied to the output, if it has room
+pub record Copies (name old new : List ℕ) (r : Told) : Type 0 where
+  pub is : askedAs r new ≡ replied (some name) old
+
+-- a payload answers
+pub record Replies (payload : List ℕ) (index : ℕ) (old new : List ℕ) (r : Told) : Type 0 where
+  pub is : (t : Table) (store : List ℕ) (customer : ℕ) → askedAs r new ≡ judged t store customer names (canonicalNames knownKind payload) payload index old
+
+-- the payload of a size whose first block is this answers, if its blocks are right
+pub record RepliesAt (store : List ℕ) (first size index : ℕ) (old new : List ℕ) (r : Told) : Type 0 where
+  pub is : (t : Table) (customer : ℕ) → askedAs r new ≡ cond (allRight (need size) (drop first (blocks store)))
+      (judged t store customer names (canonicalNames knownKind (gather size (drop first (blocks store)))) (gather size (drop first (blocks store))) index old)
+      (refusal (numberOf Damaged) 0 old)

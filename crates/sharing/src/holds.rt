@@ -10,6 +10,7 @@ ghost use Rattle.sharing.specs.Model.{desk};
 use crate::PLACES;
 use crate::Table;
 use crate::blocks::BLOCK;
+use crate::blocks::as_size;
 
 // The holds of a customer.
 pub const HOLDS: usize = 8;
@@ -107,4 +108,14 @@ pub fn release(t: Table, at: usize, b: usize) -> Table
         next.users[b] = users - 1;
     }
     next
+}
+
+// The size of the row at a block: 0 where there is none, and where the table ends.
+pub fn size_at(t: Table, b: usize) -> usize
+    ensures { λ r. ⌜ r ≡ getD (tableOf t .marks) b blank .size ⌝ }
+{
+    if PLACES <= b {
+        return 0;
+    }
+    as_size(t.sizes[b])
 }

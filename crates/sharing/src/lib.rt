@@ -1,4 +1,5 @@
 // K12: payloads that customers share, in a store of blocks that the caller lends at each call. The table is the caller's too and goes by value: a table goes in, and the table behind the call comes out.
+mod asking;
 mod blocks;
 mod holds;
 mod opening;
@@ -8,12 +9,14 @@ mod storing;
 
 ghost use mathlib.Core.Path.{_≡_};
 ghost use Rattle.sharing.specs.Calls.{notClosed};
-ghost use Rattle.sharing.specs.Promises.{sharing-start, sharing-open, sharing-close};
+ghost use Rattle.sharing.specs.Promises.{sharing-start, sharing-open, sharing-ask, sharing-close};
+use crate::asking::reply_at;
 use crate::holds::HOLDS;
 use crate::holds::entry;
 use crate::holds::fits;
 use crate::holds::lowest;
 use crate::holds::release;
+use crate::holds::size_at;
 use crate::opening::all_in_use;
 use crate::opening::not_opened;
 use crate::opening::open_unused;
@@ -53,6 +56,13 @@ pub fn start(bytes: u64) -> Table
 pub struct Opened {
     pub table: Table,
     pub answer: Written,
+}
+
+// The answer to a question: how long the name is that was copied.
+pub enum Told {
+    None,
+    Length(usize),
+    Refused(Refusal),
 }
 
 // What a close leaves, and its verdict.
@@ -98,6 +108,24 @@ pub fn open(t: Table, store: &mut [u8], customer: u32, payload: &[u8], work: &mu
         table: t,
         answer: Written::Refused(all_in_use(payload, work.len())),
     }
+}
+
+// A customer asks a function name through a hold.
+pub fn ask(t: Table, store: &[u8], customer: u32, hold: u32, function: u32, out: &mut [u8]) -> Told
+    ensures { λ r. ⌜ sharing-ask t (now (store .entry)) customer hold function (now (out .entry)) (now (out .exit)) r ⌝ }
+{
+    if !fits(t.bytes, store.len()) {
+        return Told::Refused(refuse(Reason::NotTheStore));
+    }
+    if CUSTOMERS <= customer {
+        return Told::Refused(refuse(Reason::NoCustomer));
+    }
+    let stands = entry(&t.holds, customer, hold);
+    if stands == 0 {
+        return Told::Refused(refuse(Reason::NotOpen));
+    }
+    let first = stands as usize - 1;
+    reply_at(store, first, size_at(t, first), function, out)
 }
 
 // A customer closes a hold. The store is needed for its length alone.

@@ -41,7 +41,7 @@ fn put_zeros(out: &mut [u8], at: usize, end: usize)
 }
 
 // So many bytes of what is lent, from one on.
-fn put_part(out: &mut [u8], at: usize, s: &[u8], from: usize, count: usize) -> usize
+pub fn put_part(out: &mut [u8], at: usize, s: &[u8], from: usize, count: usize) -> usize
     requires { ⌜ at + count ≤ length (now out) ⌝ }
     requires { ⌜ from + count ≤ length (now s) ⌝ }
     ensures { λ r. ⌜ Wrote (now (out .entry)) (now (out .exit)) at r (take count (drop from (now (s .entry)))) ⌝ }
