@@ -22,6 +22,7 @@ pub mod Markers
 pub mod Pairs
 pub mod Joining
 pub mod Stream
+pub mod Forms
 pub mod Sharing
 pub mod Wakemiono
 pub mod Saying

@@ -13,7 +13,7 @@ use Rattle.format.specs.declared.Refusal.{Refusal}
 use Rattle.format.specs.declared.Reason.{Reason}
 use Rattle.format.specs.declared.Reason.the-variants.{NoCustomer, NotOpen, NotTheStore}
 use Rattle.format.specs.declared.Verdict.the-variants.{Accepted, Refused}
-use Rattle.sharing.specs.Arrays.{tableOf}
+use Rattle.sharing.specs.Arrays.{tableOf, Full}
 use Rattle.sharing.specs.Calls.{releases, closedAs, notClosed}
 use Rattle.sharing.specs.Model.{desk, closing, closed}
 use Rattle.sharing.specs.Named.{names}
@@ -22,6 +22,7 @@ use Rattle.sharing.specs.Step.{leaves, step, fitting, closedAt, lent}
 use Rattle.sharing.specs.Table.{Table, lengthFits}
 use Rattle.sharing.specs.declared.Closed.{Closed}
 use Rattle.sharing.specs.declared.Table.{Table as Arrays}
+use Rattle.sharing.specs.Laws.Arrays.{filled}
 use Rattle.sharing.proofs.HoldLaws.{entry-above}
 
 pub not-closed : (t : Arrays) (why : Reason) {x : Refusal} → x ≡ record { reason = why; offset = record { 0 = 0 } } → record { table = t; verdict = Refused x } ≡ notClosed t why
@@ -41,22 +42,22 @@ unfolding closedAt
 closes-to t s c h e b i = rw i refl
 
 module _ (t : Arrays) (s : List ℕ) (c h : ℕ) {b : Bool} (f : b ≡ lengthFits (t .bytes) (length s)) where
-  pub close-store : {r : Closed} → not b ≡ true → r ≡ notClosed t NotTheStore → sharing-close t s c h r
+  pub close-store : {r : Closed} → not b ≡ true → r ≡ notClosed t NotTheStore → Full t → sharing-close t s c h r
   unfolding step lent
-  close-store k e = rw (e, ← f, not-true b k) refl
+  close-store k e w = (rw (e, ← f, not-true b k) refl, rw e w)
 
   module _ (g : not b ≡ false) where
-    pub close-nobody : {r : Closed} → 16 ≤ c → r ≡ notClosed t NoCustomer → sharing-close t s c h r
+    pub close-nobody : {r : Closed} → 16 ≤ c → r ≡ notClosed t NoCustomer → Full t → sharing-close t s c h r
     unfolding step fitting
-    close-nobody k e = rw (e, ← f, not-false b g, le-ltb c 16 k) refl
+    close-nobody k e w = (rw (e, ← f, not-false b g, le-ltb c 16 k) refl, rw e w)
 
     module _ {x : ℕ} (l : c < 16) (i : x ≡ getD (desk c (t .holds)) h 0) where
-      pub close-shut : {r : Closed} → x ≡ 0 → r ≡ notClosed t NotOpen → sharing-close t s c h r
+      pub close-shut : {r : Closed} → x ≡ 0 → r ≡ notClosed t NotOpen → Full t → sharing-close t s c h r
       unfolding step fitting closedAt
-      close-shut z e = rw (e, ← f, not-false b g, lt-ltb c 16 l, ← i, z) refl
+      close-shut z e w = (rw (e, ← f, not-false b g, lt-ltb c 16 l, ← i, z) refl, rw e w)
 
-      pub close-done : (u : Arrays) → (x ≡ 0 → ⊥) → tableOf u ≡ releases (tableOf t) (c * 8 + h) (x - 1) → sharing-close t s c h (record { table = u; verdict = Accepted })
+      pub close-done : (u : Arrays) → (x ≡ 0 → ⊥) → tableOf u ≡ releases (tableOf t) (c * 8 + h) (x - 1) → Full u → sharing-close t s c h (record { table = u; verdict = Accepted })
       unfolding step fitting
-      close-done u n e = rw (e, ← f, not-false b g, lt-ltb c 16 l, ← i) (closes-to (tableOf t) s c h x (x - 1) (omega arith))
+      close-done u n e w = (rw (e, ← f, not-false b g, lt-ltb c 16 l, ← i) (closes-to (tableOf t) s c h x (x - 1) (omega arith)), w)
 
-pub ruleset closes = (open-place, close-store, close-nobody, close-shut, close-done, needs)
+pub ruleset closes = (filled, open-place, close-store, close-nobody, close-shut, close-done, needs)

@@ -21,3 +21,4 @@ pub mod Frames
 pub mod Arrays
 pub mod Bytes
 pub mod Runs
+pub mod Same

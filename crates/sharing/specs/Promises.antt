@@ -2,7 +2,7 @@
 use Prim.Native.Nat.{ℕ}
 use mathlib.Core.List.{List}
 use mathlib.Core.Path.{_≡_}
-use Rattle.sharing.specs.Arrays.{tableOf}
+use Rattle.sharing.specs.Arrays.{tableOf, Full}
 use Rattle.sharing.specs.Calls.{openedAs, askedAs, closedAs}
 use Rattle.sharing.specs.Model.{opening, asking, closing}
 use Rattle.sharing.specs.Named.{names}
@@ -15,15 +15,15 @@ use Rattle.sharing.specs.declared.Table.{Table}
 
 -- sharing
 abbrev pub sharing-start : (bytes : ℕ) → Table → Type 0
-sharing-start bytes r = tableOf r ≡ started bytes
+sharing-start bytes r = (tableOf r ≡ started bytes) × Full r
 
 -- the answer, and what table, store and work buffer are after the call, are what the step says
 abbrev pub sharing-open : (t : Table) (store : List ℕ) (customer : ℕ) (payload work : List ℕ) → (after left : List ℕ) → Opened → Type 0
-sharing-open t store customer payload work after left r = leaves (tableOf (r .table)) after (openedAs (r .answer) left) ≡ step names (tableOf t) store (opening customer payload work)
+sharing-open t store customer payload work after left r = (leaves (tableOf (r .table)) after (openedAs (r .answer) left) ≡ step names (tableOf t) store (opening customer payload work)) × Full (r .table)
 
 -- a question leaves table and store as they were
 abbrev pub sharing-ask : (t : Table) (store : List ℕ) (customer hold function : ℕ) (out : List ℕ) → (left : List ℕ) → Told → Type 0
 sharing-ask t store customer hold function out left r = leaves (tableOf t) store (askedAs r left) ≡ step names (tableOf t) store (asking customer hold function out)
 
 abbrev pub sharing-close : (t : Table) (store : List ℕ) (customer hold : ℕ) → Closed → Type 0
-sharing-close t store customer hold r = leaves (tableOf (r .table)) store (closedAs (r .verdict)) ≡ step names (tableOf t) store (closing customer hold)
+sharing-close t store customer hold r = (leaves (tableOf (r .table)) store (closedAs (r .verdict)) ≡ step names (tableOf t) store (closing customer hold)) × Full (r .table)

@@ -1,28 +1,40 @@
--- What the promises of the crate `sharing` determine: the table by its definition, the answer, and what is left of the lent buffers.
+-- Each promise of the crate `sharing` determines what comes back: the table, the answer, and what is left of the lent buffers.
 use Prim.Native.Nat.{ℕ}
 use mathlib.Core.List.{List}
-use mathlib.Core.Path.{_≡_, sym, _∙_}
-use Rattle.sharing.specs.Arrays.{tableOf}
-use Rattle.sharing.specs.Calls.{openedAs, askedAs, closedAs}
-use Rattle.sharing.specs.Step.{leaves}
+use mathlib.Core.Path.{_≡_, sym, ap, _∙_}
+use Rattle.format.specs.Determined.{Determines1, Determines4, DeterminesBoth6}
+use Rattle.sharing.specs.Laws.Same.{same-table, same-opened, same-told, same-closed}
 use Rattle.sharing.specs.Promises.{sharing-start, sharing-open, sharing-ask, sharing-close}
+use Rattle.sharing.specs.Step.{After}
 use Rattle.sharing.specs.declared.Closed.{Closed}
 use Rattle.sharing.specs.declared.Opened.{Opened}
 use Rattle.sharing.specs.declared.Table.{Table}
 use Rattle.sharing.specs.declared.Told.{Told}
+use Rattle.promises.specs.Determined.Forms.{DeterminesThree5}
 
 pub record Sharing : Type 0 where
   -- sharing
-  start-determined : (bytes : ℕ) (a b : Table) → sharing-start bytes a → sharing-start bytes b → tableOf a ≡ tableOf b
-  open-determined : (t : Table) (store : List ℕ) (customer : ℕ) (payload work after left after′ left′ : List ℕ) (a b : Opened) → sharing-open t store customer payload work after left a → sharing-open t store customer payload work after′ left′ b → leaves (tableOf (a .table)) after (openedAs (a .answer) left) ≡ leaves (tableOf (b .table)) after′ (openedAs (b .answer) left′)
-  ask-determined : (t : Table) (store : List ℕ) (customer hold function : ℕ) (out left left′ : List ℕ) (a b : Told) → sharing-ask t store customer hold function out left a → sharing-ask t store customer hold function out left′ b → leaves (tableOf t) store (askedAs a left) ≡ leaves (tableOf t) store (askedAs b left′)
-  close-determined : (t : Table) (store : List ℕ) (customer hold : ℕ) (a b : Closed) → sharing-close t store customer hold a → sharing-close t store customer hold b → leaves (tableOf (a .table)) store (closedAs (a .verdict)) ≡ leaves (tableOf (b .table)) store (closedAs (b .verdict))
+  sharing-start : Determines1 sharing-start
+  sharing-open : DeterminesThree5 sharing-open
+  sharing-ask : DeterminesBoth6 sharing-ask
+  sharing-close : Determines4 sharing-close
 
 pub determined : Sharing
 determined =
     record {
-      start-determined = λ bytes a b p q. p ∙ sym q;
-      open-determined = λ t store customer payload work after left after′ left′ a b p q. p ∙ sym q;
-      ask-determined = λ t store customer hold function out left left′ a b p q. p ∙ sym q;
-      close-determined = λ t store customer hold a b p q. p ∙ sym q;
+      sharing-start = λ bytes a b p q. same-table a b (p .1) (q .1) (p .0 ∙ sym (q .0));
+      sharing-open = λ t store customer payload work a b p q.
+          let e = p .0 ∙ sym (q .0) in
+          let table = same-table (a .0 .table) (b .0 .table) (p .1) (q .1) (ap (λ (x : After). x .table) e) in
+          let told = same-opened (a .0 .answer) (b .0 .answer) (a .2) (b .2) (ap (λ (x : After). x .answer) e) in
+          let left = ap (λ (x : After). x .store) e in
+          λ i. (record { table = table i; answer = told .0 i }, left i, told .1 i);
+      sharing-ask = λ t store customer hold function out a b p q.
+          let told = same-told (a .0) (b .0) (a .1) (b .1) (ap (λ (x : After). x .answer) (p ∙ sym q)) in
+          λ i. (told .0 i, told .1 i);
+      sharing-close = λ t store customer hold a b p q.
+          let e = p .0 ∙ sym (q .0) in
+          let table = same-table (a .table) (b .table) (p .1) (q .1) (ap (λ (x : After). x .table) e) in
+          let told = same-closed (a .verdict) (b .verdict) (ap (λ (x : After). x .answer) e) in
+          λ i. record { table = table i; verdict = told i };
     }

@@ -3,9 +3,11 @@ use Prim.Native.Nat.{ℕ, zero, suc, _<_}
 use mathlib.Core.Path.{_≡_, refl, ap, _∙_}
 use mathlib.Core.List.{List, [], _∷_}
 use native.Mathlib.Omega.{arith}
-use lib.ListN.{length, getD, set, drop, replicate}
+use lib.ListN.{length, getD, set, drop, replicate, length-replicate}
 use lib.Seq.{drop-cons}
-use Rattle.sharing.specs.Arrays.{marksFrom}
+use Rattle.sharing.specs.Arrays.{marksFrom, tableOf, Full}
+use Rattle.sharing.specs.Promises.{sharing-start}
+use Rattle.sharing.specs.declared.Table.{Table as Arrays}
 use Rattle.sharing.specs.Table.{Mark, mark, blank, Table, table, started}
 
 -- one mark is one store to each array
@@ -34,9 +36,12 @@ none-marked zero = refl
 none-marked (suc n) = ap (λ (l : List Mark). blank ∷ l) (none-marked n)
 
 -- arrays of zeros are the table at the start
-pub zeros-start : (bytes : ℕ) → table bytes (replicate 128 0) (marksFrom (replicate 128 0) (replicate 128 0)) ≡ started bytes
+pub zeros-start : (bytes : ℕ) → sharing-start bytes (record { holds = replicate 128 0; users = replicate 128 0; sizes = replicate 128 0; bytes = bytes })
 unfolding started
-zeros-start bytes = ap (table bytes (replicate 128 0)) (none-marked 128)
+zeros-start bytes = (ap (table bytes (replicate 128 0)) (none-marked 128), record { users = length-replicate {A = ℕ} 128 0; sizes = length-replicate {A = ℕ} 128 0 })
+
+pub filled : {t : Arrays} → length (t .users) ≡ 128 → length (t .sizes) ≡ 128 → Full t
+filled u n = record { users = u; sizes = n }
 
 pub marks-length : (us ns : List ℕ) → length us ≡ length ns → length (marksFrom us ns) ≡ length us
 unfolding marksFrom
