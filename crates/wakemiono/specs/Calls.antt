@@ -1,6 +1,6 @@
 -- THE PROMISES OF THE C CALLS, each by the name of its call. They stand in the `ensures` of the calls in src/lib.rt and nowhere else: what is shown of these names is shown of the calls. A promise relates what is lent to the answer, and of a call that writes also the output before and after. Assumes nothing.
 use Prim.Native.Nat.{ℕ}
-use mathlib.Core.List.{List}
+use mathlib.Core.List.{List, []}
 use mathlib.Core.Path.{_≡_}
 use lib.ListN.{length}
 use Rattle.format.specs.Canonical.{canonicalNames, canonicalMetadata, canonicalHints}
@@ -23,7 +23,12 @@ use Rattle.walk.specs.Surveys.{sectionPlace}
 use Rattle.stream.specs.Fields.{held}
 use Rattle.stream.specs.Stream.{begin}
 use Rattle.stream.specs.declared.Stream.{Stream}
+use Rattle.sharing.specs.Arrays.{tableOf}
+use Rattle.sharing.specs.Model.{opening, asking, closing}
+use Rattle.sharing.specs.Promises.{sharing-start}
+use Rattle.sharing.specs.declared.Table.{Table}
 use Rattle.wakemiono.specs.Arriving.{turnedBy, overBy}
+use Rattle.wakemiono.specs.Shared.{Shares, WmShares}
 use Rattle.branches.specs.Branches.{hintsOnBranches}
 use Rattle.wakemiono.specs.Boundary.{wmCount, wmSection, wmPlace, wmJudged, wmHint, wmYes, WmWrites, WmMakes}
 use Rattle.wakemiono.specs.Pairs.{wmPair, WmJoins}
@@ -166,3 +171,16 @@ wm-stream-finish before after a = (after ≡ overBy before .state) × (a ≡ ove
 -- K6: every hint sits on br_if or if
 abbrev pub wm-hints-on-branches : List ℕ → WmAnswer → Type 0
 wm-hints-on-branches bytes a = a ≡ wmJudged (length bytes) (hintsOnBranches bytes)
+
+-- K12: the calls on the shared table. A question leaves table and store as they were, and a close the store
+abbrev pub wm-table-start : (bytes : ℕ) → Table → Type 0
+wm-table-start bytes r = sharing-start bytes r
+
+abbrev pub wm-table-open : (t : Table) (store : List ℕ) (customer : ℕ) (payload work : List ℕ) → (after : Table) (left work′ : List ℕ) → WmAnswer → Type 0
+wm-table-open t store customer payload work after left work′ a = WmShares t store (opening customer payload work) after left work′ a
+
+abbrev pub wm-table-function-name : (t : Table) (store : List ℕ) (customer hold function : ℕ) (out : List ℕ) → (out′ : List ℕ) → WmAnswer → Type 0
+wm-table-function-name t store customer hold function out out′ a = Shares (tableOf t) store (asking customer hold function out) (tableOf t) store out′ a
+
+abbrev pub wm-table-close : (t : Table) (store : List ℕ) (customer hold : ℕ) → (after : Table) → WmAnswer → Type 0
+wm-table-close t store customer hold after a = WmShares t store (closing customer hold) after store [] a
