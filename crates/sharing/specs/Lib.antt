@@ -11,4 +11,5 @@ pub mod Words
 pub mod Calls
 pub mod Promises
 pub mod Examples
+pub mod TableCases
 pub mod Laws
