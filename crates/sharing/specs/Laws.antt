@@ -15,6 +15,11 @@ pub mod Users
 pub mod Ledger
 pub mod AllCalls
 pub mod NeverDamaged
+pub mod Doing
+pub mod Events
+pub mod Alone
+pub mod Shown
+pub mod Stored
 pub mod Room
 pub mod Refusals
 pub mod Frames

@@ -4,6 +4,7 @@ pub mod Table
 pub mod Tidy
 pub mod Step
 pub mod Histories
+pub mod Events
 pub mod Named
 pub mod Arrays
 pub mod Marks

@@ -51,7 +51,7 @@ reach P (call ∷ calls) t s m st =
       stands = y .stands;
     }
 
-no-users : (p : List ℕ) (n : ℕ) → usersOf p (replicate n none) ≡ 0
+pub no-users : (p : List ℕ) (n : ℕ) → usersOf p (replicate n none) ≡ 0
 unfolding usersOf has
 no-users p zero = refl
 no-users p (suc n) = omega (arith, no-users p n)

@@ -117,13 +117,13 @@ module _ (P : Payloads) (t : Table) (s : List ℕ) (m : Model) (c : ℕ) (st : S
 
   -- Asking
 
-  mark-at : {b u : ℕ} {p : List ℕ} (a : At b p u (st .shelf)) → getD (t .marks) b blank ≡ mark (suc u) (length p)
+  pub mark-at : {b u : ℕ} {p : List ℕ} (a : At b p u (st .shelf)) → getD (t .marks) b blank ≡ mark (suc u) (length p)
   mark-at {b} {u} {p} a =
       let r = at-stood a in
       rw (r .place) (ap (λ (l : List Mark). getD l (size (r .before)) blank) (st .laid .marks ∙ ap (λ (x : Shelf). spread marksOf x ++ st .laid .tail) (r .whole) ∙ marks-there (r .before) (r .after) p u (st .laid .tail))
       ∙ marks-get (r .before) (mark (suc u) (length p)) blank _)
 
-  blocks-at : {b u : ℕ} {p : List ℕ} (a : At b p u (st .shelf)) → drop b (blocks s) ≡ scatter p ++ spread blocksOf (at-stood a .after)
+  pub blocks-at : {b u : ℕ} {p : List ℕ} (a : At b p u (st .shelf)) → drop b (blocks s) ≡ scatter p ++ spread blocksOf (at-stood a .after)
   blocks-at {b} {u} {p} a =
       let r = at-stood a in
       ap₂ drop (r .place) (blocks-are (st .laid) ∙ ap (spread blocksOf) (r .whole)) ∙ blocks-from (r .before) (row p u ∷ []) (r .after) ∙ ap (λ (l : List (List ℕ)). l ++ spread blocksOf (r .after)) (append-nil (scatter p))

@@ -85,7 +85,7 @@ front-go P c free payload work e = byTest (ltb c 16)
     (λ t. let r = withWork-go (P .canonical payload) free work (rw t at e) in record { someone = ltb-true c 16 t; taken = r .0; unused = r .1 })
     (λ t. absurd (not-go (rw t at e)))
 
-map-length : (own : List Entry) → length (map vacant own) ≡ length own
+pub map-length : (own : List Entry) → length (map vacant own) ≡ length own
 map-length [] = refl
 map-length (x ∷ own) = ap suc (map-length own)
 
@@ -95,7 +95,7 @@ opened-in-desk room work (stop n at) b = kept
 opened-in-desk true work (go q h) b = within (b q h refl)
 opened-in-desk false work (go q h) b = kept
 
-getD-in : (l : List Entry) (h : ℕ) (p : List ℕ) → getD l h none ≡ some p → h < length l
+pub getD-in : (l : List Entry) (h : ℕ) (p : List ℕ) → getD l h none ≡ some p → h < length l
 getD-in [] h p e = absurd (not-some e)
 getD-in (x ∷ l) zero p e = omega arith
 getD-in (x ∷ l) (suc h) p e = omega (arith, getD-in l h p e)
@@ -134,7 +134,7 @@ unfoldable pub heard : Payloads → ℕ → Model → List Turn → List Answer
 heard P c m [] = []
 heard P c m (t ∷ ts) = cond (owns c (t .call)) (acting P (t .room) m (t .call) .answer ∷ heard P c (next P (t .room) m (t .call)) ts) (heard P c (next P (t .room) m (t .call)) ts)
 
-owns-is : (c : ℕ) (call : Call) → owns c call ≡ true → customer call ≡ c
+pub owns-is : (c : ℕ) (call : Call) → owns c call ≡ true → customer call ≡ c
 unfolding owns customer
 owns-is c (opening d payload work) e = sym (eqb-true c d e)
 owns-is c (asking d hold index out) e = sym (eqb-true c d e)
@@ -160,7 +160,7 @@ module _ (P : Payloads) (room : Bool) (c : ℕ) where
   unfolding next acting
   own-desk call m n o e = rw (owns-is c call o) (rw e (changed-same (acts P room (desk c n) call .change) m n e))
 
-  other-desk : (call : Call) (m : Model) → owns c call ≡ false → desk c (next P room m call) ≡ desk c m
+  pub other-desk : (call : Call) (m : Model) → owns c call ≡ false → desk c (next P room m call) ≡ desk c m
   unfolding next acting owns customer
   other-desk (opening d payload work) m o = changed-other d (acts P room (desk d m) (opening d payload work) .change) m (eqb-false c d o) (acts-in-desk P room (desk d m) (opening d payload work) (desk-length d m))
   other-desk (asking d hold index out) m o = changed-other d (acts P room (desk d m) (asking d hold index out) .change) m (eqb-false c d o) (acts-in-desk P room (desk d m) (asking d hold index out) (desk-length d m))

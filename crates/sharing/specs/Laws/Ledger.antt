@@ -108,7 +108,7 @@ acts-proper P room m (asking c hold index out) = byTest (ltb c 16) (λ t. rw t (
 acts-proper P room m (closing c hold) = byTest (ltb c 16) (λ t. rw t (shut-proper P room m c (getD (desk c m) hold none) hold (λ p e. place-of c hold m (held-in (desk c m) hold p e) .0))) (λ t. rw t keeps)
 acts-proper P room m tidying = keeps
 
-one-turn : (P : Payloads) (p : List ℕ) (room : Bool) (m : Model) (call : Call) → usersOf p (next P room m call) + closesBy p m (customer call) (acting P room m call .change) ≡ usersOf p m + opensBy p (acting P room m call .change)
+pub one-turn : (P : Payloads) (p : List ℕ) (room : Bool) (m : Model) (call : Call) → usersOf p (next P room m call) + closesBy p m (customer call) (acting P room m call .change) ≡ usersOf p m + opensBy p (acting P room m call .change)
 unfolding next
 one-turn P p room m call = one-change p m (customer call) (acting P room m call .change) (acts-proper P room m call)
 
