@@ -20,6 +20,7 @@ pub mod Events
 pub mod Alone
 pub mod Shown
 pub mod Stored
+pub mod Answers
 pub mod Room
 pub mod Refusals
 pub mod Frames

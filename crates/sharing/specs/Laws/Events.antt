@@ -10,14 +10,14 @@ use lib.Dec.{eqb}
 use lib.ListN.{length, getD, set, drop, replicate, length-replicate, length-set}
 use lib.Seq.{getD-take, getD-drop, getD-set-same, getD-set-other}
 use borrow.Author.Tests.{eqb-true, eq-eqb}
-use Rattle.format.specs.Laws.Outcomes.{onBoth, and-false, and-true}
+use Rattle.format.specs.Laws.Outcomes.{byTest, onBoth, and-false, and-true}
 use Rattle.format.specs.Reading.{Judged, refused, accepted}
 use Rattle.sharing.specs.Events.{Event, event, Past, begun, called, yes, isHold, turned, ifGranted, isForm, hasForm, opensOne, closesOne, openedWith, opens, closes}
 use Rattle.sharing.specs.Laws.AllCalls.{no-users}
 use Rattle.sharing.specs.Laws.Blocks.{no-false}
 use Rattle.sharing.specs.Laws.Doing.{Does, does, refuses, grants, says-nothing, shows, shuts, tidies}
 use Rattle.sharing.specs.Laws.Histories.{refines, starts, nobody}
-use Rattle.sharing.specs.Laws.Isolation.{desk-length}
+use Rattle.sharing.specs.Laws.Isolation.{desk-length, not-some}
 use Rattle.sharing.specs.Laws.Ledger.{opensBy, closesBy, one-turn}
 use Rattle.sharing.specs.Laws.Standing.{Stands}
 use Rattle.sharing.specs.Laws.Users.{has, usersOf}
@@ -37,6 +37,10 @@ entryOf P (some payload) = formOf (P .canonical payload)
 pub desk-at : (c h : ℕ) (m : Model) → h < 8 → getD (desk c m) h none ≡ getD m (c * 8 + h) none
 unfolding desk
 desk-at c h m b = getD-take 8 (drop (c * 8) m) h none b ∙ getD-drop (c * 8) m h none
+
+-- only a hold that there is was opened, and only with a payload that is accepted
+pub record Opened (P : Payloads) (c h : ℕ) (was : Option (List ℕ)) : Type 0 where
+  pub fine : (payload : List ℕ) → was ≡ some payload → (c < 16) × (h < 8) × (q : List ℕ) × (P .canonical payload ≡ accepted q)
 
 -- One event, on a model of 128 holds
 
@@ -66,12 +70,26 @@ module _ (P : Payloads) (m : Model) (all : length m ≡ 128) where
   turned-is c h i j was e {call} refuses = e ∙ ap (entryOf P) (sym (turned-not c h call was))
   turned-is c h i j was e (grants {c = d} {h = k} {payload = payload} {q = q} there low is) =
       let z : entryOf P (some payload) ≡ some q = unfold entryOf formOf in rw is in
-      rw (← z) (put-at c h d k i j low (eqb c d && eqb h k) refl was (some payload) e)
+      rw (← z) (put-at c h d k i j (low .low) (eqb c d && eqb h k) refl was (some payload) e)
   turned-is c h i j was e says-nothing = e
   turned-is c h i j was e (shows there low is name) = e
   turned-is c h i j was e (shuts {c = d} {hold = k} there low is) =
       rw (and-true (eqb h k)) (put-at c h d k i j low (eqb c d && eqb h k) refl was none e)
   turned-is c h i j was e tidies = e
+
+  turned-fine : (c h : ℕ) (was : Option (List ℕ)) → Opened P c h was → {call : Call} {x : Act} → Does P (desk (customer call) m) call x → Opened P c h (turned c h call (yes (x .answer)) was)
+  unfolding yes turned isHold
+  turned-fine c h was o {call} refuses = rw (turned-not c h call was) o
+  turned-fine c h was o (grants {c = d} {h = k} there low is) = byTest (eqb c d && eqb h k)
+      (λ t. rw t (record { fine = λ p e. onBoth (eqb c d) (eqb h k) t λ x y. (rw (eqb-true c d x) there, rw (eqb-true h k y) (low .low), _, is-it is e) }))
+      (λ t. rw t o)
+    where
+      is-it : {payload p q : List ℕ} → P .canonical payload ≡ accepted q → some payload ≡ some p → P .canonical p ≡ accepted q
+      is-it {payload} {p} is e = let z : payload ≡ p = cc in rw (← z) is
+  turned-fine c h was o says-nothing = o
+  turned-fine c h was o (shows there low is name) = o
+  turned-fine c h was o (shuts {c = d} {hold = k} there low is) = byTest (eqb c d && (eqb h k && true)) (λ t. rw t (record { fine = λ p e. absurd (not-some e) })) (λ t. rw t o)
+  turned-fine c h was o tidies = o
 
   all-left : (c : ℕ) (x : Change) → length (changed c x m) ≡ 128
   unfolding changed
@@ -128,6 +146,7 @@ pub record Present (P : Payloads) {A : Type 0} (says : A → Option ℕ) (es : L
   pub stands : Stands P t s model
   pub all : length model ≡ 128
   pub leads : (c h : ℕ) → c < 16 → h < 8 → getD model (c * 8 + h) none ≡ entryOf P (openedWith says c h es)
+  pub opened : (c h : ℕ) → Opened P c h (openedWith says c h es)
   pub counted : (p : List ℕ) → usersOf p model + closes says P p es ≡ opens says P p es
 
 nothing-held : (n i : ℕ) → getD {A = Entry} (replicate n none) i none ≡ none
@@ -150,6 +169,7 @@ module _ (P : Payloads) {A : Type 0} (seen : Answer → A) (says : A → Option 
         stands = x .stands;
         all = all-left P m (w .all) (customer call) (does-it .change);
         leads = λ c h i j. rw y (turned-is P m (w .all) c h i j (openedWith says c h es) (w .leads c h i j) d);
+        opened = λ c h. rw y (turned-fine P m (w .all) c h (openedWith says c h es) (w .opened c h) d);
         counted = λ p.
             let l : usersOf p (changed (customer call) (does-it .change) m) + closesBy p m (customer call) (does-it .change) ≡ usersOf p m + opensBy p (does-it .change) = one-turn P p (x .room) m call in
             rw (y, ← opens-is P p m d, ← closes-is P p m (λ c h. openedWith says c h es) (w .leads) d) (omega (arith, l, w .counted p));
@@ -162,6 +182,7 @@ module _ (P : Payloads) {A : Type 0} (seen : Answer → A) (says : A → Option 
     stands = starts P s n e more few;
     all = length-replicate {A = Entry} 128 none;
     leads = λ c h i j. nothing-held 128 (c * 8 + h);
+    opened = λ c h. record { fine = λ p e. absurd (not-some e) };
     counted = λ p. rw (no-users p 128);
   }
   present (called call past) = goes-on call (present past)

@@ -53,6 +53,19 @@ firstTrue-is [] h e = absurd (not-some e)
 firstTrue-is (true ∷ l) h e = let z : h ≡ 0 = cc in rw z (omega arith, refl)
 firstTrue-is (false ∷ l) h e = firstLater l h (firstTrue l) (λ k. firstTrue-is l k) e
 
+-- and false at every place before it
+firstLater-first : (l : List Bool) (h : ℕ) (o : Option ℕ) → ((k : ℕ) → o ≡ some k → (i : ℕ) → i < k → getD l i true ≡ false) → after o ≡ some h → (i : ℕ) → i < h → getD (false ∷ l) i true ≡ false
+unfolding after
+firstLater-first l h none r e i b = absurd (not-some e)
+firstLater-first l h (some k) r e zero b = refl
+firstLater-first l h (some k) r e (suc i) b = let z : h ≡ suc k = cc in r k refl i (omega arith)
+
+pub firstTrue-first : (l : List Bool) (h : ℕ) → firstTrue l ≡ some h → (i : ℕ) → i < h → getD l i true ≡ false
+unfolding firstTrue
+firstTrue-first [] h e i b = absurd (not-some e)
+firstTrue-first (true ∷ l) h e i b = let z : h ≡ 0 = cc in absurd (omega arith)
+firstTrue-first (false ∷ l) h e i b = firstLater-first l h (firstTrue l) (λ k. firstTrue-first l k) e i b
+
 -- A change is made to one of eight holds
 pub data InDesk : Change → Type 0 where
   kept : InDesk keep

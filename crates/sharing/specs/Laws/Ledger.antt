@@ -66,7 +66,7 @@ unfolding vacant
 vacant-is none t = refl
 vacant-is (some p) t = absurd (no-false (sym t))
 
-first-vacant : (l : List Entry) (h : ℕ) → h < length (map vacant l) → getD (map vacant l) h false ≡ true → (h < length l) × (getD l h none ≡ none)
+pub first-vacant : (l : List Entry) (h : ℕ) → h < length (map vacant l) → getD (map vacant l) h false ≡ true → (h < length l) × (getD l h none ≡ none)
 first-vacant [] h b e = absurd (omega arith)
 first-vacant (x ∷ l) zero b e = (omega arith, vacant-is x e)
 first-vacant (x ∷ l) (suc h) b e = let r = first-vacant l h (omega arith) e in (omega (arith, r .0), r .1)
