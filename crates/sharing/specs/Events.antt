@@ -5,11 +5,11 @@ use mathlib.Core.Bool.{Bool, false, cond, _&&_}
 use mathlib.Core.List.{List, [], _∷_}
 use mathlib.Core.Option.{Option, none, some}
 use lib.Dec.{eqb}
-use lib.ListN.{length, getD, drop}
+use lib.ListN.{length, getD, take, drop}
 use Rattle.format.specs.Bytes.{same}
 use Rattle.format.specs.Options.{isSome}
 use Rattle.format.specs.Reading.{Judged, refused, accepted}
-use Rattle.sharing.specs.Blocks.{gather}
+use Rattle.sharing.specs.Blocks.{need, scatter}
 use Rattle.sharing.specs.Histories.{owns}
 use Rattle.sharing.specs.Model.{Payloads, Call, opening, asking, closing, tidying, Answer, refusal, granted, nothing, found, closed, tidied}
 use Rattle.sharing.specs.Step.{step}
@@ -27,11 +27,16 @@ pub data Past (P : Payloads) {A : Type 0} (seen : Answer → A) : List (Event A)
   begun : {s : List ℕ} (n : ℕ) → length s ≡ n * 512 → 0 < n → n ≤ 128 → Past P seen [] (started (length s)) s
   called : {es : List (Event A)} {t : Table} {s : List ℕ} (call : Call) → Past P seen es t s → Past P seen (event call (seen (step P t s call .answer)) ∷ es) (step P t s call .table) (step P t s call .store)
 
--- A payload stands in the store from a block on: the table counts users there, and these blocks hold it
+-- A payload stands in the store from a block on: the table counts users there and knows its length, and these blocks are the payload's
 pub record Stored (t : Table) (s : List ℕ) (block : ℕ) (p : List ℕ) : Type 0 where
-  pub inside : block < length (blocks s)
   pub used : 0 < getD (t .marks) block blank .users
-  pub holds : gather (getD (t .marks) block blank .size) (drop block (blocks s)) ≡ p
+  pub size : getD (t .marks) block blank .size ≡ length p
+  pub holds : take (need (length p)) (drop block (blocks s)) ≡ scatter p
+
+-- so many blocks in a row, from a first one on, in none of which a payload stands
+pub record FreeRun (t : Table) (s : List ℕ) (first n : ℕ) : Type 0 where
+  pub inside : first + n ≤ length (blocks s)
+  pub free : (i : ℕ) → first ≤ i → i < first + n → (block : ℕ) (p : List ℕ) → Stored t s block p → block ≤ i → i < block + need (length p) → ⊥
 
 -- none of a list is so
 pub data Never {A : Type 0} (So : A → Type 0) : List A → Type 0 where

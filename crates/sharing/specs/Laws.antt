@@ -20,7 +20,9 @@ pub mod Events
 pub mod Alone
 pub mod Shown
 pub mod Stored
+pub mod FirstRun
 pub mod Answers
+pub mod Opens
 pub mod Room
 pub mod Refusals
 pub mod Frames

@@ -1,45 +1,21 @@
 -- What is answered after a history, by what the customer's holds were opened with.
 use Prim.Native.Nat.{ℕ, _≤_, _<_}
 use mathlib.Core.List.{List, []}
-use mathlib.Core.Logic.{_≢_}
 use mathlib.Core.Option.{Option, none, some}
 use mathlib.Core.Path.{_≡_, refl, sym, ap, _∙_}
 use native.Mathlib.Omega.{arith}
 use lib.Dec.{ltb}
 use lib.ListN.{length, getD}
-use borrow.Author.Tests.{lt-ltb, ltb-true, ltb-false}
+use borrow.Author.Tests.{lt-ltb, le-ltb, ltb-true, ltb-false}
 use Rattle.format.specs.Laws.Outcomes.{byTest}
 use Rattle.format.specs.Reading.{accepted}
 use Rattle.sharing.specs.Events.{Event, Past, yes, openedWith}
-use Rattle.sharing.specs.Laws.Doing.{Lowest, Does, does, refuses, grants}
 use Rattle.sharing.specs.Laws.Events.{formOf, entryOf, desk-at, Present, present}
 use Rattle.sharing.specs.Laws.Histories.{refines}
 use Rattle.sharing.specs.Laws.Isolation.{desk-length, getD-in, not-some}
-use Rattle.sharing.specs.Model.{Payloads, opening, asking, closing, Answer, refusal, granted, closed, replied, reply, over, desk, Entry, Act, asked, shut, acts, acting, customer}
+use Rattle.sharing.specs.Model.{Payloads, asking, closing, Answer, refusal, closed, replied, reply, desk, Entry, asked, shut, acts, acting, customer}
 use Rattle.sharing.specs.Step.{step}
 use Rattle.sharing.specs.Table.{Table}
-
--- an open that is granted: of a payload that is accepted, with the customer's lowest hold that is not in use
-record Granted (P : Payloads) (own : List Entry) (c : ℕ) (payload work : List ℕ) (h : ℕ) (a : Answer) : Type 0 where
-  there : c < 16
-  lowest : Lowest own h
-  form : List ℕ
-  canonical : P .canonical payload ≡ accepted form
-  answer : a ≡ granted h (over form work)
-
-granted-is : (P : Payloads) (own : List Entry) {c h : ℕ} {payload work : List ℕ} {x : Act} → Does P own (opening c payload work) x → yes (x .answer) ≡ some h → Granted P own c payload work h (x .answer)
-unfolding yes
-granted-is P own refuses e = absurd (not-some e)
-granted-is P own {h = h} (grants {h = k} {q = q} there low is) e = let z : k ≡ h = cc in rw (← z) (record { there = there; lowest = low; form = q; canonical = is; answer = refl })
-
-pub record Opening (P : Payloads) (held : (hold : ℕ) → Option (List ℕ)) (c : ℕ) (payload work : List ℕ) (h : ℕ) (a : Answer) : Type 0 where
-  pub there : c < 16
-  pub low : h < 8
-  pub free : held h ≡ none
-  pub others : (k : ℕ) → k < h → held k ≢ none
-  pub form : List ℕ
-  pub canonical : P .canonical payload ≡ accepted form
-  pub answer : a ≡ granted h (over form work)
 
 beyond : (own : List Entry) (h : ℕ) (x : Entry) → getD own h none ≡ x → length own ≤ h → getD own h none ≡ none
 beyond own h none e b = e
@@ -54,38 +30,33 @@ module _ (P : Payloads) {A : Type 0} (seen : Answer → A) (says : A → Option 
     entry-at h i j = desk-at c h (w .model) j ∙ w .leads c h i j
 
     -- a hold that was not opened is empty, and one that was has the canonical form
-    entry-none : (h : ℕ) → c < 16 → held h ≡ none → getD (desk c (w .model)) h none ≡ none
+    pub entry-none : (h : ℕ) → c < 16 → held h ≡ none → getD (desk c (w .model)) h none ≡ none
     unfolding entryOf
     entry-none h i e = byTest (ltb h 8)
         (λ u. entry-at h i (ltb-true h 8 u) ∙ ap (entryOf P) e)
         (λ u. let l = ltb-false h 8 u in beyond (desk c (w .model)) h (getD (desk c (w .model)) h none) refl (omega (arith, desk-length c (w .model))))
 
-    none-entry : (h : ℕ) (o : Option (List ℕ)) → held h ≡ o → c < 16 → h < 8 → getD (desk c (w .model)) h none ≡ none → o ≡ none
+    pub none-entry : (h : ℕ) (o : Option (List ℕ)) → held h ≡ o → c < 16 → h < 8 → getD (desk c (w .model)) h none ≡ none → o ≡ none
     unfolding entryOf formOf
     none-entry h none e i j z = refl
     none-entry h (some payload) e i j z = let f = w .opened c h .fine payload e in absurd (not-some (sym z ∙ entry-at h i j ∙ ap (entryOf P) e ∙ ap formOf (f .3)))
 
-  -- An open
-
-  pub opens-lowest : (payload work : List ℕ) (h : ℕ) → yes (step P t s (opening c payload work) .answer) ≡ some h → Opening P held c payload work h (step P t s (opening c payload work) .answer)
-  unfolding acting customer
-  opens-lowest payload work h e =
-      let w = present P seen says sees before in
-      let x = refines P t s (w .model) (w .stands) (opening c payload work) in
-      let g = granted-is P (desk c (w .model)) (does P (x .room) (desk c (w .model)) (desk-length c (w .model)) (opening c payload work)) (ap yes (sym (x .answers)) ∙ e) in
-      record {
-        there = g .there;
-        low = g .lowest .low;
-        free = none-entry w h (held h) refl (g .there) (g .lowest .low) (g .lowest .free);
-        others = λ k b z. g .lowest .others k b (entry-none w k (g .there) z);
-        form = g .form;
-        canonical = g .canonical;
-        answer = x .answers ∙ g .answer;
-      }
-
   -- A question and a close
 
   module _ (hold : ℕ) where
+    pub record NoCustomer : Type 0 where
+      pub not-asked : (index : ℕ) (out : List ℕ) → step P t s (asking c hold index out) .answer ≡ refusal 23 0 out
+      pub not-closed : step P t s (closing c hold) .answer ≡ refusal 23 0 []
+
+    pub no-customer : 16 ≤ c → NoCustomer
+    unfolding acting acts
+    no-customer i =
+        let w = present P seen says sees before in
+        record {
+          not-asked = λ index out. refines P t s (w .model) (w .stands) (asking c hold index out) .answers ∙ rw (le-ltb c 16 i) refl;
+          not-closed = refines P t s (w .model) (w .stands) (closing c hold) .answers ∙ rw (le-ltb c 16 i) refl;
+        }
+
     pub record Held (payload : List ℕ) : Type 0 where
       pub there : c < 16
       pub form : List ℕ

@@ -30,19 +30,19 @@ pub data Does (P : Payloads) (own : List Entry) : Call → Act → Type 0 where
   shuts : {c hold : ℕ} {p : List ℕ} → c < 16 → hold < 8 → getD own hold none ≡ some p → Does P own (closing c hold) (act (put hold none) closed)
   tidies : Does P own tidying (act keep tidied)
 
-in-use : (l : List Entry) (k : ℕ) → getD (map vacant l) k true ≡ false → getD l k none ≢ none
+pub in-use : (l : List Entry) (k : ℕ) → getD (map vacant l) k true ≡ false → getD l k none ≢ none
 unfolding vacant
 in-use [] k e z = no-false e
 in-use (none ∷ l) zero e z = no-false e
 in-use (some p ∷ l) zero e z = not-some (sym z)
 in-use (x ∷ l) (suc k) e z = in-use l k e z
 
-module _ (P : Payloads) (room : Bool) (own : List Entry) (few : length own ≤ 8) where
-  lowest-is : (h : ℕ) → firstTrue (map vacant own) ≡ some h → Lowest own h
-  lowest-is h e =
-      let r = firstTrue-is (map vacant own) h e in
-      record { low = omega (arith, r .0, map-length own); free = first-vacant own h (r .0) (r .1) .1; others = λ k b. in-use own k (firstTrue-first (map vacant own) h e k b) }
+pub lowest-of : (own : List Entry) → length own ≤ 8 → (h : ℕ) → firstTrue (map vacant own) ≡ some h → Lowest own h
+lowest-of own few h e =
+    let r = firstTrue-is (map vacant own) h e in
+    record { low = omega (arith, r .0, map-length own); free = first-vacant own h (r .0) (r .1) .1; others = λ k b. in-use own k (firstTrue-first (map vacant own) h e k b) }
 
+module _ (P : Payloads) (room : Bool) (own : List Entry) (few : length own ≤ 8) where
   open-does : (c : ℕ) (payload work : List ℕ) (f : Front) → ((q : List ℕ) (h : ℕ) → f ≡ go q h → (c < 16) × Lowest own h × (P .canonical payload ≡ accepted q)) → Does P own (opening c payload work) (opened room work f)
   unfolding opened roomFor
   open-does c payload work (stop n at) k = refuses
@@ -74,7 +74,7 @@ module _ (P : Payloads) (room : Bool) (own : List Entry) (few : length own ≤ 8
   unfolding acts
   does (opening c payload work) = open-does c payload work (front P c (firstTrue (map vacant own)) payload work)
       (λ q h e. let g = front-go P c (firstTrue (map vacant own)) payload work e in
-      (g .someone, lowest-is h (g .unused), g .taken))
+      (g .someone, lowest-of own few h (g .unused), g .taken))
   does (asking c hold index out) = byTest (ltb c 16) (λ t. rw t (asked-does c hold index out (ltb-true c 16 t) (getD own hold none) refl)) (λ t. rw t refuses)
   does (closing c hold) = byTest (ltb c 16) (λ t. rw t (shut-does c hold (ltb-true c 16 t) (getD own hold none) refl)) (λ t. rw t refuses)
   does tidying = tidies

@@ -21,11 +21,11 @@ use Rattle.sharing.specs.Laws.Moving.{tidy-stands, came, goes-there}
 -- On any table that stands for a model
 
 module _ (P : Payloads) (t : Table) (s : List ℕ) (m : Model) (st : Stands P t s m) (c : ℕ) (q work : List ℕ) (h : ℕ) where
-  opened-is : openedIn t s c work (go q h) ≡ placed t s c q work h (find q (spread marksOf (st .shelf) ++ st .laid .tail) (spread blocksOf (st .shelf)))
+  pub opened-is : openedIn t s c work (go q h) ≡ placed t s c q work h (find q (spread marksOf (st .shelf) ++ st .laid .tail) (spread blocksOf (st .shelf)))
   unfolding openedIn
   opened-is = rw (ap₂ rowsRight (st .laid .marks) (blocks-are (st .laid)) ∙ all-right (st .shelf) (st .laid .tail)) (ap (placed t s c q work h) (ap₂ (find q) (st .laid .marks) (blocks-are (st .laid))))
 
-  placed-is : placed t s c q work h none ≡ newly t s c q work h (firstRun (need (length q)) (spread takenOf (st .shelf)))
+  pub placed-is : placed t s c q work h none ≡ newly t s c q work h (firstRun (need (length q)) (spread takenOf (st .shelf)))
   unfolding placed
   placed-is = ap (λ (l : List Bool). newly t s c q work h (firstRun (need (length q)) l)) (ap₂ (taken 0) (st .laid .marks) (blocks-are (st .laid)) ∙ taken-is (st .shelf) (st .laid .tail))
 
