@@ -9,7 +9,7 @@ use mathlib.Core.Logic.{_↔_, _≢_}
 use mathlib.Core.Option.{Option, none, some}
 use mathlib.Core.Path.{_≡_}
 -- the length of a list, its first n elements, the list without them, and the element at a position, counted from 0 (`some`, or `none` past the last)
-use lib.ListN.{length, take, drop, getElem?}
+use lib.ListN.{length, take, drop, getElem?, getD}
 -- WHAT IS LENT. Bytes are a list of numbers, and `Bytes p` says that each is below 256.
 use Rattle.format.specs.Bytes.{Bytes}
 -- THE SECTIONS that are asked, by the bytes of their names: `nameSection` is name, `metadataSection format` is metadata.code. with the format behind it, `branchHint` is the format branch_hint, and `hintSection` its section; `olderHintSection` is branchHints.
@@ -62,6 +62,15 @@ use Rattle.format.specs.Parts.{Part}
 use Rattle.stream.specs.declared.Stream.{Stream}
 use Rattle.stream.specs.Calls.{together as joined}
 use Rattle.wakemiono.specs.declared.arriving.WmStreamAnswer.{WmStreamAnswer}
+-- THE SHARED TABLE: `SharedTable` is the state that a caller lends beside the store. A call on it is `Opening customer payload work`, `Asking customer hold function out` or `Closing customer hold`, and an event is a record of a `call` and its `answer`. Of events, the latest first: `callsOf c es` are the calls of the customer c, and `answersTo c es` their answers. `openedWith`, `opens` and `closes` are explained at K12, where they are named for the calls. `need n` is how many blocks a payload of n bytes takes, and `blocks s` are those of a store. `Stored (tableOf t) s b p`: the table t has users at the block b and the length of p, and the blocks of the store s from there on are those of p. `FreeRun (tableOf t) s b n`: n blocks from b on lie in the store, and no payload stands in any of them.
+use Rattle.format.specs.Canonical.{canonicalNames}
+use Rattle.sharing.specs.Arrays.{tableOf}
+use Rattle.sharing.specs.Blocks.{need}
+use Rattle.sharing.specs.Events.{Event, event, callsOf, answersTo, openedWith, opens, closes, Stored, FreeRun}
+use Rattle.sharing.specs.Model.{opening as Opening, asking as Asking, closing as Closing, Call}
+use Rattle.sharing.specs.Named.{names as namePayloads}
+use Rattle.sharing.specs.Table.{blank, blocks}
+use Rattle.sharing.specs.declared.Table.{Table as SharedTable}
 -- EXAMPLES are written as their bytes: `hex "07 01 00"`.
 use Rattle.format.specs.Examples.{hex}
 -- LISTS. `Indices is`: each number in the list is below 4,294,967,296. `sum ns`: the numbers added up. `Text x characters`: the bytes x are the UTF-8 encoding of the characters. `Lists k x indices lengths text`: k is listed, and x is its own stretch of the text. `Lists k x (k ∷ is) (n ∷ ns) text` from `take n text ≡ x`, and `Lists k x (i ∷ is) (n ∷ ns) text` from `Lists k x is ns (drop n text)`.
@@ -79,8 +88,8 @@ use Rattle.format.specs.declared.Question.{Question}
 use Rattle.format.specs.declared.Question.the-variants.{ModuleName, FunctionName, LocalName, LabelName, TypeName, TableName, MemoryName, GlobalName, ElementName, DataName, FieldName, TagName, KeptContents}
 -- Of metadata and hints: `ItemQuestion` is a function and an offset, each a record of one number; `ItemInRange q` says that both are below 4,294,967,296. `OlderInRange q` says it of a question for a hint of the older edition.
 use Rattle.format.specs.Theorems.{ItemQuestion, ItemInRange, OlderInRange}
--- THE CALLS, each by its promise: `wm-walk bytes a` says that the answer a is one that the promise of wm_walk allows for these bytes. It is the promise itself, the one name that stands in the `ensures` of the call in crates/wakemiono/src. What the promises come to is said below, so that nothing has to be known of how they are put. `wm-name q` is the promise of the call that asks q: wm_module_name asks `ModuleName`, wm_function_name `FunctionName` of its function, wm_type_name `TypeName` of its index, wm_tag_name `TagName` of its tag, wm_local_name `LocalName` of its function and its local, wm_field_name `FieldName` of its index and its field, wm_kept `KeptContents` of its id; `wm-name-in q` is that of the same call with `_in`, which is lent a module. `wm-wide-name q` and `wm-wide-name-in q` are those of the wider edition, wm_wide_module_name and so on, which has six more: wm_wide_label_name asks `LabelName` of its function and its label, wm_wide_table_name `TableName`, wm_wide_memory_name `MemoryName`, wm_wide_global_name `GlobalName`, wm_wide_element_name `ElementName` and wm_wide_data_name `DataName`. The calls that write are promised of the output before and after, too: `old` and `new`. `wm-markers p is os is′ os′ a` is promised of both lists before the call, `is` and `os`, and after it; `wm-quick-function-name p is os end function a` of a payload, two lists, an end and the function asked. `wm-pair q separate own a` is the promise of the call that asks q over two payloads, wm_pair_module_name and so on, and `wm-wide-pair` that of the wider edition; `wm-pair-join separate own old new a` is the join's. `wm-stream-part s p t a` is promised of the state before the call, s, a part, the state after the call, t, and the answer; `wm-stream-finish s t a` of both states and the answer; `wm-stream-begin b` of the state that comes back.
-use Rattle.wakemiono.specs.Calls.{wm-walk, wm-section, wm-custom, wm-names-judge, wm-name, wm-metadata-judge, wm-metadata, wm-hints-judge, wm-hint, wm-name-in, wm-metadata-in, wm-hint-in, wm-names-canonical, wm-metadata-canonical, wm-hints-canonical, wm-function-names-write, wm-names-is-canonical, wm-metadata-is-canonical, wm-hints-is-canonical, wm-wide-names-judge, wm-wide-name, wm-wide-name-in, wm-wide-names-canonical, wm-wide-names-is-canonical, wm-old-hints-judge, wm-old-hint, wm-old-hint-in, wm-old-hints-canonical, wm-old-hints-is-canonical, wm-why-function, wm-why-local, wm-markers, wm-quick-function-name, wm-pair, wm-wide-pair, wm-pair-join, wm-wide-pair-join, wm-stream-begin, wm-stream-part, wm-stream-finish, wm-hints-on-branches}
+-- THE CALLS, each by its promise: `wm-walk bytes a` says that the answer a is one that the promise of wm_walk allows for these bytes. It is the promise itself, the one name that stands in the `ensures` of the call in crates/wakemiono/src. What the promises come to is said below, so that nothing has to be known of how they are put. `wm-name q` is the promise of the call that asks q: wm_module_name asks `ModuleName`, wm_function_name `FunctionName` of its function, wm_type_name `TypeName` of its index, wm_tag_name `TagName` of its tag, wm_local_name `LocalName` of its function and its local, wm_field_name `FieldName` of its index and its field, wm_kept `KeptContents` of its id; `wm-name-in q` is that of the same call with `_in`, which is lent a module. `wm-wide-name q` and `wm-wide-name-in q` are those of the wider edition, wm_wide_module_name and so on, which has six more: wm_wide_label_name asks `LabelName` of its function and its label, wm_wide_table_name `TableName`, wm_wide_memory_name `MemoryName`, wm_wide_global_name `GlobalName`, wm_wide_element_name `ElementName` and wm_wide_data_name `DataName`. The calls that write are promised of the output before and after, too: `old` and `new`. `wm-markers p is os is′ os′ a` is promised of both lists before the call, `is` and `os`, and after it; `wm-quick-function-name p is os end function a` of a payload, two lists, an end and the function asked. `wm-pair q separate own a` is the promise of the call that asks q over two payloads, wm_pair_module_name and so on, and `wm-wide-pair` that of the wider edition; `wm-pair-join separate own old new a` is the join's. `wm-stream-part s p t a` is promised of the state before the call, s, a part, the state after the call, t, and the answer; `wm-stream-finish s t a` of both states and the answer; `wm-stream-begin b` of the state that comes back. `wm-table-start n t` is promised of the length of a store and the table that comes back; `wm-table-open t s customer payload work u r work′ a` of the table, the store and the work buffer before the call and after it, u, r and work′; `wm-table-function-name t s customer hold function out out′ a` of the output before and after, as nothing else is written to, and `wm-table-close t s customer hold u a` of the table.
+use Rattle.wakemiono.specs.Calls.{wm-walk, wm-section, wm-custom, wm-names-judge, wm-name, wm-metadata-judge, wm-metadata, wm-hints-judge, wm-hint, wm-name-in, wm-metadata-in, wm-hint-in, wm-names-canonical, wm-metadata-canonical, wm-hints-canonical, wm-function-names-write, wm-names-is-canonical, wm-metadata-is-canonical, wm-hints-is-canonical, wm-wide-names-judge, wm-wide-name, wm-wide-name-in, wm-wide-names-canonical, wm-wide-names-is-canonical, wm-old-hints-judge, wm-old-hint, wm-old-hint-in, wm-old-hints-canonical, wm-old-hints-is-canonical, wm-why-function, wm-why-local, wm-markers, wm-quick-function-name, wm-pair, wm-wide-pair, wm-pair-join, wm-wide-pair-join, wm-stream-begin, wm-stream-part, wm-stream-finish, wm-hints-on-branches, wm-table-start, wm-table-open, wm-table-function-name, wm-table-close}
 -- HINTS ON BRANCHES, by crates/branches/specs: `hintsOnBranches m` is the check of a module; `importedFunctions` counts the functions that are imported, and `functionBodies` are the bodies. `Placed` has a `number`, where it stands, `at`, and its `value`: of hints, by function and then by offset. The rule without a step stands in Rule.antt, over the grammar of core specification 1.0 in Grammar.antt: `HasHints m`: walk and hint payload of m are accepted; `Hinted m first parts fs`: so are its import list and its list of bodies, `first` functions are imported, `parts` are the bodies and fs the hints. `AllSit first parts fs`: every hint of fs has a body of which a br_if or an if begins at its offset. `ModuleRefused m n at`: the walk, the payload, the import list, the list of bodies or the first hint that does not sit is refused with n at that offset.
 use Rattle.branches.specs.Branches.{importedFunctions, functionBodies, hintsOnBranches}
 use Rattle.branches.specs.Hints.{Placed, Hints}
@@ -122,7 +131,7 @@ pub data HintReply : WmAnswer → Type 0 where
   hintLikely : HintReply (record { kind = 4; code = 0; offset = 0; length = 0 })
   hintRefused : (number offset : ℕ) → HintReply (wmRefused number offset)
 
--- The numbers that the calls refuse with. 16 is the listing program's alone
+-- The numbers that the calls refuse with, but for those on the shared table, which K12 lists. 16 is the listing program's alone
 abbrev pub numbers : List ℕ
 numbers = 1 ∷ 2 ∷ 3 ∷ 4 ∷ 5 ∷ 6 ∷ 7 ∷ 8 ∷ 9 ∷ 10 ∷ 11 ∷ 12 ∷ 13 ∷ 14 ∷ 15 ∷ 17 ∷ 18 ∷ 19 ∷ 20 ∷ 21 ∷ 22 ∷ 28 ∷ 29 ∷ []
 
@@ -822,3 +831,120 @@ pub record K5 : Type 0 where
   -- "state unchanged": of any state. After the finish of another one, a finish is refused 18 and nothing else
   pub part-unchanged : (s t : Stream) (p : List ℕ) (a : WmAnswer) → wm-stream-part s p t a → a .kind ≡ 2 → t ≡ s
   pub finish-unchanged : (s t u : Stream) (a c : WmStreamAnswer) → wm-stream-finish s t a → wm-stream-finish t u c → u ≡ t
+
+-- K12. "The shared table itself. A second crate: 16 customers (0 to 15), 8 holds each (0 to 7), over one lent store of 1 to 128 blocks of 512 bytes: 508 of payload, zeros behind its end, then the check, the wrapping sum of those 127 little-endian words, in that byte order. A customer opens a name payload (first edition), lending a work buffer for its canonical form, and gets their lowest unused hold; asks a function name through it, copied to a lent buffer; closes it, the store unchanged. Equal canonical payloads are stored once, in the first run of free blocks long enough, an empty one in one block. Each payload's users at any time are the granted opens less the granted closes of the history; at none its blocks are free and are used again. No answer holds a place in the store. If two histories agree on one customer's calls but for the store, lend at each call the store they started with, of 1 to 128 blocks, written by nothing else, and never refuse that customer for room, the customer's answers are the same. Refusals in this order: 30, a store of another length than at the start, or not 1 to 128 blocks; 23, no such customer; 24, hold not open or above 7; document 01's for the payload, with 13 for the work buffer; 25, eight holds in use; 27, a needed block's check is wrong (an open needs all used blocks, a question those of its payload, a close none), or a question's payload is no longer accepted; 26, payload not yet stored and no free run long enough; for a question, 13 last. The new ones give offset 0. Each changes nothing, save that after 27 or 26 on an open, as after a grant, the work buffer begins with the canonical payload." Proved as `k12` in Proved.antt.
+
+-- A history: a table started over a store of 1 to 128 blocks of 512 bytes, and calls one after the other, each lent the table and the store as the one before left them. Each call is an event, with its answer and with the lent buffer after it; the latest comes first
+abbrev pub TableEvent : Type 0
+TableEvent = Event (WmAnswer × List ℕ)
+
+pub data History : List TableEvent → SharedTable → (store : List ℕ) → Type 0 where
+  itsStart : {t : SharedTable} {s : List ℕ} (n : ℕ) → length s ≡ n * 512 → 0 < n → n ≤ 128 → wm-table-start (length s) t → History [] t s
+  anOpen : {es : List TableEvent} {t u : SharedTable} {s r : List ℕ} {a : WmAnswer} (customer : ℕ) (payload work work′ : List ℕ) → wm-table-open t s customer payload work u r work′ a → History es t s → History (event (Opening customer payload work) (a, work′) ∷ es) u r
+  aQuestion : {es : List TableEvent} {t : SharedTable} {s : List ℕ} {a : WmAnswer} (customer hold function : ℕ) (out out′ : List ℕ) → wm-table-function-name t s customer hold function out out′ a → History es t s → History (event (Asking customer hold function out) (a, out′) ∷ es) t s
+  aClose : {es : List TableEvent} {t u : SharedTable} {s : List ℕ} {a : WmAnswer} (customer hold : ℕ) → wm-table-close t s customer hold u a → History es t s → History (event (Closing customer hold) (a, []) ∷ es) u s
+
+-- A call is granted where its answer is found; of an open the length is the hold
+abbrev pub granted : WmAnswer × List ℕ → Option ℕ
+granted r = cond (eqb (r .0 .kind) 1) (some (r .0 .length)) none
+
+-- What a customer's hold was opened with: the payload of their last open that was granted with this hold; none if there is none, or it is closed since
+abbrev pub heldBy : (customer hold : ℕ) → List TableEvent → Option (List ℕ)
+heldBy customer hold es = openedWith granted customer hold es
+
+-- The granted opens of payloads whose canonical form is p, and the granted closes of holds that were opened with one
+abbrev pub opensOf : (p : List ℕ) → List TableEvent → ℕ
+opensOf p es = opens granted namePayloads p es
+
+abbrev pub closesOf : (p : List ℕ) → List TableEvent → ℕ
+closesOf p es = closes granted namePayloads p es
+
+-- the users that a table counts at a block
+abbrev pub usersAt : SharedTable → (block : ℕ) → ℕ
+usersAt t block = getD (tableOf t .marks) block blank .users
+
+-- The canonical form of a payload, as wm_names_canonical writes it; and a buffer that begins with it, its other bytes as they were
+abbrev pub Canonical : (payload p : List ℕ) → Type 0
+Canonical payload p = canonicalNames knownKind payload ≡ accepted p
+
+abbrev pub begunWith : (p buffer : List ℕ) → List ℕ
+begunWith p buffer = p ++ drop (length p) buffer
+
+-- What an open answers and leaves after the events es, in the order of the refusals. 30 and 27 are not among them: no history has one. "No answer holds a place in the store": what is found has the offset 0
+module _ (es : List TableEvent) (t : SharedTable) (s : List ℕ) (customer : ℕ) (payload work : List ℕ) where
+  -- nothing is in the way but room: the canonical form is p, and h is "their lowest unused hold"
+  pub record MayOpen (p : List ℕ) (h : ℕ) : Type 0 where
+    pub there : customer < 16
+    pub canonical : Canonical payload p
+    pub fits : length p ≤ length work
+    pub low : h < 8
+    pub unused : heldBy customer h es ≡ none
+    pub lowest : (k : ℕ) → k < h → heldBy customer k es ≢ none
+
+  pub data OpenReply : (u : SharedTable) (r work′ : List ℕ) → WmAnswer → Type 0 where
+    -- "23, no such customer"
+    openNoCustomer : 16 ≤ customer → OpenReply t s work (wmRefused 23 0)
+    -- "document 01's for the payload, with 13 for the work buffer"
+    openNotAccepted : {number offset : ℕ} → customer < 16 → judgeNames knownKind 0 payload ≡ refused number offset → OpenReply t s work (wmRefused number offset)
+    openTooShort : {p : List ℕ} → customer < 16 → Canonical payload p → length work < length p → OpenReply t s work (wmRefused 13 (length p))
+    -- "25, eight holds in use"
+    openNoHold : {p : List ℕ} → customer < 16 → Canonical payload p → length p ≤ length work → ((h : ℕ) → h < 8 → heldBy customer h es ≢ none) → OpenReply t s work (wmRefused 25 0)
+    -- "26, payload not yet stored and no free run long enough"
+    openNoRoom : {p : List ℕ} {h : ℕ} → MayOpen p h → ((b : ℕ) → Stored (tableOf t) s b p → ⊥) → ((b : ℕ) → FreeRun (tableOf t) s b (need (length p)) → ⊥) → OpenReply t s (begunWith p work) (wmRefused 26 0)
+    -- "Equal canonical payloads are stored once": the store stays as it is
+    openStored : {u : SharedTable} {p : List ℕ} {h b : ℕ} → MayOpen p h → Stored (tableOf t) s b p → OpenReply u s (begunWith p work) (wmFound 0 0 h)
+    -- "in the first run of free blocks long enough, an empty one in one block"
+    openNew : {u : SharedTable} {r p : List ℕ} {h b : ℕ} → MayOpen p h → ((d : ℕ) → Stored (tableOf t) s d p → ⊥) → FreeRun (tableOf t) s b (need (length p)) → ((d : ℕ) → d < b → FreeRun (tableOf t) s d (need (length p)) → ⊥) → Stored (tableOf u) r b p → OpenReply u r (begunWith p work) (wmFound 0 0 h)
+
+-- What a question answers, and what its output is after it: as wm_function_name answers of the payload that was opened
+pub data QuestionReply (es : List TableEvent) (customer hold function : ℕ) (out : List ℕ) : (out′ : List ℕ) → WmAnswer → Type 0 where
+  askNoCustomer : 16 ≤ customer → QuestionReply es customer hold function out out (wmRefused 23 0)
+  -- "24, hold not open or above 7"
+  askNotOpen : customer < 16 → heldBy customer hold es ≡ none → QuestionReply es customer hold function out out (wmRefused 24 0)
+  askNone : {payload : List ℕ} → heldBy customer hold es ≡ some payload → wm-name (FunctionName (record { 0 = function })) payload wmNone → QuestionReply es customer hold function out out wmNone
+  -- "for a question, 13 last"
+  askTooShort : {payload name : List ℕ} (b : WmAnswer) → heldBy customer hold es ≡ some payload → wm-name (FunctionName (record { 0 = function })) payload b → FoundIn payload b name → length out < length name → QuestionReply es customer hold function out out (wmRefused 13 (length name))
+  -- "copied to a lent buffer"
+  askFound : {payload name : List ℕ} (b : WmAnswer) → heldBy customer hold es ≡ some payload → wm-name (FunctionName (record { 0 = function })) payload b → FoundIn payload b name → length name ≤ length out → QuestionReply es customer hold function out (begunWith name out) (wmFound 0 0 (length name))
+
+-- What a close answers, and the table after it
+pub data CloseReply (es : List TableEvent) (t : SharedTable) (customer hold : ℕ) : (u : SharedTable) → WmAnswer → Type 0 where
+  closeNoCustomer : 16 ≤ customer → CloseReply es t customer hold t (wmRefused 23 0)
+  closeNotOpen : customer < 16 → heldBy customer hold es ≡ none → CloseReply es t customer hold t (wmRefused 24 0)
+  closeOpen : {u : SharedTable} {payload : List ℕ} → heldBy customer hold es ≡ some payload → CloseReply es t customer hold u (wmFound 0 0 0)
+
+-- no call of the customer's is refused for room
+abbrev pub NeverForRoom : (customer : ℕ) → List TableEvent → Type 0
+NeverForRoom customer es = (buffer : List ℕ) → Among (wmRefused 26 0, buffer) (answersTo customer es) → ⊥
+
+-- one of the events is an open of this payload by the customer, which was granted with this hold
+abbrev pub OpenedIn : (customer hold : ℕ) (payload : List ℕ) → List TableEvent → Type 0
+OpenedIn customer hold payload es = (work : List ℕ) × (r : WmAnswer × List ℕ) × Among (event (Opening customer payload work) r) es × (granted r ≡ some hold)
+
+-- "30, a store of another length than at the start, or not 1 to 128 blocks"
+pub data NotTheStore (t : SharedTable) (s : List ℕ) : Type 0 where
+  otherLength : length s ≢ t .bytes → NotTheStore t s
+  noBlocks : ((n : ℕ) → length s ≡ n * 512 → 0 < n → n ≤ 128 → ⊥) → NotTheStore t s
+
+pub record K12 : Type 0 where
+  -- "A customer opens a name payload (first edition), lending a work buffer for its canonical form, and gets their lowest unused hold; asks a function name through it, copied to a lent buffer; closes it, the store unchanged."
+  pub opens : (es : List TableEvent) (t u : SharedTable) (s r : List ℕ) → History es t s → (customer : ℕ) (payload work work′ : List ℕ) (a : WmAnswer) → wm-table-open t s customer payload work u r work′ a → OpenReply es t s customer payload work u r work′ a
+  pub asks : (es : List TableEvent) (t : SharedTable) (s : List ℕ) → History es t s → (customer hold function : ℕ) (out out′ : List ℕ) (a : WmAnswer) → wm-table-function-name t s customer hold function out out′ a → QuestionReply es customer hold function out out′ a
+  pub closes : (es : List TableEvent) (t u : SharedTable) (s : List ℕ) → History es t s → (customer hold : ℕ) (a : WmAnswer) → wm-table-close t s customer hold u a → CloseReply es t customer hold u a
+  -- "Each payload's users at any time are the granted opens less the granted closes of the history": where a payload stands, where the table counts users, and wherever more was opened than closed; so "at none its blocks are free"
+  pub users : (es : List TableEvent) (t : SharedTable) (s : List ℕ) → History es t s → (b : ℕ) (p : List ℕ) → Stored (tableOf t) s b p → usersAt t b + closesOf p es ≡ opensOf p es
+  pub used : (es : List TableEvent) (t : SharedTable) (s : List ℕ) → History es t s → (b : ℕ) → b < length (blocks s) → 0 < usersAt t b → (p : List ℕ) × Stored (tableOf t) s b p
+  pub kept : (es : List TableEvent) (t : SharedTable) (s : List ℕ) → History es t s → (p : List ℕ) → closesOf p es < opensOf p es → (b : ℕ) × Stored (tableOf t) s b p
+  -- "Equal canonical payloads are stored once"
+  pub once : (es : List TableEvent) (t : SharedTable) (s : List ℕ) → History es t s → (b d : ℕ) (p : List ℕ) → Stored (tableOf t) s b p → Stored (tableOf t) s d p → b ≡ d
+  -- "If two histories agree on one customer's calls but for the store, lend at each call the store they started with, of 1 to 128 blocks, written by nothing else, and never refuse that customer for room, the customer's answers are the same": all fields of every answer, and every lent buffer after its call, whatever sizes the two stores have and whatever they held
+  pub isolation : (customer : ℕ) (es fs : List TableEvent) (t u : SharedTable) (s r : List ℕ) → History es t s → History fs u r → NeverForRoom customer es → NeverForRoom customer fs → callsOf customer es ≡ callsOf customer fs → answersTo customer es ≡ answersTo customer fs
+  -- The same as a customer meets it: a name that is shown to them is in a payload that they opened themselves, and that was granted with the hold they ask through
+  pub shown : (es : List TableEvent) (t : SharedTable) (s : List ℕ) → History es t s → (customer hold function : ℕ) (out out′ : List ℕ) (a : WmAnswer) → wm-table-function-name t s customer hold function out out′ a → a .kind ≡ 1
+      → (payload : List ℕ) × OpenedIn customer hold payload es × ((b : WmAnswer) → wm-name (FunctionName (record { 0 = function })) payload b → FoundIn payload b (take (a .length) out′))
+  -- "27, a needed block's check is wrong": no history has it, and none has 30
+  pub never : (es : List TableEvent) (t : SharedTable) (s : List ℕ) → History es t s → (call : Call) (r : WmAnswer × List ℕ) → Among (event call r) es → (number offset : ℕ) → r .0 ≡ wmRefused number offset → (number ≢ 27) × (number ≢ 30)
+  -- 30 comes first, of any table, and nothing is changed
+  pub open-elsewhere : (t u : SharedTable) (s r : List ℕ) → NotTheStore t s → (customer : ℕ) (payload work work′ : List ℕ) (a : WmAnswer) → wm-table-open t s customer payload work u r work′ a → (a ≡ wmRefused 30 0) × (tableOf u ≡ tableOf t) × (r ≡ s) × (work′ ≡ work)
+  pub ask-elsewhere : (t : SharedTable) (s : List ℕ) → NotTheStore t s → (customer hold function : ℕ) (out out′ : List ℕ) (a : WmAnswer) → wm-table-function-name t s customer hold function out out′ a → (a ≡ wmRefused 30 0) × (out′ ≡ out)
+  pub close-elsewhere : (t u : SharedTable) (s : List ℕ) → NotTheStore t s → (customer hold : ℕ) (a : WmAnswer) → wm-table-close t s customer hold u a → (a ≡ wmRefused 30 0) × (tableOf u ≡ tableOf t)

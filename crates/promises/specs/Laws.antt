@@ -23,3 +23,4 @@ pub mod Pairs
 pub mod Joins
 pub mod Arriving
 pub mod Branching
+pub mod Sharing

@@ -1,17 +1,22 @@
 -- Each promise of the crate `wakemiono` determines what comes back.
 use Prim.Native.Nat.{ℕ}
-use mathlib.Core.List.{List}
-use mathlib.Core.Path.{sym, _∙_, _≡_}
-use Rattle.format.specs.Determined.{Determines, Determines1, Determines2, Determines3, Determines4, Determines5, DeterminesBoth2, DeterminesBoth3, DeterminesBoth4, DeterminesThree3, equal-determined, DeterminesBoth1}
+use mathlib.Core.List.{List, []}
+use mathlib.Core.Path.{sym, ap, _∙_, _≡_}
+use Rattle.format.specs.Determined.{Determines, Determines1, Determines2, Determines3, Determines4, Determines5, DeterminesBoth2, DeterminesBoth3, DeterminesBoth4, DeterminesThree3, equal-determined, DeterminesBoth1, DeterminesBoth6}
 use Rattle.format.specs.Markers.{Markers}
 use Rattle.format.specs.Pairs.{Paired}
 use Rattle.format.specs.Reading.{Judged}
+use Rattle.sharing.specs.Laws.Same.{same-table}
+use Rattle.sharing.specs.Model.{Call, closing}
+use Rattle.sharing.specs.declared.Table.{Table as SharedTable}
 use Rattle.wakemiono.proofs.Same.{wm-writes-same}
 use Rattle.wakemiono.specs.Boundary.{WmWrites, WmMakes}
-use Rattle.wakemiono.specs.Calls.{wm-walk, wm-section, wm-custom, wm-names-judge, wm-name, wm-metadata-judge, wm-metadata, wm-hints-judge, wm-hint, wm-name-in, wm-metadata-in, wm-hint-in, wm-names-canonical, wm-metadata-canonical, wm-hints-canonical, wm-names-is-canonical, wm-metadata-is-canonical, wm-hints-is-canonical, wm-function-names-write, wm-wide-names-judge, wm-wide-name, wm-wide-name-in, wm-wide-names-canonical, wm-wide-names-is-canonical, wm-old-hints-judge, wm-old-hint, wm-old-hint-in, wm-old-hints-canonical, wm-old-hints-is-canonical, wm-why-function, wm-why-local, wm-markers, wm-quick-function-name, wm-pair, wm-wide-pair, wm-pair-join, wm-wide-pair-join, wm-stream-begin, wm-stream-part, wm-stream-finish, wm-hints-on-branches}
+use Rattle.wakemiono.specs.Calls.{wm-walk, wm-section, wm-custom, wm-names-judge, wm-name, wm-metadata-judge, wm-metadata, wm-hints-judge, wm-hint, wm-name-in, wm-metadata-in, wm-hint-in, wm-names-canonical, wm-metadata-canonical, wm-hints-canonical, wm-names-is-canonical, wm-metadata-is-canonical, wm-hints-is-canonical, wm-function-names-write, wm-wide-names-judge, wm-wide-name, wm-wide-name-in, wm-wide-names-canonical, wm-wide-names-is-canonical, wm-old-hints-judge, wm-old-hint, wm-old-hint-in, wm-old-hints-canonical, wm-old-hints-is-canonical, wm-why-function, wm-why-local, wm-markers, wm-quick-function-name, wm-pair, wm-wide-pair, wm-pair-join, wm-wide-pair-join, wm-stream-begin, wm-stream-part, wm-stream-finish, wm-hints-on-branches, wm-table-start, wm-table-open, wm-table-function-name, wm-table-close}
 use Rattle.wakemiono.specs.Pairs.{WmJoins}
+use Rattle.wakemiono.specs.Shared.{WmShares}
 use Rattle.wakemiono.specs.declared.WmAnswer.{WmAnswer}
 use Rattle.wakemiono.specs.declared.beside.WmPairAnswer.{WmPairAnswer}
+use Rattle.promises.specs.Determined.Forms.{DeterminesFour, DeterminesFour5}
 
 -- One answer and one end state alone meet the promise of a write
 pub wm-writes-determined : (wanted : Judged (List ℕ)) (old : List ℕ) → Determines (λ (r : WmAnswer × List ℕ). WmWrites wanted old (r .1) (r .0))
@@ -35,6 +40,15 @@ wm-joins-determined wanted old a b p q =
 -- and of a call that is lent a state, with the state after it
 left-determined : {State Result : Type 0} (state : State) (result : Result) → Determines (λ (r : Result × State). (r .1 ≡ state) × (r .0 ≡ result))
 left-determined state result a b p q = let one = p .1 ∙ sym (q .1) in let two = p .0 ∙ sym (q .0) in λ i. (one i, two i)
+
+-- and of a call on the shared table, with the table, the store and the lent buffer after it
+wm-shares-determined : (t : SharedTable) (store : List ℕ) (call : Call) → DeterminesFour (WmShares t store call)
+wm-shares-determined t store call a b p q =
+    let one = p .shares .says ∙ sym (q .shares .says) in
+    let two = same-table (a .1) (b .1) (p .full) (q .full) (p .shares .table ∙ sym (q .shares .table)) in
+    let three = p .shares .stored ∙ sym (q .shares .stored) in
+    let four = p .shares .lent ∙ sym (q .shares .lent) in
+    λ i. (one i, two i, three i, four i)
 
 pub record Wakemiono : Type 0 where
   wm-walk : Determines1 wm-walk
@@ -78,6 +92,10 @@ pub record Wakemiono : Type 0 where
   wm-stream-part : DeterminesBoth2 wm-stream-part
   wm-stream-finish : DeterminesBoth1 wm-stream-finish
   wm-hints-on-branches : Determines1 wm-hints-on-branches
+  wm-table-start : Determines1 wm-table-start
+  wm-table-open : DeterminesFour5 wm-table-open
+  wm-table-function-name : DeterminesBoth6 wm-table-function-name
+  wm-table-close : DeterminesBoth4 wm-table-close
 
 pub determined : Wakemiono
 determined =
@@ -123,4 +141,13 @@ determined =
       wm-stream-part = λ before part. left-determined _ _;
       wm-stream-finish = λ before. left-determined _ _;
       wm-hints-on-branches = λ bytes. equal-determined _;
+      wm-table-start = λ bytes a b p q. same-table a b (p .1) (q .1) (p .0 ∙ sym (q .0));
+      wm-table-open = λ t store customer payload work. wm-shares-determined _ _ _;
+      wm-table-function-name = λ t store customer hold function out a b p q.
+          let one = p .says ∙ sym (q .says) in
+          let two = p .lent ∙ sym (q .lent) in
+          λ i. (one i, two i);
+      wm-table-close = λ t store customer hold a b p q.
+          let all = wm-shares-determined t store (closing customer hold) (a .0, a .1, store, []) (b .0, b .1, store, []) p q in
+          ap (λ (r : WmAnswer × SharedTable × List ℕ × List ℕ). (r .0, r .1)) all;
     }
