@@ -77,6 +77,10 @@ one = hex "01 04 01 00 01 61"
 abbrev padded : List ℕ
 padded = hex "01 85 00 01 80 00 01 61"
 
+-- and with a local called x
+abbrev withLocal : List ℕ
+withLocal = hex "01 04 01 00 01 61 02 06 01 00 01 00 01 78"
+
 abbrev two : List ℕ
 two = hex "01 04 01 00 01 62"
 
@@ -140,12 +144,26 @@ sizes : (tells (replicate 512 255) (opens 3 [] [] ∷ []) ≡ is (granted 0 [] �
 unfolding keptOf blockOf hex digit number groups shortest fewest utf8 characters character completes sized name remaining lookup size mapTable rows table known knownKind contents subsections payload judgeNames writePart writeRows writeTable unlessEmpty keepRows bare writeContent writeSubsections rewriteNames canonicalNames answer asked askAt ask asTold need extra words littleEndian check right allRight body seal scatterIn scatter cut join bodies gather over desk after firstTrue withHold withWork front replied reply names functionName nameIn unused joined released leading newly placed openedIn judged askedAt closedAt fitting lent step started lengthFits blocks rowsRight find reach taken startsFree firstRun paste same
 sizes = (refl, refl, refl, refl)
 
--- two encodings of one payload by two customers; the eighth hold and the ninth, whose work buffer is judged before; closed and opened again
-holds : (tells (free 1) (opens 0 one work ∷ opens 1 padded (replicate 8 9) ∷ asks 0 0 0 out ∷ asks 1 0 0 out ∷ []) ≡ is (granted 0 one ∷ granted 0 (one ++ (9 ∷ 9 ∷ [])) ∷ found 1 (0x61 ∷ []) ∷ found 1 (0x61 ∷ []) ∷ []) ((0, 2, 6) ∷ []) blockOne)
-    × (tells (free 1) (eightHolds ++ (opens 2 one work ∷ opens 2 one (replicate 5 9) ∷ [])) ≡ is (eightGranted ++ (refusal 25 0 work ∷ refusal 13 6 (replicate 5 9) ∷ [])) ((0, 8, 0) ∷ []) (free 1))
+-- two encodings of one payload by two customers
+encodings : tells (free 1) (opens 0 one work ∷ opens 1 padded (replicate 8 9) ∷ asks 0 0 0 out ∷ asks 1 0 0 out ∷ []) ≡ is (granted 0 one ∷ granted 0 (one ++ (9 ∷ 9 ∷ [])) ∷ found 1 (0x61 ∷ []) ∷ found 1 (0x61 ∷ []) ∷ []) ((0, 2, 6) ∷ []) blockOne
+unfolding keptOf blockOf hex digit number groups shortest fewest utf8 characters character completes sized name remaining lookup size mapTable rows table known knownKind contents subsections payload judgeNames writePart writeRows writeTable unlessEmpty keepRows bare writeContent writeSubsections rewriteNames canonicalNames answer asked askAt ask asTold need extra words littleEndian check right allRight body seal scatterIn scatter cut join bodies gather over desk after firstTrue withHold withWork front replied reply names functionName nameIn unused joined released leading newly placed openedIn judged askedAt closedAt fitting lent step started lengthFits blocks rowsRight find reach taken startsFree firstRun paste same
+encodings = refl
+
+-- equal function names and other locals: two payloads
+alike : tells (free 2) (opens 0 one work ∷ opens 1 withLocal (replicate 14 9) ∷ asks 0 0 0 out ∷ asks 1 0 0 out ∷ []) ≡ is (granted 0 one ∷ granted 0 withLocal ∷ found 1 (0x61 ∷ []) ∷ found 1 (0x61 ∷ []) ∷ []) ((0, 1, 6) ∷ (1, 1, 14) ∷ []) (blockOne ++ blockOf withLocal (hex "04 DD 04 06"))
+unfolding keptOf blockOf hex digit number groups shortest fewest utf8 characters character completes sized name remaining lookup size mapTable rows table known knownKind contents subsections payload judgeNames writePart writeRows writeTable unlessEmpty keepRows bare writeContent writeSubsections rewriteNames canonicalNames answer asked askAt ask asTold need extra words littleEndian check right allRight body seal scatterIn scatter cut join bodies gather over desk after firstTrue withHold withWork front replied reply names functionName nameIn unused joined released leading newly placed openedIn judged askedAt closedAt fitting lent step started lengthFits blocks rowsRight find reach taken startsFree firstRun paste same
+alike = refl
+
+-- the eighth hold and the ninth, whose work buffer is judged before; closed and opened again
+holds : (tells (free 1) (eightHolds ++ (opens 2 one work ∷ opens 2 one (replicate 5 9) ∷ [])) ≡ is (eightGranted ++ (refusal 25 0 work ∷ refusal 13 6 (replicate 5 9) ∷ [])) ((0, 8, 0) ∷ []) (free 1))
     × (tells (free 2) (opens 0 [] [] ∷ opens 0 one work ∷ shuts 0 0 ∷ opens 0 one work ∷ []) ≡ is (granted 0 [] ∷ granted 1 one ∷ closed ∷ granted 0 one ∷ []) ((1, 2, 6) ∷ []) (free 1 ++ blockOne))
 unfolding keptOf blockOf hex digit number groups shortest fewest utf8 characters character completes sized name remaining lookup size mapTable rows table known knownKind contents subsections payload judgeNames writePart writeRows writeTable unlessEmpty keepRows bare writeContent writeSubsections rewriteNames canonicalNames answer asked askAt ask asTold need extra words littleEndian check right allRight body seal scatterIn scatter cut join bodies gather over desk after firstTrue withHold withWork front replied reply names functionName nameIn unused joined released leading newly placed openedIn judged askedAt closedAt fitting lent step started lengthFits blocks rowsRight find reach taken startsFree firstRun paste same
-holds = (refl, refl, refl)
+holds = (refl, refl)
+
+-- the hold of another customer
+strangers : tells (free 1) (opens 0 one work ∷ shuts 1 0 ∷ asks 1 0 0 out ∷ asks 0 0 0 out ∷ []) ≡ is (granted 0 one ∷ refusal 24 0 [] ∷ refusal 24 0 out ∷ found 1 (0x61 ∷ []) ∷ []) ((0, 1, 6) ∷ []) blockOne
+unfolding keptOf blockOf hex digit number groups shortest fewest utf8 characters character completes sized name remaining lookup size mapTable rows table known knownKind contents subsections payload judgeNames writePart writeRows writeTable unlessEmpty keepRows bare writeContent writeSubsections rewriteNames canonicalNames answer asked askAt ask asTold need extra words littleEndian check right allRight body seal scatterIn scatter cut join bodies gather over desk after firstTrue withHold withWork front replied reply names functionName nameIn unused joined released leading newly placed openedIn judged askedAt closedAt fitting lent step started lengthFits blocks rowsRight find reach taken startsFree firstRun paste same
+strangers = refl
 
 -- users: one of two closes; the last closes, and the block is used again
 users : (tells (free 1) (opens 0 one work ∷ opens 1 one work ∷ shuts 0 0 ∷ asks 1 0 0 out ∷ []) ≡ is (granted 0 one ∷ granted 0 one ∷ closed ∷ found 1 (0x61 ∷ []) ∷ []) ((0, 1, 6) ∷ []) blockOne)
