@@ -2,12 +2,12 @@
  *
  * Every call takes any bytes, ends, and asks no prior check. A byte slice is a pointer and a length; a length of 0 may
  * come with any non-null pointer. Every answer is one struct by value, or, to a yes or no, the number 1 or 0, so that no
- * call needs a buffer for it. A call reads what is lent to it and nothing else, and stores nothing but into an output or
- * the state of a stream; slices may not overlap these, nor two outputs each other.
+ * call needs a buffer for it. A call reads what is lent to it and nothing else, and stores nothing but into an output, the
+ * state of a stream, or a table and its store; slices may not overlap these, nor any two of them each other.
  *
  *   kind            code             offset                    length
  *   WM_NONE      0  0                0                         0
- *   WM_FOUND     1  0 (section: id)  offset in what was lent   length in bytes (walk: count of sections)
+ *   WM_FOUND     1  0 (section: id)  offset in what was lent   length in bytes (walk: count of sections; open: the hold)
  *   WM_REFUSED   2  refusal number   where the fault lies      0
  *   WM_UNLIKELY  3  0                0                         0      (hint questions only)
  *   WM_LIKELY    4  0                0                         0      (hint questions only)
@@ -40,8 +40,14 @@
  *   22  no markers: lists of unequal length                                 the shorter's length
  *       else an end outside the payload                                     the length of the lists
  *       else a list that does not rise, or an offset not below the end      the first such position in the lists, from 0
+ *   23  no such customer: above 15                                          0
+ *   24  hold not open, or above 7                                           0
+ *   25  open with all eight holds of the customer in use                    0
+ *   26  payload not stored yet, and no run of free blocks long enough       0
+ *   27  wrong check of a needed block, or stored payload not accepted       0
  *   28  a part that takes a stream above 18,446,744,073,709,551,615 bytes   0
  *   29  import kind above 3, or limits flag above 1                         that byte
+ *   30  store of another length than at the start, or not 1 to 128 blocks   0
  *
  * 16 is given by no call: the program that lists has it for its own input.
  */
@@ -415,6 +421,46 @@ wm_answer wm_stream_part(wm_stream *stream, const uint8_t *part, size_t part_len
 /* There are no more parts: FOUND with offset 0, length = count of sections, and where the payloads of `name`, of
  * `metadata.code.branch_hint` and of `branchHints` lie. Refusals: 18, or the walk's. */
 wm_stream_answer wm_stream_finish(wm_stream *stream);
+
+/* A table of name payloads that customers share. There are 16 customers, 0 to 15, with 8 holds each, 0 to 7. A customer opens
+ * a payload, of the first edition, and gets their lowest unused hold; asks function names through it; and closes it. Each
+ * payload is stored in its canonical form, and equal ones are stored once, whoever opens them; the last close of a payload
+ * frees its blocks, which are used again. What a customer is answered depends on nothing that others do, but for refusal 26;
+ * and no answer says where something stands in the store.
+ *
+ * The store is memory of 1 to 128 blocks of 512 bytes, which the caller lends at each call as the call before left it; at the
+ * start it may hold anything. A block has 508 bytes of payload, zeros behind the payload's end, then the check: the wrapping
+ * sum of those 127 little-endian words, as such a word. A payload takes the first run of free blocks that is long enough, an
+ * empty one a block; free blocks keep what they hold. Checks are for what something else wrote to the store: an open needs all
+ * used blocks, a question those of its payload, a close none.
+ *
+ * What is known between two calls is the table, which is the caller's and is lent by a pointer to memory that is aligned for
+ * uint64_t. Its fields are the library's own: copy it as you like, with its store or from one place to another, but never go
+ * on with two copies over one store, since each would give away the blocks of the other. There is no padding in it, and a
+ * question or a refused call leaves all of its bytes as they were. A call on a table that nobody started, whatever bytes it
+ * has, ends and does nothing undefined.
+ *
+ * A refusal changes neither table nor store nor buffers, save that after 27 and 26 an open leaves the canonical payload at
+ * the front of the work buffer, as where it is granted. */
+
+typedef struct { uint8_t holds[128]; uint8_t users[128]; uint32_t sizes[128]; uint64_t bytes; } wm_table;
+
+/* A table over a store of that length, with nothing stored. It refuses nothing, and the store is not looked at: calls on a
+ * store that is not 1 to 128 blocks, or has another length than here, are refused 30. */
+wm_table wm_table_start(uint64_t store_len);
+/* A customer opens a payload: FOUND with offset 0, length = the hold. The canonical payload stands at the front of work, and
+ * what is behind it is unchanged; a work buffer as long as the payload is always enough. The store is written where the
+ * payload was not stored yet, in the blocks that it takes. Refusals in this order: 30; 23; the payload's; 13 with the length
+ * that work needs; 25; 27; 26. */
+wm_answer wm_table_open(wm_table *table, uint8_t *store, size_t store_len, uint32_t customer,
+                        const uint8_t *payload, size_t payload_len, uint8_t *work, size_t work_len);
+/* A function's name through a hold: FOUND with offset 0, length = bytes of the name, which is copied to the front of out; NONE
+ * without a name. An output as long as the payload that was opened is always enough. Refusals in this order: 30; 23; 24; 27;
+ * 13 with the length of the name. */
+wm_answer wm_table_function_name(const wm_table *table, const uint8_t *store, size_t store_len, uint32_t customer, uint32_t hold,
+                                 uint32_t function, uint8_t *out, size_t out_len);
+/* A customer closes a hold: FOUND with offset 0, length 0. Refusals in this order: 30; 23; 24. */
+wm_answer wm_table_close(wm_table *table, const uint8_t *store, size_t store_len, uint32_t customer, uint32_t hold);
 
 #ifdef __cplusplus
 }

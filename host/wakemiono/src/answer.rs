@@ -8,8 +8,8 @@ use crate::ffi::{
     Answer, WhyAnswer, FOUND, LIKELY, NONE, NO_ENTRY, NO_GROUP, NO_SUBSECTION, REFUSED, UNLIKELY,
 };
 use crate::{
-    Hint, Marked, PairRefusal, Place, Reason, Refusal, Section, Supplied, SuppliedBytes, Walked,
-    Whose, Why,
+    Hint, Hold, Marked, PairRefusal, Place, Reason, Refusal, Section, SharedTable, Supplied,
+    SuppliedBytes, Walked, Whose, Why,
 };
 
 impl Answer {
@@ -91,6 +91,27 @@ impl Answer {
             taken if taken == part_len => Ok(()),
             _ => self.misfit(),
         }
+    }
+
+    /// The hold that a customer was given.
+    pub(crate) fn hold(self) -> Result<Hold, Refusal> {
+        match u32::try_from(self.length()?) {
+            Ok(hold) if hold < SharedTable::HOLDS => Ok(Hold(hold)),
+            _ => self.misfit(),
+        }
+    }
+
+    /// How many bytes of a name were copied into an output of a length, or none.
+    pub(crate) fn copied(self, out_len: usize) -> Result<Option<usize>, Refusal> {
+        match self.is_found()? {
+            true => self.written(out_len).map(Some),
+            false => Ok(None),
+        }
+    }
+
+    /// Whether a hold was closed, of which nothing more is said.
+    pub(crate) fn closed(self) -> Result<(), Refusal> {
+        self.taken(0)
     }
 
     /// The hint, or none.
@@ -524,6 +545,52 @@ mod tests {
     }
 
     #[test]
+    fn a_hold_is_one_of_eight() {
+        assert_eq!(answer(FOUND, 0, 0, 7).hold(), Ok(Hold(7)));
+        let refusal = answer(REFUSED, 25, 0, 0).hold().unwrap_err();
+        assert_eq!((refusal.number(), refusal.offset()), (25, 0));
+    }
+
+    #[test]
+    #[should_panic(expected = "is it of another version?")]
+    fn there_is_no_ninth_hold() {
+        let _ = answer(FOUND, 0, 0, 8).hold();
+    }
+
+    #[test]
+    #[should_panic(expected = "is it of another version?")]
+    fn an_open_gives_a_hold_or_is_refused() {
+        let _ = answer(NONE, 0, 0, 0).hold();
+    }
+
+    #[test]
+    fn a_name_is_copied_or_there_is_none() {
+        assert_eq!(answer(FOUND, 0, 0, 4).copied(4), Ok(Some(4)));
+        assert_eq!(answer(FOUND, 0, 0, 0).copied(0), Ok(Some(0)));
+        assert_eq!(answer(NONE, 0, 0, 0).copied(4), Ok(None));
+        let refusal = answer(REFUSED, 13, 5, 0).copied(4).unwrap_err();
+        assert_eq!((refusal.number(), refusal.offset()), (13, 5));
+    }
+
+    #[test]
+    #[should_panic(expected = "is it of another version?")]
+    fn no_more_of_a_name_is_copied_than_there_is_room() {
+        let _ = answer(FOUND, 0, 0, 5).copied(4);
+    }
+
+    #[test]
+    fn a_hold_is_closed_or_not() {
+        assert_eq!(answer(FOUND, 0, 0, 0).closed(), Ok(()));
+        assert_eq!(answer(REFUSED, 24, 0, 0).closed().unwrap_err().number(), 24);
+    }
+
+    #[test]
+    #[should_panic(expected = "is it of another version?")]
+    fn of_a_close_nothing_more_is_said() {
+        let _ = answer(FOUND, 0, 0, 1).closed();
+    }
+
+    #[test]
     fn a_part_is_taken_as_a_whole() {
         assert_eq!(answer(FOUND, 0, 0, 4).taken(4), Ok(()));
         let refusal = answer(REFUSED, 28, 0, 0).taken(4).unwrap_err();
@@ -638,7 +705,7 @@ mod tests {
 
     #[test]
     fn every_reason_has_its_number() {
-        for number in (1..=15).chain([17, 18, 22, 28]) {
+        for number in (1..=15).chain(17..=30) {
             let refusal = answer(REFUSED, number, 7, 0).length().unwrap_err();
             assert_eq!((refusal.number(), refusal.offset()), (number, 7));
             assert_eq!(answer(REFUSED, number, 7, 0).hint().unwrap_err(), refusal);

@@ -1,5 +1,6 @@
 //! The C calls, each behind a safe function on slices. All `unsafe` code of this crate stands here,
-//! and, of the calls on two name payloads and on a module that arrives, in [`pairs`] and [`stream`].
+//! and, of the calls on two name payloads, on a module that arrives and on a shared table, in
+//! [`pairs`], [`stream`] and [`table`].
 //!
 //! What every block relies on, as the header `wakemiono.h` states it:
 //!
@@ -13,6 +14,7 @@
 
 pub(crate) mod pairs;
 pub(crate) mod stream;
+pub(crate) mod table;
 
 use crate::{First, FunctionIndex, Wider};
 

@@ -1,5 +1,5 @@
-//! One type for each index space and for the offsets of each edition of hints, so that none is taken
-//! for another.
+//! One type for each index space, for the offsets of each edition of hints, and for the customers and
+//! holds of a shared table, so that none is taken for another.
 
 use std::fmt;
 
@@ -190,4 +190,46 @@ number! {
     /// OldHints::new(&[]).hint(FunctionIndex(3), CodeOffset(17));
     /// ```
     InstructionOffset
+}
+
+number! {
+    /// Which customer of a [`SharedTable`](crate::SharedTable): 0 to 15. Any number may be given, and
+    /// one above 15 is refused as [`NoCustomer`](crate::Reason::NoCustomer).
+    ///
+    /// ```
+    /// use wakemiono::{Customer, NamePayload, Reason, SharedTable};
+    ///
+    /// let mut table = SharedTable::new(1)?;
+    /// assert!(table.open(Customer(15), NamePayload::new(&[])).is_ok());
+    /// let refusal = table.open(Customer(16), NamePayload::new(&[])).unwrap_err();
+    /// assert_eq!(refusal.reason(), Reason::NoCustomer);
+    /// # Ok::<(), wakemiono::Refusal>(())
+    /// ```
+    Customer
+}
+
+number! {
+    /// Which hold of a customer: 0 to 7. [`SharedTable::open`](crate::SharedTable::open) gives it, and
+    /// it is that customer's alone, up to its close. Any number may be given, and one that is not open
+    /// is refused as [`HoldNotOpen`](crate::Reason::HoldNotOpen).
+    ///
+    /// ```
+    /// use wakemiono::{Customer, Hold, NamePayload, SharedTable};
+    ///
+    /// let mut table = SharedTable::new(1)?;
+    /// let hold = table.open(Customer(2), NamePayload::new(&[]))?;
+    /// assert_eq!(hold, Hold(0));
+    /// assert_eq!(table.close(Customer(3), hold).unwrap_err().number(), 24);
+    /// # Ok::<(), wakemiono::Refusal>(())
+    /// ```
+    ///
+    /// It is not taken for a customer, nor that for it:
+    ///
+    /// ```compile_fail,E0308
+    /// use wakemiono::{Customer, Hold, SharedTable};
+    ///
+    /// SharedTable::new(1)?.close(Hold(0), Customer(2));
+    /// # Ok::<(), wakemiono::Refusal>(())
+    /// ```
+    Hold
 }

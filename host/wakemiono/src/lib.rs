@@ -39,12 +39,15 @@
 //! [`Stream`], into which [`std::io::copy`] writes. At the finish it says what the walk says of all parts
 //! joined, and where the payloads lie.
 //!
+//! Payloads that many customers have are stored once in a [`SharedTable`]: each [`Customer`] opens them,
+//! asks through a [`Hold`] of their own, and sees nothing of the others.
+//!
 //! - Any bytes may be lent. No call asks a prior check, and bad input gets a [`Refusal`] that says
 //!   what is wrong and where.
 //! - What is found is borrowed from the very bytes that were lent; [`offset_in`] says where it
 //!   lies.
 //! - An output is written only by a call that succeeds, at its front; its other bytes are
-//!   unchanged.
+//!   unchanged. [`SharedTable::open_with`] says when its work buffer is written.
 //!
 //! The library is linked as the archive `libwakemiono.a`, for x86-64. A call panics where that
 //! archive gives an answer that its header does not allow, and so is not the one that belongs here.
@@ -66,6 +69,7 @@ mod name_payload;
 mod old_hints;
 mod pair;
 mod refusal;
+mod shared_table;
 mod stream;
 mod whose;
 mod why;
@@ -73,8 +77,8 @@ mod wider;
 
 pub use edition::{Edition, First, Wider};
 pub use index::{
-    CodeOffset, DataIndex, ElementIndex, FieldIndex, FunctionIndex, GlobalIndex, InstructionOffset,
-    LabelIndex, LocalIndex, MemoryIndex, TableIndex, TagIndex, TypeIndex,
+    CodeOffset, Customer, DataIndex, ElementIndex, FieldIndex, FunctionIndex, GlobalIndex, Hold,
+    InstructionOffset, LabelIndex, LocalIndex, MemoryIndex, TableIndex, TagIndex, TypeIndex,
 };
 pub use lists::{function_names, function_names_into};
 pub use markers::{Marked, Markers};
@@ -85,6 +89,7 @@ pub use name_payload::NamePayload;
 pub use old_hints::OldHints;
 pub use pair::Pair;
 pub use refusal::{Reason, Refusal};
+pub use shared_table::SharedTable;
 pub use stream::{Place, Stream, Walked};
 pub use whose::{PairRefusal, Supplied, SuppliedBytes, SuppliedName, Whose};
 pub use why::Why;

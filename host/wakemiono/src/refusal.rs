@@ -76,10 +76,25 @@ pub enum Reason {
     /// it is the length of the lists; else one of the lists does not rise, or an offset is not below
     /// the end, and it is the first such position in the lists, counted from 0.
     NotMarkers = 22,
+    /// 23: there is no such customer of a [`SharedTable`](crate::SharedTable): the number is above 15.
+    NoCustomer = 23,
+    /// 24: the hold is not open for that customer, or is above 7.
+    HoldNotOpen = 24,
+    /// 25: all eight holds of the customer are in use.
+    AllHoldsOpen = 25,
+    /// 26: the payload is not stored yet, and no run of free blocks is long enough for it.
+    NoRoom = 26,
+    /// 27: the check of a block that is needed is wrong, or the payload of a hold is no longer accepted.
+    /// A [`SharedTable`](crate::SharedTable) lets nothing else write to its store; the calls of the C
+    /// header are lent one.
+    StoreDamaged = 27,
     /// 28: a part takes the stream above 18,446,744,073,709,551,615 bytes.
     StreamTooLong = 28,
     /// 29: an import's kind is above 3, or the flag of its limits above 1. The offset is that of the byte.
     UnknownImport = 29,
+    /// 30: the store has another length than at the start of the table, or not 1 to 128 blocks of 512
+    /// bytes.
+    OtherStore = 30,
 }
 
 impl Reason {
@@ -113,8 +128,14 @@ impl Reason {
         Reason::UnreadableCode,
         Reason::NotOnABranch,
         Reason::NotMarkers,
+        Reason::NoCustomer,
+        Reason::HoldNotOpen,
+        Reason::AllHoldsOpen,
+        Reason::NoRoom,
+        Reason::StoreDamaged,
         Reason::StreamTooLong,
         Reason::UnknownImport,
+        Reason::OtherStore,
     ];
 
     /// The refusal number.
@@ -201,11 +222,31 @@ impl Reason {
                 "the code was changed after its hints were written, or a tool put them beside the branch, as wabt does before a folded one: strip them, or write them anew"
             }
             Reason::NotMarkers => "the markers are not those of the payload: make them anew",
+            Reason::NoCustomer => {
+                "customers are 0 to 15: number them so, and start another table for more than sixteen"
+            }
+            Reason::HoldNotOpen => {
+                "the hold was closed, or is another customer's: use the one that the open gave, until \
+                 its close"
+            }
+            Reason::AllHoldsOpen => "close a hold that is no longer asked, and open again",
+            Reason::NoRoom => {
+                "close holds, so that payloads without users give their blocks back, or start a table \
+                 over a larger store"
+            }
+            Reason::StoreDamaged => {
+                "something else wrote to the store: start another table over it, and open the payloads \
+                 again"
+            }
             Reason::StreamTooLong => {
                 "more bytes than can be counted: finish, and begin another stream"
             }
             Reason::UnknownImport => {
                 "an import of a later version of WebAssembly, or a damaged file: its hints cannot be checked"
+            }
+            Reason::OtherStore => {
+                "a store is 1 to 128 blocks of 512 bytes: lend the one that the table was started over, \
+                 all of it"
             }
         }
     }
@@ -256,11 +297,23 @@ impl fmt::Display for Reason {
                 "the lists are no markers: their lengths differ, the end lies outside the payload, \
                  or a position does not rise or is not below the end"
             }
+            Reason::NoCustomer => "there is no such customer: the number is above 15",
+            Reason::HoldNotOpen => "the hold is not open for that customer, or is above 7",
+            Reason::AllHoldsOpen => "all eight holds of the customer are in use",
+            Reason::NoRoom => {
+                "the payload is not stored yet, and no run of free blocks is long enough for it"
+            }
+            Reason::StoreDamaged => {
+                "the check of a needed block is wrong, or the stored payload is no longer accepted"
+            }
             Reason::StreamTooLong => {
                 "a part takes the stream above 18,446,744,073,709,551,615 bytes"
             }
             Reason::UnknownImport => {
                 "an import's kind is above 3, or the flag of its limits above 1"
+            }
+            Reason::OtherStore => {
+                "the store has another length than at the start, or not 1 to 128 blocks of 512 bytes"
             }
         })
     }
@@ -273,7 +326,8 @@ enum Lent {
     Lists,
 }
 
-/// A refusal: what is wrong with what was lent, and where. Nothing that was lent has changed.
+/// A refusal: what is wrong with what was lent, and where. Nothing that was lent has changed, but for
+/// the work buffer of [`SharedTable::open_with`](crate::SharedTable::open_with) after two of them.
 ///
 /// Offsets count from the start of what was lent: of the payload, or of the module where the
 /// question was put to a [`Module`](crate::Module).
@@ -361,8 +415,8 @@ impl Refusal {
     /// assert_eq!(Module::new(module).module_name(), Err(refusal.in_module(place)));
     /// ```
     ///
-    /// A refusal whose offset counts no bytes of a payload stays as it is: one of lists, of an output
-    /// or of a stream.
+    /// A refusal whose offset counts no bytes of a payload stays as it is: one of lists, of an output,
+    /// of a stream or of a shared table.
     ///
     /// ```
     /// use wakemiono::{NamePayload, Place};
@@ -381,7 +435,13 @@ impl Refusal {
                 | Reason::SubsectionTooLong
                 | Reason::NotMarkers
                 | Reason::StreamFinished
-                | Reason::StreamTooLong,
+                | Reason::NoCustomer
+                | Reason::HoldNotOpen
+                | Reason::AllHoldsOpen
+                | Reason::NoRoom
+                | Reason::StoreDamaged
+                | Reason::StreamTooLong
+                | Reason::OtherStore,
                 _,
             ) => self,
             _ => Refusal::in_bytes(self.reason, payload.offset.saturating_add(self.offset)),
@@ -427,7 +487,13 @@ impl fmt::Display for Refusal {
                 Reason::ListsDisagree
                 | Reason::SubsectionTooLong
                 | Reason::StreamFinished
-                | Reason::StreamTooLong,
+                | Reason::NoCustomer
+                | Reason::HoldNotOpen
+                | Reason::AllHoldsOpen
+                | Reason::NoRoom
+                | Reason::StoreDamaged
+                | Reason::StreamTooLong
+                | Reason::OtherStore,
                 _,
             ) => return write!(f, "{}", self.reason),
             (Reason::OutputTooShort, _) => {

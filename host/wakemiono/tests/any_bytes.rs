@@ -9,9 +9,9 @@ use common::{
     ONLY_WIDER, P, SMALL,
 };
 use wakemiono::{
-    offset_in, CodeOffset, First, FunctionIndex, Hints, LocalIndex, Marked, Metadata, Module, Name,
-    NamePayload, Pair, PairRefusal, Place, Refusal, Stream, SuppliedName, Walked, Whose, Why,
-    Wider,
+    offset_in, CodeOffset, Customer, First, FunctionIndex, Hints, Hold, LocalIndex, Marked,
+    Metadata, Module, Name, NamePayload, Pair, PairRefusal, Place, Refusal, SharedTable, Stream,
+    SuppliedName, Walked, Whose, Why, Wider,
 };
 
 type Answers<'a> = Vec<Option<&'a [u8]>>;
@@ -134,6 +134,30 @@ fn markers_agree(bytes: &[u8]) {
     }
 }
 
+/// A payload is opened unless it is refused; its canonical form, opened by another customer, is not
+/// stored again; and through both holds it gives the names that it has.
+fn table_agrees(bytes: &[u8]) {
+    let payload = NamePayload::new(bytes);
+    let mut table = SharedTable::new(2).expect("a store may have two blocks");
+    let (one, other) = (Customer(3), Customer(4));
+    let opened = table.open(one, payload);
+    assert_eq!(opened.map(drop), payload.judge());
+    let Ok(canonical) = payload.to_canonical() else {
+        assert_eq!(table.store(), [0; 2 * SharedTable::BLOCK]);
+        return;
+    };
+    let store = table.store().to_vec();
+    assert_eq!(store[..canonical.len()], canonical);
+    let opened = table.open(other, NamePayload::new(&canonical));
+    assert_eq!((opened, table.store()), (Ok(Hold(0)), &store[..]));
+    for function in (0..5).map(FunctionIndex) {
+        let expected = payload.function_name(function).expect("it is accepted");
+        let expected = Ok(expected.map(|name| name.as_bytes().to_vec()));
+        assert_eq!(table.function_name(one, Hold(0), function), expected);
+        assert_eq!(table.function_name(other, Hold(0), function), expected);
+    }
+}
+
 /// What a question gets from a pair, as whose it is and what: a name, or a refusal.
 type Said<'a> = Result<Option<(Whose, Name<'a>)>, (Option<Whose>, Refusal)>;
 
@@ -200,6 +224,7 @@ fn names_agree_in_both(bytes: &[u8]) {
     editions_agree(bytes);
     reasons_agree(bytes);
     markers_agree(bytes);
+    table_agrees(bytes);
 }
 
 fn metadata_agree(bytes: &[u8]) {
@@ -477,6 +502,16 @@ fn nothing_at_all_in_pairs() {
     assert_eq!(Pair::new(first, first).join_into(&mut []), Ok(0));
     assert_eq!(Pair::new(wider, wider).join_into(&mut []), Ok(0));
     assert_eq!(Pair::new(wider, wider).kept(12), Ok(None));
+}
+
+#[test]
+fn nothing_at_all_in_a_table() {
+    let mut table = SharedTable::new(1).expect("a store may have one block");
+    let (customer, hold) = (Customer(0), Hold(0));
+    let opened = table.open_with(customer, NamePayload::new(&[]), &mut []);
+    assert_eq!(opened, Ok(hold));
+    let name = table.function_name_into(customer, hold, FunctionIndex(0), &mut []);
+    assert_eq!(name, Ok(None));
 }
 
 #[test]

@@ -5,7 +5,8 @@ const HEADER: &str = include_str!("../../../include/wakemiono.h");
 const DECLARED: &str = concat!(
     include_str!("../src/ffi.rs"),
     include_str!("../src/ffi/pairs.rs"),
-    include_str!("../src/ffi/stream.rs")
+    include_str!("../src/ffi/stream.rs"),
+    include_str!("../src/ffi/table.rs")
 );
 
 /// What stands between two marks, the first time that the opening one occurs.
@@ -34,6 +35,8 @@ fn parameter(c: &str) -> String {
         "uint32_t" => "u32",
         "uint64_t" => "u64",
         "wm_stream *" => "*mut State",
+        "wm_table *" => "*mut Table",
+        "const wm_table *" => "*const Table",
         other => panic!("the header has a type that is not known here: {other}"),
     };
     match &c[at..] {
@@ -53,6 +56,7 @@ fn answer(c: &str) -> &'static str {
         "wm_pair_answer" => "PairAnswer",
         "wm_stream" => "State",
         "wm_stream_answer" => "StreamAnswer",
+        "wm_table" => "Table",
         "uint32_t" => "u32",
         other => panic!("the header has an answer that is not known here: {other}"),
     }
@@ -93,7 +97,7 @@ fn in_crate() -> Vec<String> {
 #[test]
 fn every_call_is_declared_as_the_header_has_it() {
     assert_eq!(in_crate(), in_header());
-    assert_eq!(in_crate().len(), 95);
+    assert_eq!(in_crate().len(), 99);
 }
 
 /// The fields of a struct of the header, as Rust declares them.
@@ -115,10 +119,14 @@ fn the_structs_are_declared_as_the_header_has_them() {
         ("} wm_pair_answer;", "struct PairAnswer {"),
         ("} wm_stream;", "struct State {"),
         ("} wm_stream_answer;", "struct StreamAnswer {"),
+        ("} wm_table;", "struct Table {"),
     ] {
         let fields = fields(c);
-        let declared = between(DECLARED, rust, "}").replace("pub(crate) ", "");
-        let declared = declared.replace("REST", between(DECLARED, "const REST: usize = ", ";"));
+        let mut declared = between(DECLARED, rust, "}").replace("pub(crate) ", "");
+        for count in ["REST", "PLACES"] {
+            let number = between(DECLARED, &format!("const {count}: usize = "), ";");
+            declared = declared.replace(count, number);
+        }
         let declared: Vec<&str> = declared.split_terminator(',').map(str::trim).collect();
         assert_eq!(declared[..fields.len()], fields);
         assert_eq!(declared[fields.len()..].concat(), "");

@@ -8,8 +8,8 @@ use std::path::Path;
 
 use common::{custom, module, section, HINTS_NAME};
 use wakemiono::{
-    function_names, function_names_into, FunctionIndex, Hints, Metadata, Module, NamePayload,
-    OldHints, Pair, PairRefusal, Reason, Refusal, Whose,
+    function_names, function_names_into, Customer, FunctionIndex, Hints, Hold, Metadata, Module,
+    NamePayload, OldHints, Pair, PairRefusal, Reason, Refusal, SharedTable, Whose,
 };
 
 #[track_caller]
@@ -191,6 +191,57 @@ fn of_streams() {
     assert_eq!(said, sentence);
 }
 
+#[test]
+fn of_shared_tables() {
+    let mut table = SharedTable::new(1).unwrap();
+    let (empty, named) = (
+        NamePayload::new(&[]),
+        NamePayload::new(&[0x00, 0x02, 0x01, 0x6D]),
+    );
+    says(
+        table.open(Customer(16), empty),
+        Reason::NoCustomer,
+        "there is no such customer: the number is above 15",
+    );
+    says(
+        table.close(Customer(15), Hold(0)),
+        Reason::HoldNotOpen,
+        "the hold is not open for that customer, or is above 7",
+    );
+    says(
+        table.open_with(Customer(15), named, &mut []),
+        Reason::OutputTooShort,
+        "the output is shorter than needed: the needed length is 4",
+    );
+    for _ in 0..SharedTable::HOLDS {
+        table.open(Customer(15), empty).unwrap();
+    }
+    says(
+        table.open(Customer(15), empty),
+        Reason::AllHoldsOpen,
+        "all eight holds of the customer are in use",
+    );
+    says(
+        table.open(Customer(0), named),
+        Reason::NoRoom,
+        "the payload is not stored yet, and no run of free blocks is long enough for it",
+    );
+    says(
+        SharedTable::new(129),
+        Reason::OtherStore,
+        "the store has another length than at the start, or not 1 to 128 blocks of 512 bytes",
+    );
+}
+
+/// No call of this crate can be made to give it, since nothing else writes to the store.
+#[test]
+fn of_a_damaged_store() {
+    let said = Reason::StoreDamaged.to_string();
+    let sentence =
+        "the check of a needed block is wrong, or the stored payload is no longer accepted";
+    assert_eq!(said, sentence);
+}
+
 /// A module of one function, `i32.const 1`, `if`, `end`, `end`, with one hint. The function's index
 /// stands at byte 47 of the module, the hint's offset at 49.
 #[test]
@@ -301,19 +352,13 @@ fn as_errors() {
 }
 
 #[test]
-fn their_numbers_are_1_to_15_17_to_22_28_and_29() {
+fn their_numbers_are_1_to_15_and_17_to_30() {
     let numbers: Vec<u32> = Reason::ALL.iter().map(|reason| reason.number()).collect();
-    assert_eq!(
-        numbers,
-        (1..=15)
-            .chain(17..=22)
-            .chain([28, 29])
-            .collect::<Vec<u32>>()
-    );
+    assert_eq!(numbers, (1..=15).chain(17..=30).collect::<Vec<u32>>());
     for reason in Reason::ALL {
         assert_eq!(Reason::from_number(reason.number()), Some(*reason));
     }
-    for none in [0, 16, 23, 27, 30, u32::MAX] {
+    for none in [0, 16, 31, u32::MAX] {
         assert_eq!(Reason::from_number(none), None);
     }
 }
