@@ -4,7 +4,7 @@ use std::ffi::{c_int, c_void};
 use std::mem::size_of;
 use std::ptr;
 
-use crate::library::Stream;
+use crate::library::{Stream, TableState};
 
 /// No page of a machine that runs x86-64 programs is larger.
 const PAGE: usize = 65_536;
@@ -74,6 +74,13 @@ impl Guarded {
         let place = self.last(size_of::<Stream>());
         // SAFETY: the room ends at a page, so this start is aligned; any bytes are a state, and they are borrowed.
         unsafe { &mut *place.as_mut_ptr().cast::<Stream>() }
+    }
+
+    /// The last table before the barred page.
+    pub fn last_table(&mut self) -> &mut TableState {
+        let place = self.last(size_of::<TableState>());
+        // SAFETY: the room ends at a page, so this start is aligned; any bytes are a table, and they are borrowed.
+        unsafe { &mut *place.as_mut_ptr().cast::<TableState>() }
     }
 
     /// Bytes copied to the very end.

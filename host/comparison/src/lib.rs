@@ -1,9 +1,11 @@
 //! Every C call of the library, compared with the second reader on the same bytes.
 //!
 //! A slice is lent at the very end of mapped memory, so that a read past it cannot pass; what was lent is compared
-//! before and after; an output, and the state of a stream, has guard bytes before it and nothing mapped behind it.
+//! before and after; an output, the state of a stream, a table and its store have guard bytes before them and nothing
+//! mapped behind them.
 //!
-//! A shared table is held to a model over whole histories of calls, in [`sharing`].
+//! A shared table is compared with the second reader's, and both are held to a model, over whole histories of calls, in
+//! [`sharing`].
 
 #![deny(missing_docs)]
 

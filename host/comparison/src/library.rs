@@ -101,6 +101,23 @@ pub struct ToldPlace {
     pub length: u64,
 }
 
+/// How many holds all customers of a table have, and how many blocks its store has at most.
+pub const PLACES: usize = 128;
+
+/// What a table knows between two calls. There is no padding in it, so that two are equal exactly if all their bytes are.
+#[derive(Clone, Debug, PartialEq, Eq)]
+#[repr(C)]
+pub struct TableState {
+    /// For each hold, one more than the first block of its payload, or 0; open, so that any table can be made up.
+    pub holds: [u8; PLACES],
+    /// For each block, how many holds have the payload open that begins there.
+    pub users: [u8; PLACES],
+    /// For each block, the length of that payload.
+    pub sizes: [u32; PLACES],
+    /// The length of the store at the start.
+    pub bytes: u64,
+}
+
 /// The kind of an answer without what was asked for.
 pub const NONE: u32 = 0;
 /// The kind of an answer with what was found, judged or written.
@@ -447,6 +464,34 @@ extern "C" {
     fn wm_stream_begin() -> Stream;
     fn wm_stream_part(stream: *mut Stream, part: *const u8, part_len: usize) -> Told;
     fn wm_stream_finish(stream: *mut Stream) -> ToldStream;
+    fn wm_table_start(store_len: u64) -> TableState;
+    fn wm_table_open(
+        table: *mut TableState,
+        store: *mut u8,
+        store_len: usize,
+        customer: u32,
+        payload: *const u8,
+        payload_len: usize,
+        work: *mut u8,
+        work_len: usize,
+    ) -> Told;
+    fn wm_table_function_name(
+        table: *const TableState,
+        store: *const u8,
+        store_len: usize,
+        customer: u32,
+        hold: u32,
+        function: u32,
+        out: *mut u8,
+        out_len: usize,
+    ) -> Told;
+    fn wm_table_close(
+        table: *mut TableState,
+        store: *const u8,
+        store_len: usize,
+        customer: u32,
+        hold: u32,
+    ) -> Told;
 }
 
 /// `wm_custom` of the header, on slices.
@@ -541,4 +586,65 @@ pub fn stream_part(stream: &mut Stream, part: &[u8]) -> Told {
 pub fn stream_finish(stream: &mut Stream) -> ToldStream {
     // SAFETY: any numbers are a state, and the call stores into it alone.
     unsafe { wm_stream_finish(stream) }
+}
+
+/// `wm_table_start` of the header.
+pub fn table_start(store_length: u64) -> TableState {
+    // SAFETY: nothing is lent.
+    unsafe { wm_table_start(store_length) }
+}
+
+/// `wm_table_open` of the header, on a table and slices.
+pub fn table_open(
+    table: &mut TableState,
+    store: &mut [u8],
+    customer: u32,
+    payload: &[u8],
+    work: &mut [u8],
+) -> Told {
+    // SAFETY: the table and the live slices do not overlap, any numbers are a table, and the call stores into the table,
+    // the store and the work buffer alone.
+    unsafe {
+        wm_table_open(
+            table,
+            store.as_mut_ptr(),
+            store.len(),
+            customer,
+            payload.as_ptr(),
+            payload.len(),
+            work.as_mut_ptr(),
+            work.len(),
+        )
+    }
+}
+
+/// `wm_table_function_name` of the header, on a table and slices.
+pub fn table_function_name(
+    table: &TableState,
+    store: &[u8],
+    customer: u32,
+    hold: u32,
+    function: u32,
+    out: &mut [u8],
+) -> Told {
+    // SAFETY: the output overlaps neither the table nor the live slice, any numbers are a table, and the call stores into
+    // the output alone.
+    unsafe {
+        wm_table_function_name(
+            table,
+            store.as_ptr(),
+            store.len(),
+            customer,
+            hold,
+            function,
+            out.as_mut_ptr(),
+            out.len(),
+        )
+    }
+}
+
+/// `wm_table_close` of the header, on a table and a slice.
+pub fn table_close(table: &mut TableState, store: &[u8], customer: u32, hold: u32) -> Told {
+    // SAFETY: the table overlaps the live slice nowhere, any numbers are a table, and the call stores into it alone.
+    unsafe { wm_table_close(table, store.as_ptr(), store.len(), customer, hold) }
 }

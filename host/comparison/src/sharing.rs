@@ -1,13 +1,13 @@
 //! Shared tables: what is put to one, the store and the buffers that are lent to it, and what is seen of it then.
 
 use std::collections::BTreeMap;
-use std::fmt::Debug;
 
 use crate::guarded::Guarded;
-use crate::library::{Told, FOUND, REFUSED};
-use crate::tally::{framed, guarded_output, GUARD};
+use crate::library::{TableState, Told, FOUND, REFUSED};
+use crate::tally::{framed, guarded_output, GUARD, GUARD_BYTE};
 
 pub mod history;
+pub mod makes;
 pub mod model;
 
 use history::{Damage, Event, History};
@@ -22,6 +22,11 @@ pub const BLOCK: usize = 512;
 pub const PAYLOAD: usize = 508;
 /// The most blocks that a store has.
 pub const MOST_BLOCKS: usize = 128;
+
+/// Whether a store may have so many bytes.
+pub fn is_store(length: usize) -> bool {
+    length % BLOCK == 0 && (1..=MOST_BLOCKS).contains(&(length / BLOCK))
+}
 
 /// More than any payload or buffer that is lent to a table takes.
 const ROOM: usize = (MOST_BLOCKS + 2) * BLOCK;
@@ -39,48 +44,16 @@ pub struct Asked {
 
 /// A table of any make, by the calls that there are on it.
 pub trait Table {
-    /// All that the table knows.
-    type State: Debug + PartialEq;
-
     /// A table over a store of a length.
     fn start(store_length: u64) -> Self;
-    /// What it knows now.
-    fn state(&mut self) -> Self::State;
+    /// What it knows now, as the header has it.
+    fn state(&mut self) -> TableState;
     /// Opens a payload.
     fn open(&mut self, store: &mut [u8], customer: u32, payload: &[u8], work: &mut [u8]) -> Told;
     /// Asks for the name of a function. It may change the table no more than the calls that are refused.
     fn function_name(&mut self, store: &[u8], asked: Asked, out: &mut [u8]) -> Told;
     /// Closes a hold.
     fn close(&mut self, store: &[u8], customer: u32, hold: u32) -> Told;
-}
-
-impl Table for second_reader::Table {
-    type State = Self;
-
-    fn start(store_length: u64) -> Self {
-        second_reader::table_start(store_length)
-    }
-
-    fn state(&mut self) -> Self {
-        self.clone()
-    }
-
-    fn open(&mut self, store: &mut [u8], customer: u32, payload: &[u8], work: &mut [u8]) -> Told {
-        second_reader::table_open(self, store, customer, payload, work).into()
-    }
-
-    fn function_name(&mut self, store: &[u8], asked: Asked, out: &mut [u8]) -> Told {
-        let Asked {
-            customer,
-            hold,
-            function,
-        } = asked;
-        second_reader::table_function_name(self, store, customer, hold, function, out).into()
-    }
-
-    fn close(&mut self, store: &[u8], customer: u32, hold: u32) -> Told {
-        second_reader::table_close(self, store, customer, hold).into()
-    }
 }
 
 /// What a customer calls, and what is lent to the call beside the store.
@@ -161,6 +134,7 @@ impl<T: Table> Shop<T> {
     /// A table over a store that holds these bytes.
     pub fn new(store: &[u8]) -> Shop<T> {
         let mut memory = Guarded::new(ROOM);
+        memory.last(ROOM).fill(GUARD_BYTE);
         memory.lend(store);
         Shop {
             table: T::start(store.len() as u64),
@@ -210,7 +184,16 @@ impl<T: Table> Shop<T> {
         if !granted || !matches!(step.call, Call::Open { .. }) {
             assert_eq!(self.store(), before, "{step:?} changed the store");
         }
+        self.assert_nothing_before_the_store(step);
         Seen { told, output }
+    }
+
+    /// A store that is lent too long has a block more, and what is there stays as it is, too.
+    fn assert_nothing_before_the_store(&mut self, step: &Step<'_>) {
+        let lent = self.store.last(self.store_length + BLOCK);
+        let before = &lent[..BLOCK];
+        let unchanged = before.iter().all(|byte| *byte == GUARD_BYTE);
+        assert!(unchanged, "{step:?} wrote before the store");
     }
 
     /// Changes the store, or puts back the byte that was changed. No two bytes are changed at a time.
@@ -290,30 +273,64 @@ pub fn count(met: &mut Met, step: &Step<'_>, told: Told) {
 /// Where a table does what it must not do: at which call, and what it did.
 pub type Difference = String;
 
-/// Puts one history to two tables. After each event both have answered alike, and left the same bytes in the store and
-/// in the buffers; or it is said where they have not.
+/// Two tables, each with a store of its own, which get the same calls.
+pub struct Both<One, Other> {
+    one: Shop<One>,
+    other: Shop<Other>,
+}
+
+impl<One: Table, Other: Table> Both<One, Other> {
+    /// Over stores that hold these bytes.
+    pub fn new(store: &[u8]) -> Both<One, Other> {
+        Both {
+            one: Shop::new(store),
+            other: Shop::new(store),
+        }
+    }
+
+    /// Puts a call to both. They answer alike, know the same, and leave the same bytes in the store and in the buffers;
+    /// or it is said what differs.
+    pub fn put(&mut self, step: &Step<'_>) -> Result<Seen, Difference> {
+        let (seen, also_seen) = (self.one.put(step), self.other.put(step));
+        if seen != also_seen {
+            return Err(format!("{step:?}: {seen:?}, {also_seen:?}"));
+        }
+        if self.one.store() != self.other.store() {
+            return Err(format!("{step:?}: the stores differ"));
+        }
+        let (knows, also_knows) = (self.one.table.state(), self.other.table.state());
+        if knows != also_knows {
+            return Err(format!("{step:?}: {knows:?}, {also_knows:?}"));
+        }
+        Ok(seen)
+    }
+
+    /// Changes both stores.
+    fn damage(&mut self, damage: Damage) {
+        self.one.damage(damage);
+        self.other.damage(damage);
+    }
+
+    /// What is stored in both, in the order of the store: each payload, and how many holds have it open.
+    pub fn stored(&mut self) -> Vec<(Vec<u8>, usize)> {
+        self.one.table.state().stored(self.one.store())
+    }
+}
+
+/// Puts one history to two tables, and says at which event they differ.
 pub fn compare<One: Table, Other: Table>(
     history: &History<'_>,
     met: &mut Met,
 ) -> Result<(), Difference> {
-    let mut one: Shop<One> = Shop::new(&history.store);
-    let mut other: Shop<Other> = Shop::new(&history.store);
+    let mut both: Both<One, Other> = Both::new(&history.store);
     for (number, event) in history.events.iter().enumerate() {
         match event {
-            Event::Damage(damage) => {
-                one.damage(*damage);
-                other.damage(*damage);
-            }
+            Event::Damage(damage) => both.damage(*damage),
             Event::Step(step) => {
-                let (seen, also_seen) = (one.put(step), other.put(step));
+                let seen = both.put(step);
+                let seen = seen.map_err(|differ| format!("event {number}, {differ}"))?;
                 count(met, step, seen.told);
-                if seen != also_seen {
-                    return Err(format!("event {number}, {step:?}: {seen:?}, {also_seen:?}"));
-                }
             }
-        }
-        if one.store() != other.store() {
-            return Err(format!("event {number}, {event:?}: the stores differ"));
         }
     }
     Ok(())

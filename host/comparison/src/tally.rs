@@ -25,7 +25,7 @@ const ROOM: usize = 1 << 20;
 
 /// Bytes before an output that must stay as they are.
 pub(crate) const GUARD: usize = 32;
-const GUARD_BYTE: u8 = 0xA5;
+pub(crate) const GUARD_BYTE: u8 = 0xA5;
 
 /// What an output holds before a call.
 pub(crate) const UNTOUCHED: u8 = 0xEE;

@@ -1,18 +1,38 @@
-//! Shared tables: random calls of sixteen customers, held to a model that knows no blocks, and one customer's answers
-//! held to those among other customers.
+//! Shared tables: random calls of sixteen customers, put to both makes and held to a model that knows no blocks, and one
+//! customer's answers held to those among other customers.
 
 use std::collections::BTreeMap;
 
-use comparison::library::{Told, FOUND, NONE};
+use comparison::library::{TableState, Told, FOUND, NONE};
 use comparison::random::{seed, Random};
 use comparison::sharing::history::{customers, Event, History, Maker, Payloads, Trouble};
+use comparison::sharing::makes::LibraryTable;
 use comparison::sharing::model::{follow, Model};
 use comparison::sharing::{
     compare, Asked, Difference, Met, Seen, Shop, Step, Table, BLOCK, CUSTOMERS, HOLDS,
 };
 
-const HISTORIES: usize = 250;
-const EVENTS: usize = 500;
+/// How many histories are put, by how many customers each, and how long they are.
+#[derive(Clone, Copy)]
+struct Put {
+    histories: usize,
+    events: usize,
+    customers: &'static [u32],
+}
+
+/// One customer alone, some, and all of them.
+const BY_ANY: Put = Put {
+    histories: 250,
+    events: 500,
+    customers: &[1, 2, 5, CUSTOMERS, CUSTOMERS],
+};
+
+/// All customers, and more calls by each.
+const BY_SIXTEEN: Put = Put {
+    histories: 70,
+    events: 2_000,
+    customers: &[CUSTOMERS],
+};
 
 /// How many calls are put at least: some of the events are damage.
 const LEAST_CALLS: u64 = 100_000;
@@ -23,40 +43,37 @@ const LEAST_OF_EACH: u64 = 40;
 /// Few blocks, so that they are soon used up, and as many as there may be.
 const BLOCKS: [usize; 10] = [1, 2, 3, 4, 5, 8, 12, 20, 40, 128];
 
-/// One customer alone, some, and all of them.
-const COUNTS: [u32; 5] = [1, 2, 5, CUSTOMERS, CUSTOMERS];
-
 /// How many payloads the customers of a history choose from.
 const PAYLOADS: [usize; 4] = [1, 3, 8, 20];
 
 /// Puts random histories, one after the other, until one of them shows a difference.
 fn with_histories(
     r: &mut Random,
-    histories: usize,
+    put: Put,
     trouble: Trouble,
-    mut put: impl FnMut(&History<'_>) -> Result<(), Difference>,
+    mut look: impl FnMut(&History<'_>) -> Result<(), Difference>,
 ) -> Result<(), Difference> {
-    for _ in 0..histories {
+    for _ in 0..put.histories {
         let count = r.one_of(&PAYLOADS);
         let payloads = Payloads::new(r, count);
-        let count = r.one_of(&COUNTS);
+        let count = r.one_of(put.customers);
         let customers = customers(r, count);
         let length = r.one_of(&BLOCKS) * BLOCK;
         let maker = Maker::new(r, &payloads, customers, length, trouble);
-        put(&maker.history(r, EVENTS))?;
+        look(&maker.history(r, put.events))?;
     }
     Ok(())
 }
 
 /// What is stored and how often it is open is what the model says, each payload once, unless a byte of it is damaged.
-fn same_users(shop: &mut Shop<second_reader::Table>, model: &Model) {
+fn same_users<T: Table>(shop: &mut Shop<T>, model: &Model) {
     if shop.is_damaged() {
         return;
     }
     let stored = shop.table.state().stored(shop.store());
     let found: BTreeMap<&[u8], usize> = stored
         .iter()
-        .map(|stored| (&stored.payload[..], stored.users))
+        .map(|(payload, users)| (&payload[..], *users))
         .collect();
     assert_eq!(found.len(), stored.len(), "a payload is stored twice");
     let expected = model.users().iter();
@@ -88,15 +105,36 @@ fn assert_met(met: &Met) {
     }
 }
 
+/// Every answer that a call may give, from both makes, with the whole table, store and buffers after each call.
 #[test]
-fn random_calls_are_answered_as_the_model_says() {
+fn random_calls_leave_the_same_in_both() {
     let mut met = Met::new();
     let mut r = Random::new(seed());
-    let followed = with_histories(&mut r, HISTORIES, Trouble::OneByte, |history| {
-        follow::<second_reader::Table>(history, &mut met, same_users)
+    let compared = with_histories(&mut r, BY_SIXTEEN, Trouble::Tampering, |history| {
+        compare::<LibraryTable, second_reader::Table>(history, &mut met)
+    });
+    assert_eq!(compared, Ok(()));
+    assert_met(&met);
+}
+
+fn follow_the_model<T: Table>() {
+    let mut met = Met::new();
+    let mut r = Random::new(seed());
+    let followed = with_histories(&mut r, BY_ANY, Trouble::OneByte, |history| {
+        follow::<T>(history, &mut met, same_users)
     });
     assert_eq!(followed, Ok(()));
     assert_met(&met);
+}
+
+#[test]
+fn random_calls_are_answered_as_the_model_says() {
+    follow_the_model::<LibraryTable>();
+}
+
+#[test]
+fn the_second_reader_answers_as_the_model_says() {
+    follow_the_model::<second_reader::Table>();
 }
 
 /// How many pairs of histories are compared, and how many calls one customer has in each.
@@ -174,12 +212,21 @@ fn isolated<T: Table>(r: &mut Random, pairs: usize) -> Result<usize, Difference>
     Ok(compared)
 }
 
-#[test]
-fn what_a_customer_sees_is_nothing_of_the_others() {
-    let compared = isolated::<second_reader::Table>(&mut Random::new(seed()), PAIRS);
+fn sees_nothing_of_the_others<T: Table>() {
+    let compared = isolated::<T>(&mut Random::new(seed()), PAIRS);
     let compared = compared.expect("no difference");
     println!("compared {compared} of {PAIRS} pairs of histories");
     assert!(compared >= PAIRS / 2, "only {compared} pairs were compared");
+}
+
+#[test]
+fn what_a_customer_sees_is_nothing_of_the_others() {
+    sees_nothing_of_the_others::<LibraryTable>();
+}
+
+#[test]
+fn what_the_second_reader_shows_is_nothing_of_the_others() {
+    sees_nothing_of_the_others::<second_reader::Table>();
 }
 
 /// A table that is wrong in one thing, which the tests above must see.
@@ -193,6 +240,8 @@ const REFUSES_IN_ANOTHER_ORDER: u8 = 1;
 const SERVES_DAMAGED: u8 = 2;
 /// The hold of another customer is closed.
 const CLOSES_ANOTHERS: u8 = 3;
+/// What it knows of its users is wrong, though nothing that it answers is.
+const MISCOUNTS: u8 = 4;
 
 const NO_CUSTOMER: u32 = 23;
 const NOT_OPEN: u32 = 24;
@@ -201,14 +250,16 @@ const NO_ROOM: u32 = 26;
 const DAMAGED: u32 = 27;
 
 impl<const FAULT: u8> Table for Wrong<FAULT> {
-    type State = second_reader::Table;
-
     fn start(store_length: u64) -> Self {
         Wrong(Table::start(store_length))
     }
 
-    fn state(&mut self) -> second_reader::Table {
-        self.0.clone()
+    fn state(&mut self) -> TableState {
+        let mut state = self.0.state();
+        if FAULT == MISCOUNTS {
+            state.users[0] = state.users[0].min(1);
+        }
+        state
     }
 
     fn open(&mut self, store: &mut [u8], customer: u32, payload: &[u8], work: &mut [u8]) -> Told {
@@ -244,16 +295,25 @@ impl<const FAULT: u8> Table for Wrong<FAULT> {
     }
 }
 
-/// The model says so, and so does a comparison with a table that is right.
-fn is_seen<const FAULT: u8>(r: &mut Random) -> bool {
-    const FEW: usize = 40;
-    let by_the_model = with_histories(r, FEW, Trouble::OneByte, |history| {
-        follow::<Wrong<FAULT>>(history, &mut Met::new(), |_, _| {})
-    });
-    let by_comparison = with_histories(r, FEW, Trouble::Tampering, |history| {
+const FEW: Put = Put {
+    histories: 40,
+    ..BY_ANY
+};
+
+/// A comparison with a table that is right says so.
+fn is_seen_by_comparison<const FAULT: u8>(r: &mut Random) -> bool {
+    let compared = with_histories(r, FEW, Trouble::Tampering, |history| {
         compare::<Wrong<FAULT>, second_reader::Table>(history, &mut Met::new())
     });
-    by_the_model.is_err() && by_comparison.is_err()
+    compared.is_err()
+}
+
+/// The model says so, too.
+fn is_seen<const FAULT: u8>(r: &mut Random) -> bool {
+    let followed = with_histories(r, FEW, Trouble::OneByte, |history| {
+        follow::<Wrong<FAULT>>(history, &mut Met::new(), |_, _| {})
+    });
+    followed.is_err() && is_seen_by_comparison::<FAULT>(r)
 }
 
 #[test]
@@ -263,5 +323,6 @@ fn wrong_tables_are_seen() {
     assert!(is_seen::<REFUSES_IN_ANOTHER_ORDER>(&mut r));
     assert!(is_seen::<SERVES_DAMAGED>(&mut r));
     assert!(is_seen::<CLOSES_ANOTHERS>(&mut r));
+    assert!(is_seen_by_comparison::<MISCOUNTS>(&mut r));
     assert!(isolated::<Wrong<CLOSES_ANOTHERS>>(&mut r, PAIRS).is_err());
 }

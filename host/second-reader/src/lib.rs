@@ -67,7 +67,9 @@ pub use pairs::{
     wide_pair_module_name, wide_pair_table_name, wide_pair_tag_name, wide_pair_type_name,
 };
 pub use stream::{stream_begin, stream_finish, stream_part, Stream};
-pub use table::{table_close, table_function_name, table_open, table_start, Stored, Table};
+pub use table::{
+    table_close, table_function_name, table_open, table_start, OpenHold, Stored, Table,
+};
 pub use telling::{
     hints_is_canonical, metadata_is_canonical, names_is_canonical, old_hints_is_canonical,
     wide_names_is_canonical,

@@ -53,6 +53,19 @@ pub struct Stored {
     pub users: usize,
 }
 
+/// A hold that is open, and where its payload stands.
+#[derive(Clone, Copy, Debug, PartialEq, Eq)]
+pub struct OpenHold {
+    /// Whose hold it is.
+    pub customer: u32,
+    /// Its number.
+    pub hold: u32,
+    /// The first block of its payload, counted from 0.
+    pub first_block: usize,
+    /// How many bytes the payload has.
+    pub length: usize,
+}
+
 /// A table over a store of that length, with nothing stored.
 #[must_use]
 pub fn table_start(store_length: u64) -> Table {
@@ -103,6 +116,23 @@ impl Table {
             users: self.holds.values().filter(|other| **other == place).count(),
         };
         self.places().into_iter().map(stored).collect()
+    }
+
+    /// What is open, by customer and hold. No call tells it either.
+    pub fn open_holds(&self) -> impl Iterator<Item = OpenHold> + '_ {
+        let holds = self.holds.iter();
+        holds.map(|(&(customer, hold), place)| OpenHold {
+            customer,
+            hold,
+            first_block: place.first_block,
+            length: place.length,
+        })
+    }
+
+    /// How long the store was at the start.
+    #[must_use]
+    pub fn store_length(&self) -> u64 {
+        self.store_length
     }
 
     fn open(

@@ -7,9 +7,7 @@
 use std::collections::BTreeMap;
 use std::rc::Rc;
 
-use super::{
-    count, Call, Difference, Met, Seen, Shop, Step, Table, BLOCK, CUSTOMERS, HOLDS, MOST_BLOCKS,
-};
+use super::{count, is_store, Call, Difference, Met, Seen, Shop, Step, Table, CUSTOMERS, HOLDS};
 use crate::library::{Told, FOUND, NONE, REFUSED};
 use crate::sharing::history::{Event, History};
 use crate::tally::UNTOUCHED;
@@ -73,8 +71,7 @@ impl Model {
 
     fn foresee(&self, step: &Step<'_>) -> Foreseen {
         let length = step.store_length;
-        let is_store = length % BLOCK == 0 && (1..=MOST_BLOCKS).contains(&(length / BLOCK));
-        if !is_store || length != self.store_length {
+        if !is_store(length) || length != self.store_length {
             return Foreseen::refusal(step, OTHER_STORE, 0);
         }
         let Some(holds) = self.held.get(step.customer as usize) else {
