@@ -1,5 +1,7 @@
 //! The names in one map of an accepted payload, for the operations that need to know them beforehand.
 
+use comparison::accepted::Accepted;
+
 /// The id of the subsection with the names of functions.
 pub const FUNCTIONS: u8 = 1;
 
@@ -25,68 +27,31 @@ impl NameMap {
     /// Reads a payload that is accepted by an edition which knows a name map under that id; none without the map.
     pub fn of(payload: &[u8], map_id: u8) -> Option<NameMap> {
         let mut rest = Accepted(payload);
-        let mut lists = None;
+        let mut found = None;
         let mut subsections = 0;
         while let Some((id, contents)) = rest.subsection() {
             subsections += 1;
             if id == map_id {
-                lists = Some(contents.lists());
+                found = Some(lists(contents));
             }
         }
-        lists.map(|lists| NameMap {
+        found.map(|lists| NameMap {
             lists,
             alone: subsections == 1,
         })
     }
 }
 
-/// What is left of an accepted payload: no read of it can fail.
-pub struct Accepted<'a>(pub &'a [u8]);
-
-impl<'a> Accepted<'a> {
-    /// The next subsection, by its id and its contents; none at the end.
-    pub fn subsection(&mut self) -> Option<(u8, Accepted<'a>)> {
-        if self.0.is_empty() {
-            return None;
-        }
-        let id = self.bytes(1)[0];
-        Some((id, Accepted(self.sized())))
+/// The names of an accepted map.
+fn lists(mut map: Accepted<'_>) -> Lists {
+    let mut lists = Lists::default();
+    for _ in 0..map.number() {
+        lists.indices.push(map.number());
+        let name = map.sized();
+        lists.lengths.push(name.len() as u32);
+        lists.text.extend(name);
     }
-
-    fn bytes(&mut self, length: usize) -> &'a [u8] {
-        let (taken, rest) = self.0.split_at(length);
-        self.0 = rest;
-        taken
-    }
-
-    pub fn number(&mut self) -> u32 {
-        let mut value = 0;
-        let mut shift = 0;
-        loop {
-            let byte = self.bytes(1)[0];
-            value |= u32::from(byte & 0x7F) << shift;
-            shift += 7;
-            if byte < 0x80 {
-                return value;
-            }
-        }
-    }
-
-    pub fn sized(&mut self) -> &'a [u8] {
-        let length = self.number();
-        self.bytes(length as usize)
-    }
-
-    fn lists(mut self) -> Lists {
-        let mut lists = Lists::default();
-        for _ in 0..self.number() {
-            lists.indices.push(self.number());
-            let name = self.sized();
-            lists.lengths.push(name.len() as u32);
-            lists.text.extend(name);
-        }
-        lists
-    }
+    lists
 }
 
 #[cfg(test)]

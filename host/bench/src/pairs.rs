@@ -1,8 +1,9 @@
 //! Pairs of payloads, each of made ones: a separate payload, and the module's own.
 
+use comparison::accepted::Accepted;
+
 use crate::bytes::{number, sized, subsection};
 use crate::made::{self, LABELS, LOCALS};
-use crate::name_map::Accepted;
 use crate::payload::{Kind, Payload};
 
 /// How a pair is made of one payload.

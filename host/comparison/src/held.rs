@@ -2,6 +2,7 @@
 
 use std::collections::BTreeMap;
 
+use crate::accepted::Accepted;
 use crate::spelling::{number, sized, unpadded, with_one_padded, Padding};
 use crate::tally::KEYS;
 
@@ -31,6 +32,9 @@ pub struct Edition {
     /// The ids of subsections that hold an indirect name map.
     pub indirect_maps: &'static [u8],
 }
+
+/// The id of the subsection that holds the module's name.
+const MODULE: u8 = 0;
 
 /// The first edition.
 pub static FIRST: Edition = Edition {
@@ -200,6 +204,27 @@ impl Held for OldHints {
 }
 
 impl Names {
+    /// What an accepted payload holds.
+    pub fn of(payload: &[u8], edition: &'static Edition) -> Names {
+        let mut rest = Accepted(payload);
+        let subsections = std::iter::from_fn(|| {
+            let (id, mut contents) = rest.subsection()?;
+            let contents = match id {
+                MODULE => Contents::Name(contents.sized().to_vec()),
+                _ if edition.maps.contains(&id) => Contents::Map(entries_of(&mut contents)),
+                _ if edition.indirect_maps.contains(&id) => {
+                    Contents::Indirect(groups_of(&mut contents))
+                }
+                _ => Contents::Kept(contents.0.to_vec()),
+            };
+            Some((id, contents))
+        });
+        Names {
+            edition,
+            subsections: subsections.collect(),
+        }
+    }
+
     /// The same with other contents in a subsection.
     fn with(&self, id: u8, contents: Contents) -> Names {
         Names {
@@ -262,6 +287,20 @@ impl Held for Names {
     }
 }
 
+/// The entries of an accepted list.
+fn entries_of(list: &mut Accepted<'_>) -> Entries {
+    let count = list.number();
+    let entry = |_| (list.number(), list.sized().to_vec());
+    (0..count).map(entry).collect()
+}
+
+/// The groups of an accepted list of them.
+fn groups_of(list: &mut Accepted<'_>) -> Groups {
+    let count = list.number();
+    let group = |_| (list.number(), entries_of(list));
+    (0..count).map(group).collect()
+}
+
 fn with<Key: Clone + Ord, Value: Clone>(
     held: &BTreeMap<Key, Value>,
     key: Key,
@@ -313,6 +352,20 @@ mod tests {
             assert_ne!(other.spelled(&mut unpadded), canonical);
             assert_eq!(other.canonical(), canonical);
         }
+    }
+
+    #[test]
+    fn what_a_payload_holds_is_read_from_it() {
+        let payload = b"\x00\x02\x01m\x01\x04\x01\x00\x01a\x02\x06\x01\x03\x01\x00\x01x\x0C\x02yz";
+        assert_eq!(Names::of(payload, &FIRST).canonical(), payload);
+        let [padded, with_empty] = [
+            &b"\x01\x85\x00\x01\x00\x81\x00a"[..],
+            b"\x01\x04\x01\x00\x01a\x02\x03\x01\x03\x00",
+        ];
+        assert_eq!(Names::of(padded, &FIRST).canonical(), payload[4..10]);
+        let held = Names::of(with_empty, &FIRST);
+        assert_eq!(held.spelled(&mut unpadded), with_empty);
+        assert_eq!(held.canonical(), payload[4..10]);
     }
 
     /// The size, the count, the index and the length, each in two to five bytes.

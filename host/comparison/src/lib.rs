@@ -9,6 +9,7 @@
 
 #![deny(missing_docs)]
 
+pub mod accepted;
 pub mod code;
 pub mod fixtures;
 pub mod guarded;
