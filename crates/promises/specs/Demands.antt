@@ -859,6 +859,9 @@ opensOf p es = opens granted namePayloads p es
 abbrev pub closesOf : (p : List ℕ) → List TableEvent → ℕ
 closesOf p es = closes granted namePayloads p es
 
+abbrev pub OpensLessCloses : (users : ℕ) (p : List ℕ) → List TableEvent → Type 0
+OpensLessCloses users p es = users + closesOf p es ≡ opensOf p es
+
 -- the users that a table counts at a block
 abbrev pub usersAt : SharedTable → (block : ℕ) → ℕ
 usersAt t block = getD (tableOf t .marks) block blank .users
@@ -932,7 +935,7 @@ pub record K12 : Type 0 where
   pub asks : (es : List TableEvent) (t : SharedTable) (s : List ℕ) → History es t s → (customer hold function : ℕ) (out out′ : List ℕ) (a : WmAnswer) → wm-table-function-name t s customer hold function out out′ a → QuestionReply es customer hold function out out′ a
   pub closes : (es : List TableEvent) (t u : SharedTable) (s : List ℕ) → History es t s → (customer hold : ℕ) (a : WmAnswer) → wm-table-close t s customer hold u a → CloseReply es t customer hold u a
   -- "Each payload's users at any time are the granted opens less the granted closes of the history": where a payload stands, where the table counts users, and wherever more was opened than closed; so "at none its blocks are free"
-  pub users : (es : List TableEvent) (t : SharedTable) (s : List ℕ) → History es t s → (b : ℕ) (p : List ℕ) → Stored (tableOf t) s b p → usersAt t b + closesOf p es ≡ opensOf p es
+  pub users : (es : List TableEvent) (t : SharedTable) (s : List ℕ) → History es t s → (b : ℕ) (p : List ℕ) → Stored (tableOf t) s b p → OpensLessCloses (usersAt t b) p es
   pub used : (es : List TableEvent) (t : SharedTable) (s : List ℕ) → History es t s → (b : ℕ) → b < length (blocks s) → 0 < usersAt t b → (p : List ℕ) × Stored (tableOf t) s b p
   pub kept : (es : List TableEvent) (t : SharedTable) (s : List ℕ) → History es t s → (p : List ℕ) → closesOf p es < opensOf p es → (b : ℕ) × Stored (tableOf t) s b p
   -- "Equal canonical payloads are stored once"

@@ -43,7 +43,7 @@ use Rattle.wakemiono.specs.Boundary.{wmNone, wmFound, wmRefused, wmPlace}
 use Rattle.wakemiono.specs.Calls.{wm-name, wm-table-open, wm-table-function-name, wm-table-close}
 use Rattle.wakemiono.specs.Shared.{wmShared, bufferOf, Shares}
 use Rattle.wakemiono.specs.declared.WmAnswer.{WmAnswer}
-use Rattle.promises.specs.Demands.{FoundIn, TableEvent, History, itsStart, anOpen, aQuestion, aClose, granted, heldBy, opensOf, closesOf, usersAt, numbers, isAmong, MayOpen, OpenReply, openNoCustomer, openNotAccepted, openTooShort, openNoHold, openNoRoom, openStored, openNew, QuestionReply, askNoCustomer, askNotOpen, askNone, askTooShort, askFound, CloseReply, closeNoCustomer, closeNotOpen, closeOpen, NeverForRoom, OpenedIn, NotTheStore, otherLength, noBlocks}
+use Rattle.promises.specs.Demands.{FoundIn, TableEvent, History, itsStart, anOpen, aQuestion, aClose, granted, heldBy, opensOf, closesOf, OpensLessCloses, usersAt, numbers, isAmong, MayOpen, OpenReply, openNoCustomer, openNotAccepted, openTooShort, openNoHold, openNoRoom, openStored, openNew, QuestionReply, askNoCustomer, askNotOpen, askNone, askTooShort, askFound, CloseReply, closeNoCustomer, closeNotOpen, closeOpen, NeverForRoom, OpenedIn, NotTheStore, otherLength, noBlocks}
 use Rattle.promises.specs.Laws.Refusing.{names-fair}
 use Rattle.promises.specs.Laws.Saying.{found-said}
 
@@ -168,7 +168,7 @@ module _ (es : List TableEvent) (t u : SharedTable) (s : List ℕ) (h : History 
 -- What stands in the store
 
 module _ {es : List TableEvent} {t : SharedTable} {s : List ℕ} (h : History es t s) where
-  pub table-users : (b : ℕ) (p : List ℕ) → Stored (tableOf t) s b p → usersAt t b + closesOf p es ≡ opensOf p es
+  pub table-users : (b : ℕ) (p : List ℕ) → Stored (tableOf t) s b p → OpensLessCloses (usersAt t b) p es
   table-users = users-counted names seen granted sees (past h)
 
   pub table-used : (b : ℕ) → b < length (blocks s) → 0 < usersAt t b → (p : List ℕ) × Stored (tableOf t) s b p
