@@ -427,14 +427,23 @@ impl Refusal {
     /// ```
     #[must_use]
     pub const fn in_module(self, payload: Place) -> Refusal {
+        match (self.lent, self.place()) {
+            (Lent::Bytes, Some(_)) => {
+                Refusal::in_bytes(self.reason, payload.offset.saturating_add(self.offset))
+            }
+            _ => self,
+        }
+    }
+
+    /// What the offset is that of, or none where it counts no bytes.
+    const fn place(&self) -> Option<&'static str> {
         match (self.reason, self.lent) {
-            (_, Lent::Lists)
-            | (
+            (
                 Reason::OutputTooShort
                 | Reason::ListsDisagree
                 | Reason::SubsectionTooLong
-                | Reason::NotMarkers
                 | Reason::StreamFinished
+                | Reason::NotMarkers
                 | Reason::NoCustomer
                 | Reason::HoldNotOpen
                 | Reason::AllHoldsOpen
@@ -443,8 +452,25 @@ impl Refusal {
                 | Reason::StreamTooLong
                 | Reason::OtherStore,
                 _,
-            ) => self,
-            _ => Refusal::in_bytes(self.reason, payload.offset.saturating_add(self.offset)),
+            )
+            | (Reason::NotRising, Lent::Lists) => None,
+            (Reason::NotText, Lent::Lists) => Some("in the joined text the name starts at"),
+            (Reason::Preamble, _) => Some("it belongs at"),
+            (Reason::RunsPast, _) => Some("the number, or the length of the part, starts at"),
+            (Reason::NumberTooLarge, _) => Some("the number starts at"),
+            (Reason::NotText | Reason::NotRising, _) => Some("it starts at"),
+            (Reason::SectionId | Reason::SubsectionOrder | Reason::NotZero, _) => {
+                Some("it stands at")
+            }
+            (Reason::SectionOrder | Reason::SecondSection, _) => Some("its id stands at"),
+            (Reason::SectionTooLate, _) => Some("the id of the later section stands at"),
+            (Reason::LeftOver, _) => Some("the first of them stands at"),
+            (Reason::NotAHint, _) => Some("its size, or its kind, stands at"),
+            (Reason::NoBody, _) => Some("the function's index starts at"),
+            (Reason::UnreadableCode | Reason::NotOnABranch, _) => {
+                Some("the hint's offset starts at")
+            }
+            (Reason::UnknownImport, _) => Some("the kind, or the flag, stands at"),
         }
     }
 }
@@ -482,52 +508,19 @@ impl fmt::Debug for Refusal {
 impl fmt::Display for Refusal {
     fn fmt(&self, f: &mut fmt::Formatter<'_>) -> fmt::Result {
         let at = self.offset;
-        let place = match (self.reason, self.lent) {
-            (
-                Reason::ListsDisagree
-                | Reason::SubsectionTooLong
-                | Reason::StreamFinished
-                | Reason::NoCustomer
-                | Reason::HoldNotOpen
-                | Reason::AllHoldsOpen
-                | Reason::NoRoom
-                | Reason::StoreDamaged
-                | Reason::StreamTooLong
-                | Reason::OtherStore,
-                _,
-            ) => return write!(f, "{}", self.reason),
-            (Reason::OutputTooShort, _) => {
-                return write!(f, "{}: the needed length is {at}", self.reason);
+        write!(f, "{}", self.reason)?;
+        match (self.reason, self.place()) {
+            (_, Some(place)) => write!(f, ": {place} byte {at:#X} ({at})"),
+            (Reason::OutputTooShort, None) => write!(f, ": the needed length is {at}"),
+            (Reason::NotRising, None) => {
+                write!(f, ": its position in the list is {at}, counted from 0")
             }
-            (Reason::NotRising, Lent::Lists) => {
-                return write!(
-                    f,
-                    "{}: its position in the list is {at}, counted from 0",
-                    self.reason
-                );
-            }
-            (Reason::NotMarkers, _) => {
-                return write!(
-                    f,
-                    "{}: that position, counted from 0, or the length of the shorter list is {at}",
-                    self.reason
-                );
-            }
-            (Reason::NotText, Lent::Lists) => "in the joined text the name starts at",
-            (Reason::Preamble, _) => "it belongs at",
-            (Reason::RunsPast, _) => "the number, or the length of the part, starts at",
-            (Reason::NumberTooLarge, _) => "the number starts at",
-            (Reason::NotText | Reason::NotRising, _) => "it starts at",
-            (Reason::SectionId | Reason::SubsectionOrder | Reason::NotZero, _) => "it stands at",
-            (Reason::SectionOrder | Reason::SecondSection, _) => "its id stands at",
-            (Reason::SectionTooLate, _) => "the id of the later section stands at",
-            (Reason::LeftOver, _) => "the first of them stands at",
-            (Reason::NotAHint, _) => "its size, or its kind, stands at",
-            (Reason::NoBody, _) => "the function's index starts at",
-            (Reason::UnreadableCode | Reason::NotOnABranch, _) => "the hint's offset starts at",
-            (Reason::UnknownImport, _) => "the kind, or the flag, stands at",
-        };
-        write!(f, "{}: {place} byte {at:#X} ({at})", self.reason)
+            (Reason::NotMarkers, None) => write!(
+                f,
+                ": that position, counted from 0, or the length of the shorter list is {at}"
+            ),
+            (_, None) => Ok(()),
+        }
     }
 }
 
