@@ -5,6 +5,7 @@ use crate::modules;
 use crate::operation::{Operation, Who};
 use crate::pairs;
 use crate::payload::Kind;
+use crate::shared::{self, Looked};
 use crate::table::{executed, Row};
 
 /// What an operation is held to.
@@ -15,6 +16,8 @@ enum Most {
     /// So many times what the second reader takes for the same.
     TimesSecondReader(f64),
     Instructions(u64),
+    /// So many instructions more than another operation takes.
+    More(u64, Operation),
 }
 
 struct Bar {
@@ -119,13 +122,47 @@ fn of_code(payload: &'static str) -> Bar {
     }
 }
 
-/// All bars, those of pairs, of modules and of code last.
+/// What a call on a table may take of its own: it goes through the marks of all blocks, and the table is copied.
+const CALL: u64 = 4_000;
+
+/// One look at a block: an instruction for each of its words.
+const LOOK: u64 = 128;
+
+/// One comparison: so many instructions for each byte of a payload that is compared.
+const COMPARISON: u64 = 4;
+
+/// What may be taken by a close, which needs no block, whatever is stored.
+const CLOSE: u64 = 1_000;
+
+/// A payload that is stored already: an open takes no more than judging and rewriting it, one look at each used block and
+/// one comparison.
+fn of_open((payload, looked): (&'static str, Looked)) -> Bar {
+    let more = CALL + LOOK * looked.blocks as u64 + COMPARISON * looked.bytes as u64;
+    Bar {
+        payload,
+        operation: Operation::TableOpen,
+        most: Most::More(more, Operation::Rewrite),
+    }
+}
+
+fn of_close(payload: &'static str) -> Bar {
+    Bar {
+        payload,
+        operation: Operation::TableClose,
+        most: Most::Instructions(CLOSE),
+    }
+}
+
+/// All bars, those of pairs, of modules, of code and of shared tables last.
 fn bars() -> impl Iterator<Item = Bar> {
     let of_modules = modules::all().flat_map(of_module);
     let of_pairs = pairs::all().flat_map(of_pair);
     let of_code = code::all().map(of_code);
+    let of_opens = shared::compared_once().map(of_open);
+    let of_closes = shared::all().map(of_close);
     let made = BARS.into_iter().chain(of_pairs);
-    made.chain(of_modules).chain(of_code)
+    let made = made.chain(of_modules).chain(of_code);
+    made.chain(of_opens).chain(of_closes)
 }
 
 /// A line for each bar, or a sentence on those that are broken.
@@ -153,6 +190,14 @@ fn held(rows: &[Row], bar: &Bar) -> Result<(bool, String), String> {
         Most::Instructions(most) => {
             let line = format!("{payload}: '{words}' takes {taken} instructions, at most {most}");
             (taken <= most, line)
+        }
+        Most::More(most, base) => {
+            let more = taken.saturating_sub(count(rows, payload, base)?);
+            let base = base.words();
+            let line = format!(
+                "{payload}: '{words}' takes {more} instructions more than '{base}', at most {most}"
+            );
+            (more <= most, line)
         }
         Most::TimesSecondReader(most) => {
             let of_reader = count_of(rows, payload, bar.operation, Who::SecondReader)?;
@@ -201,6 +246,10 @@ mod tests {
         for bar in bars() {
             let most = match bar.most {
                 Most::Instructions(most) => most,
+                Most::More(most, base) => {
+                    counts.push_str(&run(bar.payload, base, JUDGED));
+                    JUDGED + most
+                }
                 Most::TimesSecondReader(times) => (times * JUDGED as f64) as u64,
                 Most::Times(times, bases) => {
                     for base in bases {
@@ -273,6 +322,14 @@ mod tests {
         let said = lines(&rows("go", Operation::QuickLast, 1)).expect_err("one is broken");
         let line = "go: 'quick, last name' takes 5001 instructions, at most 5000 is the bar, so speed it up.\n";
         assert_eq!(said, line);
+    }
+
+    /// The store of 128 blocks is full, and the payload has 462 bytes.
+    #[test]
+    fn so_is_one_of_an_open() {
+        let said = lines(&rows("shared-1-full", Operation::TableOpen, 1));
+        let line = "shared-1-full: 'table, open what is stored' takes 22233 instructions more than 'rewrite', at most 22232 is the bar, so speed it up.\n";
+        assert_eq!(said.expect_err("one is broken"), line);
     }
 
     #[test]

@@ -104,7 +104,7 @@ pub fn payload(name: &str) -> Option<Payload> {
 }
 
 /// A payload that names functions and nothing else.
-fn functions(texts: &[String]) -> Vec<u8> {
+pub fn functions(texts: &[String]) -> Vec<u8> {
     subsection(FUNCTIONS, &name_map(texts))
 }
 
@@ -117,7 +117,7 @@ fn many(count: usize, text: impl FnMut() -> String) -> Vec<String> {
 }
 
 /// As many texts as it takes for so many bytes of text.
-fn up_to(bytes: usize, mut text: impl FnMut() -> String) -> Vec<String> {
+pub fn up_to(bytes: usize, mut text: impl FnMut() -> String) -> Vec<String> {
     let mut texts = vec![];
     let mut length = 0;
     while length < bytes {
@@ -208,7 +208,7 @@ mod tests {
                 library::old_hints_judge(bytes),
                 second_reader::old_hints_judge(bytes).into(),
             ],
-            Kind::Pair | Kind::WidePair | Kind::Module | Kind::Code => {
+            Kind::Pair | Kind::WidePair | Kind::Module | Kind::Code | Kind::Shared => {
                 panic!("payloads alone are made here")
             }
         }

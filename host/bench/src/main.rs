@@ -16,6 +16,7 @@ mod operation;
 mod pairs;
 mod payload;
 mod region;
+mod shared;
 mod table;
 mod texts;
 
@@ -31,7 +32,7 @@ bench payloads        the names of the payloads, a line each
 bench run PAYLOAD     puts each operation on a payload to both readers, and prints which region counts what
 bench table COUNTS    the counts of all runs as a table
 bench lines COUNTS    the same as tab-separated lines
-bench bars COUNTS     how near rewritings of older hints, markers, quick questions, pairs, modules in parts and hints on branches are to their bars; fails where one is broken
+bench bars COUNTS     how near rewritings of older hints, markers, quick questions, pairs, modules in parts, hints on branches and opens of shared tables are to their bars; fails where one is broken
 ";
 
 fn main() -> ExitCode {

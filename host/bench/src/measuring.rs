@@ -1,5 +1,7 @@
 //! Every operation that a payload allows, put once to each reader, and the two results compared.
 
+mod shared;
+
 use comparison::library::{self, ToldStream};
 use comparison::markers::Markers;
 
@@ -66,6 +68,7 @@ pub fn measure(payload: &Payload) -> Result<Vec<Operation>, String> {
         Kind::WidePair => wide_pair(bytes, &payload.own),
         Kind::Module => module(bytes),
         Kind::Code => vec![walk(bytes), on_branches(bytes)],
+        Kind::Shared => shared::calls(payload),
     };
     let agreed = |(operation, alike): Compared| match alike {
         true => Ok(operation),
@@ -462,6 +465,9 @@ mod tests {
             Operation::StreamInParts,
             Operation::StreamInBytes,
             Operation::OnBranches,
+            Operation::TableOpen,
+            Operation::TableLookUp,
+            Operation::TableClose,
         ] {
             assert!(operations.contains(&tried), "not tried: {}", tried.words());
         }

@@ -42,6 +42,9 @@ pub enum Operation {
     StreamInParts,
     StreamInBytes,
     OnBranches,
+    TableOpen,
+    TableLookUp,
+    TableClose,
 }
 
 impl Operation {
@@ -86,6 +89,9 @@ impl Operation {
             Operation::StreamInParts => "stream, parts of 4096",
             Operation::StreamInBytes => "stream, parts of 1",
             Operation::OnBranches => "hints on branches",
+            Operation::TableOpen => "table, open what is stored",
+            Operation::TableLookUp => "table, last function",
+            Operation::TableClose => "table, close",
         }
     }
 }

@@ -1,6 +1,6 @@
 //! A payload, and the names of all that are measured.
 
-use crate::{bytes, code, fixtures, made, modules, pairs};
+use crate::{bytes, code, fixtures, made, modules, pairs, shared};
 
 /// The name of the section with names.
 pub const NAMES: &str = "name";
@@ -23,13 +23,17 @@ pub enum Kind {
     Module,
     /// A whole module with hints on its code.
     Code,
+    /// By the first edition of names, in a shared table in which it is stored already.
+    Shared,
 }
 
 impl Kind {
     /// The name of the custom section that holds such a payload; none of a whole module.
     fn section(self) -> Option<&'static str> {
         match self {
-            Kind::Names | Kind::WideNames | Kind::Pair | Kind::WidePair => Some(NAMES),
+            Kind::Names | Kind::WideNames | Kind::Pair | Kind::WidePair | Kind::Shared => {
+                Some(NAMES)
+            }
             Kind::Hints => Some("metadata.code.branch_hint"),
             Kind::OldHints => Some("branchHints"),
             Kind::Module | Kind::Code => None,
@@ -67,12 +71,13 @@ impl Payload {
     }
 }
 
-/// The names of all payloads: the made ones, the pairs of these, whole modules, some with hints on their code, then those of
-/// the fixtures.
+/// The names of all payloads: the made ones, the pairs of these, whole modules, some with hints on their code, those in
+/// shared tables, then those of the fixtures.
 pub fn names() -> Vec<String> {
     let pairs = pairs::all().map(|(name, _)| name);
     let made = made::payloads().chain(pairs);
     let made = made.chain(modules::all()).chain(code::all());
+    let made = made.chain(shared::all());
     let of_fixtures = fixtures::payloads().into_iter().map(|payload| payload.name);
     made.map(str::to_string).chain(of_fixtures).collect()
 }
@@ -87,5 +92,6 @@ pub fn named(name: &str) -> Option<Payload> {
         .or_else(|| pairs::payload(name))
         .or_else(|| modules::payload(name))
         .or_else(|| code::payload(name))
+        .or_else(|| shared::payload(name))
         .or_else(of_fixtures)
 }
