@@ -4,8 +4,8 @@ mod common;
 
 use common::{refused, EVERY_ID, P};
 use wakemiono::{
-    function_names_into, Edition, First, FunctionIndex, Hints, Metadata, NamePayload, Pair,
-    Refusal, Wider,
+    function_names_into, Customer, Edition, First, FunctionIndex, Hints, Hold, Metadata,
+    NamePayload, Pair, Refusal, SharedTable, Wider,
 };
 
 const GUARD: usize = 16;
@@ -101,6 +101,28 @@ fn pairs_are_joined_between_guards() {
     writes(&[], |out| join::<Wider>(&[], &[0x07, 0x01, 0x00], out));
 }
 
+/// The canonical form goes to the front of a work buffer, and names are copied to that of an output.
+#[test]
+fn shared_payloads_are_opened_and_asked_between_guards() {
+    let padded = [0x01, 0x85, 0x00, 0x01, 0x00, 0x81, 0x00, 0x61];
+    let canonical = [0x01, 0x04, 0x01, 0x00, 0x01, 0x61];
+    let customer = Customer(0);
+    let mut table = SharedTable::new(1).expect("a store may have one block");
+    writes(&canonical, |work| {
+        let opened = table
+            .clone()
+            .open_with(customer, NamePayload::new(&padded), work);
+        opened.map(|_| canonical.len())
+    });
+    table.open(customer, NamePayload::new(&P)).expect("room");
+    let ask = |function, out: &mut [u8]| {
+        let name = table.function_name_into(customer, Hold(0), FunctionIndex(function), out);
+        name.map(|name| name.map_or(0, |name| name.len()))
+    };
+    writes(b"b", |out| ask(3, out));
+    writes(&[], |out| ask(2, out));
+}
+
 #[test]
 fn metadata_and_hints_are_rewritten_between_guards() {
     let padded = [
@@ -136,6 +158,17 @@ fn a_refusal_writes_nothing() {
         NamePayload::wider(&labels_fall).canonical_into(out)
     });
     let left_over = [0x01, 0x02, 0x00, 0x00];
+    let table = SharedTable::new(1).expect("a store may have one block");
+    refuses((10, 3), |work| {
+        let opened = table
+            .clone()
+            .open_with(Customer(0), NamePayload::new(&left_over), work);
+        opened.map(|_| 0)
+    });
+    refuses((24, 0), |out| {
+        let name = table.function_name_into(Customer(0), Hold(0), FunctionIndex(0), out);
+        name.map(|name| name.map_or(0, |name| name.len()))
+    });
     refuses((10, 3), |out| join::<First>(&left_over, &P, out));
     refuses((10, 3), |out| join::<First>(&P, &left_over, out));
     refuses((11, 8), |out| join::<Wider>(&EVERY_ID, &labels_fall, out));
