@@ -110,8 +110,8 @@ fn of_module(payload: &'static str) -> [Bar; 2] {
     ]
 }
 
-/// Large contents in 342 parts of 4,096 bytes: 250 instructions each, so that their bytes cost nothing.
-const LARGE_IN_PARTS: u64 = 342 * 250;
+/// Large contents in 342 parts of 4,096 bytes: 260 instructions each, so that their bytes cost nothing.
+const LARGE_IN_PARTS: u64 = 342 * 260;
 
 /// Hints on code: twice the second reader, which keeps a list of the bodies.
 fn of_code(payload: &'static str) -> Bar {
