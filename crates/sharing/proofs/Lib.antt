@@ -10,3 +10,4 @@ pub mod OpenLaws
 pub mod UseLaws
 pub mod WholeLaws
 pub mod AskLaws
+pub mod TidyLaws

@@ -53,11 +53,11 @@ later-add : (n m : ℕ) (o : Option ℕ) → later n (later m o) ≡ later (n + 
 later-add zero m o = let z : 0 + m ≡ m = omega arith in rw z refl
 later-add (suc n) m o = let z : suc n + m ≡ suc (n + m) = omega arith in rw z (ap after (later-add n m o))
 
-taken-test : (cover : ℕ) (m : Mark) (ms : List Mark) (k : List ℕ) (ks : List (List ℕ)) → taken cover (m ∷ ms) (k ∷ ks) ≡ ltb 0 (max cover (reach m)) ∷ taken (pred (max cover (reach m))) ms ks
+pub taken-test : (cover : ℕ) (m : Mark) (ms : List Mark) (k : List ℕ) (ks : List (List ℕ)) → taken cover (m ∷ ms) (k ∷ ks) ≡ ltb 0 (max cover (reach m)) ∷ taken (pred (max cover (reach m))) ms ks
 unfolding taken
 taken-test cover m ms k ks = refl
 
-taken-end : (cover : ℕ) (ms : List Mark) → taken cover ms [] ≡ []
+pub taken-end : (cover : ℕ) (ms : List Mark) → taken cover ms [] ≡ []
 unfolding taken
 taken-end cover [] = refl
 taken-end cover (m ∷ ms) = refl

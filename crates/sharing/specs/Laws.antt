@@ -30,3 +30,4 @@ pub mod Arrays
 pub mod Bytes
 pub mod Runs
 pub mod Same
+pub mod Packing

@@ -9,6 +9,7 @@ pub mod Named
 pub mod Arrays
 pub mod Marks
 pub mod Words
+pub mod Packing
 pub mod Calls
 pub mod Promises
 pub mod Examples

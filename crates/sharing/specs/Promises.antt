@@ -3,13 +3,14 @@ use Prim.Native.Nat.{ℕ}
 use mathlib.Core.List.{List}
 use mathlib.Core.Path.{_≡_}
 use Rattle.sharing.specs.Arrays.{tableOf, Full}
-use Rattle.sharing.specs.Calls.{openedAs, askedAs, closedAs}
-use Rattle.sharing.specs.Model.{opening, asking, closing}
+use Rattle.sharing.specs.Calls.{openedAs, askedAs, closedAs, tidiedAs}
+use Rattle.sharing.specs.Model.{opening, asking, closing, tidying}
 use Rattle.sharing.specs.Named.{names}
 use Rattle.sharing.specs.Step.{leaves, step}
 use Rattle.sharing.specs.Table.{started}
 use Rattle.sharing.specs.declared.Closed.{Closed}
 use Rattle.sharing.specs.declared.Opened.{Opened}
+use Rattle.sharing.specs.declared.Packed.{Packed}
 use Rattle.sharing.specs.declared.Told.{Told}
 use Rattle.sharing.specs.declared.Table.{Table}
 
@@ -27,3 +28,7 @@ sharing-ask t store customer hold function out left r = leaves (tableOf t) store
 
 abbrev pub sharing-close : (t : Table) (store : List ℕ) (customer hold : ℕ) → Closed → Type 0
 sharing-close t store customer hold r = (leaves (tableOf (r .table)) store (closedAs (r .verdict)) ≡ step names (tableOf t) store (closing customer hold)) × Full (r .table)
+
+-- K13: the step, and what table and store are after it
+abbrev pub sharing-compact : (t : Table) (store : List ℕ) → (after : List ℕ) → Packed → Type 0
+sharing-compact t store after r = (leaves (tableOf (r .table)) after (tidiedAs (r .verdict)) ≡ step names (tableOf t) store tidying) × Full (r .table)

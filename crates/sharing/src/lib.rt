@@ -6,11 +6,13 @@ mod opening;
 mod rows;
 mod runs;
 mod storing;
+mod tidying;
 
 ghost use mathlib.Core.Path.{_≡_};
-ghost use Rattle.sharing.specs.Calls.{notClosed};
-ghost use Rattle.sharing.specs.Promises.{sharing-start, sharing-open, sharing-ask, sharing-close};
+ghost use Rattle.sharing.specs.Calls.{notClosed, notPacked};
+ghost use Rattle.sharing.specs.Promises.{sharing-start, sharing-open, sharing-ask, sharing-close, sharing-compact};
 use crate::asking::reply_at;
+use crate::blocks::BLOCK;
 use crate::holds::HOLDS;
 use crate::holds::entry;
 use crate::holds::fits;
@@ -20,6 +22,10 @@ use crate::holds::size_at;
 use crate::opening::all_in_use;
 use crate::opening::not_opened;
 use crate::opening::open_unused;
+use crate::rows::rows_right;
+use crate::tidying::pack_blocks;
+use crate::tidying::pack_table;
+use crate::tidying::used_blocks;
 use format::Offset;
 use format::Reason;
 use format::Refusal;
@@ -71,6 +77,12 @@ pub struct Closed {
     pub verdict: Verdict,
 }
 
+// What the step that closes the gaps leaves, and its verdict.
+pub struct Packed {
+    pub table: Table,
+    pub verdict: Verdict,
+}
+
 // The new refusals give offset 0.
 fn refuse(reason: Reason) -> Refusal
     ensures { λ r. ⌜ r ≡ record { reason = reason; offset = record { 0 = 0 } } ⌝ }
@@ -85,6 +97,15 @@ fn not_closed(t: Table, reason: Reason) -> Closed
     ensures { λ r. ⌜ r ≡ notClosed t reason ⌝ }
 {
     Closed {
+        table: t,
+        verdict: Verdict::Refused(refuse(reason)),
+    }
+}
+
+fn not_packed(t: Table, reason: Reason) -> Packed
+    ensures { λ r. ⌜ r ≡ notPacked t reason ⌝ }
+{
+    Packed {
         table: t,
         verdict: Verdict::Refused(refuse(reason)),
     }
@@ -145,6 +166,25 @@ pub fn close(t: Table, store: &[u8], customer: u32, hold: u32) -> Closed
     let at = customer as usize * HOLDS + hold as usize;
     Closed {
         table: release(t, at, stands as usize - 1),
+        verdict: Verdict::Accepted,
+    }
+}
+
+// K13: the used blocks move to the front, in their order, and the table follows them. Every used block is looked at before the first is moved.
+pub fn compact(t: Table, store: &mut [u8]) -> Packed
+    ensures { λ r. ⌜ sharing-compact t (now (store .entry)) (now (store .exit)) r ⌝ }
+{
+    if !fits(t.bytes, store.len()) {
+        return not_packed(t, Reason::NotTheStore);
+    }
+    if !rows_right(&t.users, &t.sizes, &*store) {
+        return not_packed(t, Reason::Damaged);
+    }
+    let used = used_blocks(&t.users, &t.sizes, &*store);
+    let table = pack_table(t, &used, store.len() / BLOCK);
+    pack_blocks(&used, store);
+    Packed {
+        table,
         verdict: Verdict::Accepted,
     }
 }

@@ -11,7 +11,7 @@ use crate::blocks::need;
 use crate::rows::Row;
 
 // How many blocks from this one on are had by rows, if rows before it have so many of them.
-fn covered(cover: usize, users: u8, size: u32) -> usize
+pub fn covered(cover: usize, users: u8, size: u32) -> usize
     ensures { λ r. ⌜ r ≡ max cover (table.reach (mark users size)) ⌝ }
 {
     if users == 0 {

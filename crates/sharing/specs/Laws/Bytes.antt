@@ -10,7 +10,7 @@ use Rattle.sharing.specs.Laws.Blocks.{Whole}
 use Rattle.sharing.specs.Table.{blocks, paste}
 use Rattle.sharing.specs.Laws.Histories.{join-cut, whole-cut, cut-length}
 
-join-append : (ks bs : List (List ℕ)) → join (ks ++ bs) ≡ join ks ++ join bs
+pub join-append : (ks bs : List (List ℕ)) → join (ks ++ bs) ≡ join ks ++ join bs
 unfolding join
 join-append [] bs = refl
 join-append (k ∷ ks) bs = ap (λ (l : List ℕ). k ++ l) (join-append ks bs) ∙ sym (append-assoc k (join ks) (join bs))

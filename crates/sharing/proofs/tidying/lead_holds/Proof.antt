@@ -1,0 +1,37 @@
+use Prim.Native.Nat.{_-_}
+use Rattle.sharing.proofs.TidyLaws.{Following, followings}
+use Rattle.sharing.proofs.tidying.lead_holds.Statement.{statement}
+use Rattle.sharing.proofs.tidying.lead_holds.Tie as tie
+
+abbrev Inv-loop : tie.InvT-loop
+Inv-loop to t next₀ k₀ next k = Following to t next k
+
+abbrev μ-loop : tie.MeasureT-loop
+μ-loop to t next₀ k₀ next k = 128 - k
+
+loop-holds : tie.Need-loop-holds Inv-loop μ-loop
+loop-holds c = search followings
+
+element-copy-out-led : tie.Need-element-copy-out-led Inv-loop μ-loop
+element-copy-out-led c = search followings
+
+led-requires : tie.Need-led-requires Inv-loop μ-loop
+led-requires c κs = search followings
+
+element-write-next : tie.Need-element-write-next Inv-loop μ-loop
+element-write-next c = search followings
+
+add-k : tie.Need-add-k Inv-loop μ-loop
+add-k c = search followings
+
+loop-less : tie.Need-loop-less Inv-loop μ-loop
+loop-less c = search followings
+
+loop-again : tie.Need-loop-again Inv-loop μ-loop
+loop-again c = search followings
+
+returns : tie.Need-returns Inv-loop μ-loop
+returns c = search followings
+
+pub lead-holds-spec : {M : Type 1} → statement M
+lead-holds-spec = tie.close (tie.spec Inv-loop μ-loop loop-holds element-copy-out-led led-requires element-write-next add-k loop-less loop-again returns)
