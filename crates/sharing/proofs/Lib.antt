@@ -11,3 +11,4 @@ pub mod UseLaws
 pub mod WholeLaws
 pub mod AskLaws
 pub mod TidyLaws
+pub mod CompactLaws

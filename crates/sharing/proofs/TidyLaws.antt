@@ -64,7 +64,7 @@ module _ {us ns s : List ℕ} {used : List Bool} {b cover : ℕ} (t : Seen us ns
   seen-all h =
       let z : b ≡ length s / 512 = omega (arith, t .near) in
       record {
-        long = t .long;
+        able = record { said = record { long = t .long; few = omega (arith, w .few) }; whole = w .whole };
         is = ap (λ (n : ℕ). take n used) (sym z) ∙ sym (t .is ∙ ap (λ (l : List Bool). take b used ++ l) (ap (taken cover (drop b (marksFrom us ns))) (blocks-end s b h) ∙ taken-end cover (drop b (marksFrom us ns))) ∙ append-nil (take b used));
       }
 

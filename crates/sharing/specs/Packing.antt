@@ -10,11 +10,6 @@ use Rattle.sharing.specs.Table.{table, blocks, taken}
 use Rattle.sharing.specs.Tidy.{moved, packedBlocks, packedMarks, tidiedTable}
 use Rattle.sharing.specs.declared.Table.{Table as Arrays}
 
--- an array that says of each block of the store whether a row has it
-pub record UsedBlocks (users sizes store : List ℕ) (used : List Bool) : Type 0 where
-  pub long : length used ≡ 128
-  pub is : take (length store / 512) used ≡ taken 0 (marksFrom users sizes) (blocks store)
-
 -- a block of the store, and one no further back
 pub record Before (store : List ℕ) (from to : ℕ) : Type 0 where
   pub inside : from < length store / 512
@@ -29,6 +24,11 @@ pub record Used (used : List Bool) (count : ℕ) : Type 0 where
 pub record Packable (used : List Bool) (store : List ℕ) : Type 0 where
   pub said : Used used (length store / 512)
   pub whole : length store % 512 ≡ 0
+
+-- it says of each block whether a row has it
+pub record UsedBlocks (users sizes store : List ℕ) (used : List Bool) : Type 0 where
+  pub able : Packable used store
+  pub is : take (length store / 512) used ≡ taken 0 (marksFrom users sizes) (blocks store)
 
 pub record PacksBlocks (used : List Bool) (old new : List ℕ) : Type 0 where
   pub is : new ≡ join (packedBlocks (take (length old / 512) used) (blocks old))
