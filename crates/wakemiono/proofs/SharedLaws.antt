@@ -1,4 +1,4 @@
--- K12: what the calls on the shared table leave and answer, from what is promised of `sharing`.
+-- K12, K13: what the calls on the shared table leave and answer, from what is promised of `sharing`.
 use Prim.Native.Nat.{ℕ}
 use mathlib.Core.List.{List, []}
 use mathlib.Core.Path.{_≡_, refl, sym, ap, _∙_}
@@ -14,14 +14,15 @@ use Rattle.format.specs.declared.Verdict.the-variants.{Accepted, Refused}
 use Rattle.format.specs.declared.Written.{Written}
 use Rattle.format.specs.declared.Written.the-variants.{Length, Refused as NotWritten}
 use Rattle.sharing.specs.Arrays.{tableOf}
-use Rattle.sharing.specs.Calls.{openedAs, askedAs, closedAs}
-use Rattle.sharing.specs.Model.{Call, Answer, opening, asking, closing}
+use Rattle.sharing.specs.Calls.{openedAs, askedAs, closedAs, tidiedAs}
+use Rattle.sharing.specs.Model.{Call, Answer, opening, asking, closing, tidying}
 use Rattle.sharing.specs.Named.{names}
-use Rattle.sharing.specs.Promises.{sharing-open, sharing-ask, sharing-close}
+use Rattle.sharing.specs.Promises.{sharing-open, sharing-ask, sharing-close, sharing-compact}
 use Rattle.sharing.specs.Step.{After, leaves, step}
 use Rattle.sharing.specs.Table.{Table}
 use Rattle.sharing.specs.declared.Closed.{Closed}
 use Rattle.sharing.specs.declared.Opened.{Opened}
+use Rattle.sharing.specs.declared.Packed.{Packed}
 use Rattle.sharing.specs.declared.Table.{Table as Arrays}
 use Rattle.sharing.specs.declared.Told.{Told}
 use Rattle.sharing.specs.declared.Told.the-variants.{None, Length as Copied, Refused as NotTold}
@@ -58,6 +59,14 @@ closed-buffer : (v : Verdict) → [] ≡ bufferOf (closedAs v)
 closed-buffer Accepted = refl
 closed-buffer (Refused r) = refl
 
+tidied-fields : (v : Verdict) → wmJudged 0 (verdictOf v) ≡ wmShared (tidiedAs v)
+tidied-fields Accepted = refl
+tidied-fields (Refused r) = refl
+
+tidied-buffer : (v : Verdict) → [] ≡ bufferOf (tidiedAs v)
+tidied-buffer Accepted = refl
+tidied-buffer (Refused r) = refl
+
 -- what is left and answered as the step says is shared
 shares-so : (t : Table) (store : List ℕ) (call : Call) (after : Table) (left buffer : List ℕ) (x : Answer) (a : WmAnswer)
     → leaves after left x ≡ step names t store call → buffer ≡ bufferOf x → a ≡ wmShared x → Shares t store call after left buffer a
@@ -87,6 +96,13 @@ module _ (t : Arrays) (store : List ℕ) (customer : ℕ) where
     full = p .1;
   }
 
+pub compacts-shared : (t : Arrays) (store : List ℕ) (r : Packed) {left : List ℕ} {a : WmAnswer} → sharing-compact t store left r → a ≡ wmJudged 0 (verdictOf (r .verdict))
+    → WmShares t store tidying (r .table) left [] a
+compacts-shared t store r {left} {a} p e = record {
+  shares = shares-so (tableOf t) store tidying (tableOf (r .table)) left [] (tidiedAs (r .verdict)) a (p .0) (tidied-buffer (r .verdict)) (e ∙ tidied-fields (r .verdict));
+  full = p .1;
+}
+
 -- the answer to a question, from its three ways
 module _ (t : Told) where
   pub told-none : tagOf told-type.the-type t ≡ 0 → wmNone ≡ wmTold t
@@ -105,4 +121,4 @@ module _ (t : Told) where
 
 pub ruleset tellings = (told-none, told-refused, told-length, needs)
 
-pub ruleset shared = (opens-shared, asks-shared, closes-shared, needs)
+pub ruleset shared = (opens-shared, asks-shared, closes-shared, compacts-shared, needs)

@@ -24,7 +24,7 @@ use Rattle.stream.specs.Fields.{held}
 use Rattle.stream.specs.Stream.{begin}
 use Rattle.stream.specs.declared.Stream.{Stream}
 use Rattle.sharing.specs.Arrays.{tableOf}
-use Rattle.sharing.specs.Model.{opening, asking, closing}
+use Rattle.sharing.specs.Model.{opening, asking, closing, tidying}
 use Rattle.sharing.specs.Promises.{sharing-start}
 use Rattle.sharing.specs.declared.Table.{Table}
 use Rattle.wakemiono.specs.Arriving.{turnedBy, overBy}
@@ -184,3 +184,7 @@ wm-table-function-name t store customer hold function out out′ a = Shares (tab
 
 abbrev pub wm-table-close : (t : Table) (store : List ℕ) (customer hold : ℕ) → (after : Table) → WmAnswer → Type 0
 wm-table-close t store customer hold after a = WmShares t store (closing customer hold) after store [] a
+
+-- K13: the step that closes the gaps
+abbrev pub wm-table-compact : (t : Table) (store : List ℕ) → (after : Table) (left : List ℕ) → WmAnswer → Type 0
+wm-table-compact t store after left a = WmShares t store tidying after left [] a

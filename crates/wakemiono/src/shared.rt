@@ -1,9 +1,9 @@
-// K12: the calls on the shared table. Table and store are the caller's and are lent; the table is copied out, turned by value, and stored. No call has a precondition: every table is taken, also one that nobody started.
+// K12, K13: the calls on the shared table. Table and store are the caller's and are lent; the table is copied out, turned by value, and stored. No call has a precondition: every table is taken, also one that nobody started.
 ghost use mathlib.Core.List.{[]};
 ghost use mathlib.Core.Path.{_≡_};
 ghost use Rattle.sharing.specs.Arrays.{tableOf};
-ghost use Rattle.sharing.specs.Model.{opening, asking, closing};
-ghost use Rattle.wakemiono.specs.Calls.{wm-table-start, wm-table-open, wm-table-function-name, wm-table-close};
+ghost use Rattle.sharing.specs.Model.{opening, asking, closing, tidying};
+ghost use Rattle.wakemiono.specs.Calls.{wm-table-start, wm-table-open, wm-table-function-name, wm-table-close, wm-table-compact};
 ghost use Rattle.wakemiono.specs.Shared.{wmTold, Shares, WmShares};
 use crate::ANSWERED_NONE;
 use crate::WmAnswer;
@@ -15,6 +15,7 @@ use sharing::Table;
 use sharing::Told;
 use sharing::ask;
 use sharing::close;
+use sharing::compact;
 use sharing::open;
 use sharing::start;
 
@@ -67,6 +68,16 @@ fn close_in(t: Table, store: &[u8], customer: u32, hold: u32) -> Shared
     Shared { table, answer }
 }
 
+fn compact_in(t: Table, store: &mut [u8]) -> Shared
+    ensures { λ r. ⌜ WmShares t (now (store .entry)) tidying (r .table) (now (store .exit)) [] (r .answer) ⌝ }
+{
+    let packed = compact(t, store);
+    let verdict = packed.verdict;
+    let answer = of_verdict(verdict, 0);
+    let table = packed.table;
+    Shared { table, answer }
+}
+
 #[no_mangle]
 pub extern "C" fn wm_table_start(bytes: u64) -> Table
     ensures { λ r. ⌜ wm-table-start bytes r ⌝ }
@@ -113,6 +124,15 @@ pub extern "C" fn wm_table_close(
     ensures { λ a. ⌜ wm-table-close (now (table .entry)) (now (store .entry)) customer hold (now (table .exit)) a ⌝ }
 {
     let shared = close_in(*table, store, customer, hold);
+    *table = shared.table;
+    shared.answer
+}
+
+#[no_mangle]
+pub extern "C" fn wm_table_compact(table: &mut Table, store: &mut [u8]) -> WmAnswer
+    ensures { λ a. ⌜ wm-table-compact (now (table .entry)) (now (store .entry)) (now (table .exit)) (now (store .exit)) a ⌝ }
+{
+    let shared = compact_in(*table, store);
     *table = shared.table;
     shared.answer
 }
