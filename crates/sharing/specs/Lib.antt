@@ -14,4 +14,5 @@ pub mod Calls
 pub mod Promises
 pub mod Examples
 pub mod TableCases
+pub mod TidyCases
 pub mod Laws

@@ -23,104 +23,104 @@ use Rattle.sharing.specs.Step.{After, leaves, unused, joined, released, 
 use Rattle.sharing.specs.Table.{Mark, mark, blank, Table, started, lengthFits, blocks, rowsRight, find, reach, taken, startsFree, firstRun, paste}
 
 -- what happens to table and store: a call; or somebody else writes a byte of the store
-data Happening : Type 0 where
+pub data Happening : Type 0 where
   call : Call → Happening
   written : (at byte : ℕ) → Happening
 
-abbrev behind : Happening → Table → List ℕ → After
+abbrev pub behind : Happening → Table → List ℕ → After
 behind (call c) t s = step names t s c
 behind (written at byte) t s = leaves t (set s at byte) closed
 
 -- the payloads that stand in the store: first block, users and length
-abbrev rowAt : ℕ → Mark → List (ℕ × ℕ × ℕ) → List (ℕ × ℕ × ℕ)
+abbrev pub rowAt : ℕ → Mark → List (ℕ × ℕ × ℕ) → List (ℕ × ℕ × ℕ)
 rowAt block m rest = cond (ltb 0 (m .users)) ((block, m .users, m .size) ∷ rest) rest
 
-abbrev rowsFrom : ℕ → List Mark → List (ℕ × ℕ × ℕ)
+abbrev pub rowsFrom : ℕ → List Mark → List (ℕ × ℕ × ℕ)
 rowsFrom block [] = []
 rowsFrom block (m ∷ ms) = rowAt block m (rowsFrom (suc block) ms)
 
 -- the answers up to here, and what table and store are
-record Told : Type 0 where
-  answers : List Answer
-  table : Table
-  store : List ℕ
+pub record Told : Type 0 where
+  pub answers : List Answer
+  pub table : Table
+  pub store : List ℕ
 
-abbrev answered : Happening → After → List Answer → Told
+abbrev pub answered : Happening → After → List Answer → Told
 answered (call c) x before = record { answers = before ++ (x .answer ∷ []); table = x .table; store = x .store }
 answered (written at byte) x before = record { answers = before; table = x .table; store = x .store }
 
-abbrev tellsFrom : Told → List Happening → Told
+abbrev pub tellsFrom : Told → List Happening → Told
 tellsFrom r [] = r
 tellsFrom r (h ∷ hs) = tellsFrom (answered h (behind h (r .table) (r .store)) (r .answers)) hs
 
-abbrev over-a-store : ℕ → List ℕ → Told
+abbrev pub over-a-store : ℕ → List ℕ → Told
 over-a-store n s = record { answers = []; table = started n; store = s }
 
 -- what is told in the end: the answers, the payloads that stand in the store, and the store
-abbrev End : Type 0
+abbrev pub End : Type 0
 End = List Answer × List (ℕ × ℕ × ℕ) × List ℕ
 
-abbrev ending : Told → End
+abbrev pub ending : Told → End
 ending r = (r .answers, rowsFrom 0 (r .table .marks), r .store)
 
 -- from a start over so many bytes; over those of the store that is lent
-abbrev startedWith : ℕ → List ℕ → List Happening → End
+abbrev pub startedWith : ℕ → List ℕ → List Happening → End
 startedWith n s hs = ending (tellsFrom (over-a-store n s) hs)
 
-abbrev tells : List ℕ → List Happening → End
+abbrev pub tells : List ℕ → List Happening → End
 tells s hs = startedWith (length s) s hs
 
 -- Payloads: function 0 called a, and the same padded; called b; called c; with an empty name; and a kept subsection of so many bytes
-abbrev one : List ℕ
+abbrev pub one : List ℕ
 one = hex "01 04 01 00 01 61"
 
-abbrev padded : List ℕ
+abbrev pub padded : List ℕ
 padded = hex "01 85 00 01 80 00 01 61"
 
 -- and with a local called x
 abbrev withLocal : List ℕ
 withLocal = hex "01 04 01 00 01 61 02 06 01 00 01 00 01 78"
 
-abbrev two : List ℕ
+abbrev pub two : List ℕ
 two = hex "01 04 01 00 01 62"
 
-abbrev three : List ℕ
+abbrev pub three : List ℕ
 three = hex "01 04 01 00 01 63"
 
-abbrev unnamed : List ℕ
+abbrev pub unnamed : List ℕ
 unnamed = hex "01 03 01 00 00"
 
-keptOf : ℕ → List ℕ
+unfoldable pub keptOf : ℕ → List ℕ
 keptOf n = 0x63 ∷ (shortest n ++ replicate n 5)
 
 -- Stores: so many blocks of zeros; a block of bytes, zeros and a check
-abbrev free : ℕ → List ℕ
+abbrev pub free : ℕ → List ℕ
 free n = replicate (n * 512) 0
 
-blockOf : List ℕ → List ℕ → List ℕ
+unfoldable pub blockOf : List ℕ → List ℕ → List ℕ
 blockOf bytes sum = bytes ++ (replicate (508 - length bytes) 0 ++ sum)
 
-abbrev blockOne : List ℕ
+abbrev pub blockOne : List ℕ
 blockOne = blockOf one (hex "02 65 01 00")
 
-abbrev blockTwo : List ℕ
+abbrev pub blockTwo : List ℕ
 blockTwo = blockOf two (hex "02 66 01 00")
 
 -- Calls
-abbrev opens : ℕ → List ℕ → List ℕ → Happening
+abbrev pub opens : ℕ → List ℕ → List ℕ → Happening
 opens customer payload work = call (opening customer payload work)
 
-abbrev asks : ℕ → ℕ → ℕ → List ℕ → Happening
+abbrev pub asks : ℕ → ℕ → ℕ → List ℕ → Happening
 asks customer hold index out = call (asking customer hold index out)
 
-abbrev shuts : ℕ → ℕ → Happening
+abbrev pub shuts : ℕ → ℕ → Happening
 shuts customer hold = call (closing customer hold)
 
 -- six bytes of a work buffer, and one of an output
-abbrev work : List ℕ
+abbrev pub work : List ℕ
 work = replicate 6 9
 
-abbrev out : List ℕ
+abbrev pub out : List ℕ
 out = 7 ∷ []
 
 abbrev eightHolds : List Happening
@@ -133,7 +133,7 @@ eightGranted = granted 0 [] ∷ granted 1 [] ∷ granted 2 [] ∷ granted 3 [] �
 abbrev threeCalls : List Happening
 threeCalls = opens 1 two work ∷ asks 0 0 0 out ∷ shuts 0 0 ∷ []
 
-abbrev is : List Answer → List (ℕ × ℕ × ℕ) → List ℕ → End
+abbrev pub is : List Answer → List (ℕ × ℕ × ℕ) → List ℕ → End
 is answers rows store = (answers, rows, store)
 
 -- a payload of no bytes takes a block; one byte is refused; 508 take one block, 509 two, 1,016 two

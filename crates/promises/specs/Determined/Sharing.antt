@@ -2,9 +2,9 @@
 use Prim.Native.Nat.{ℕ}
 use mathlib.Core.List.{List}
 use mathlib.Core.Path.{_≡_, sym, ap, _∙_}
-use Rattle.format.specs.Determined.{Determines1, Determines4, DeterminesBoth6}
-use Rattle.sharing.specs.Laws.Same.{same-table, same-opened, same-told, same-closed}
-use Rattle.sharing.specs.Promises.{sharing-start, sharing-open, sharing-ask, sharing-close}
+use Rattle.format.specs.Determined.{Determines1, Determines4, DeterminesBoth2, DeterminesBoth6}
+use Rattle.sharing.specs.Laws.Same.{same-table, same-opened, same-told, same-closed, same-tidied}
+use Rattle.sharing.specs.Promises.{sharing-start, sharing-open, sharing-ask, sharing-close, sharing-compact}
 use Rattle.sharing.specs.Step.{After}
 use Rattle.sharing.specs.declared.Closed.{Closed}
 use Rattle.sharing.specs.declared.Opened.{Opened}
@@ -18,6 +18,7 @@ pub record Sharing : Type 0 where
   sharing-open : DeterminesThree5 sharing-open
   sharing-ask : DeterminesBoth6 sharing-ask
   sharing-close : Determines4 sharing-close
+  sharing-compact : DeterminesBoth2 sharing-compact
 
 pub determined : Sharing
 determined =
@@ -37,4 +38,10 @@ determined =
           let table = same-table (a .table) (b .table) (p .1) (q .1) (ap (λ (x : After). x .table) e) in
           let told = same-closed (a .verdict) (b .verdict) (ap (λ (x : After). x .answer) e) in
           λ i. record { table = table i; verdict = told i };
+      sharing-compact = λ t store a b p q.
+          let e = p .0 ∙ sym (q .0) in
+          let table = same-table (a .0 .table) (b .0 .table) (p .1) (q .1) (ap (λ (x : After). x .table) e) in
+          let told = same-tidied (a .0 .verdict) (b .0 .verdict) (ap (λ (x : After). x .answer) e) in
+          let left = ap (λ (x : After). x .store) e in
+          λ i. (record { table = table i; verdict = told i }, left i);
     }

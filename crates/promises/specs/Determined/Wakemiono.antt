@@ -2,16 +2,16 @@
 use Prim.Native.Nat.{ℕ}
 use mathlib.Core.List.{List, []}
 use mathlib.Core.Path.{sym, ap, _∙_, _≡_}
-use Rattle.format.specs.Determined.{Determines, Determines1, Determines2, Determines3, Determines4, Determines5, DeterminesBoth2, DeterminesBoth3, DeterminesBoth4, DeterminesThree3, equal-determined, DeterminesBoth1, DeterminesBoth6}
+use Rattle.format.specs.Determined.{Determines, Determines1, Determines2, Determines3, Determines4, Determines5, DeterminesBoth2, DeterminesBoth3, DeterminesBoth4, DeterminesThree2, DeterminesThree3, equal-determined, DeterminesBoth1, DeterminesBoth6}
 use Rattle.format.specs.Markers.{Markers}
 use Rattle.format.specs.Pairs.{Paired}
 use Rattle.format.specs.Reading.{Judged}
 use Rattle.sharing.specs.Laws.Same.{same-table}
-use Rattle.sharing.specs.Model.{Call, closing}
+use Rattle.sharing.specs.Model.{Call, closing, tidying}
 use Rattle.sharing.specs.declared.Table.{Table as SharedTable}
 use Rattle.wakemiono.proofs.Same.{wm-writes-same}
 use Rattle.wakemiono.specs.Boundary.{WmWrites, WmMakes}
-use Rattle.wakemiono.specs.Calls.{wm-walk, wm-section, wm-custom, wm-names-judge, wm-name, wm-metadata-judge, wm-metadata, wm-hints-judge, wm-hint, wm-name-in, wm-metadata-in, wm-hint-in, wm-names-canonical, wm-metadata-canonical, wm-hints-canonical, wm-names-is-canonical, wm-metadata-is-canonical, wm-hints-is-canonical, wm-function-names-write, wm-wide-names-judge, wm-wide-name, wm-wide-name-in, wm-wide-names-canonical, wm-wide-names-is-canonical, wm-old-hints-judge, wm-old-hint, wm-old-hint-in, wm-old-hints-canonical, wm-old-hints-is-canonical, wm-why-function, wm-why-local, wm-markers, wm-quick-function-name, wm-pair, wm-wide-pair, wm-pair-join, wm-wide-pair-join, wm-stream-begin, wm-stream-part, wm-stream-finish, wm-hints-on-branches, wm-table-start, wm-table-open, wm-table-function-name, wm-table-close}
+use Rattle.wakemiono.specs.Calls.{wm-walk, wm-section, wm-custom, wm-names-judge, wm-name, wm-metadata-judge, wm-metadata, wm-hints-judge, wm-hint, wm-name-in, wm-metadata-in, wm-hint-in, wm-names-canonical, wm-metadata-canonical, wm-hints-canonical, wm-names-is-canonical, wm-metadata-is-canonical, wm-hints-is-canonical, wm-function-names-write, wm-wide-names-judge, wm-wide-name, wm-wide-name-in, wm-wide-names-canonical, wm-wide-names-is-canonical, wm-old-hints-judge, wm-old-hint, wm-old-hint-in, wm-old-hints-canonical, wm-old-hints-is-canonical, wm-why-function, wm-why-local, wm-markers, wm-quick-function-name, wm-pair, wm-wide-pair, wm-pair-join, wm-wide-pair-join, wm-stream-begin, wm-stream-part, wm-stream-finish, wm-hints-on-branches, wm-table-start, wm-table-open, wm-table-function-name, wm-table-close, wm-table-compact}
 use Rattle.wakemiono.specs.Pairs.{WmJoins}
 use Rattle.wakemiono.specs.Shared.{WmShares}
 use Rattle.wakemiono.specs.declared.WmAnswer.{WmAnswer}
@@ -96,6 +96,7 @@ pub record Wakemiono : Type 0 where
   wm-table-open : DeterminesFour5 wm-table-open
   wm-table-function-name : DeterminesBoth6 wm-table-function-name
   wm-table-close : DeterminesBoth4 wm-table-close
+  wm-table-compact : DeterminesThree2 wm-table-compact
 
 pub determined : Wakemiono
 determined =
@@ -150,4 +151,7 @@ determined =
       wm-table-close = λ t store customer hold a b p q.
           let all = wm-shares-determined t store (closing customer hold) (a .0, a .1, store, []) (b .0, b .1, store, []) p q in
           ap (λ (r : WmAnswer × SharedTable × List ℕ × List ℕ). (r .0, r .1)) all;
+      wm-table-compact = λ t store a b p q.
+          let all = wm-shares-determined t store tidying (a .0, a .1, a .2, []) (b .0, b .1, b .2, []) p q in
+          ap (λ (r : WmAnswer × SharedTable × List ℕ × List ℕ). (r .0, r .1, r .2)) all;
     }

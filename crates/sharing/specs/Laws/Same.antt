@@ -10,7 +10,7 @@ use Rattle.format.specs.declared.Verdict.the-variants.{Accepted, Refused}
 use Rattle.format.specs.declared.Written.{Written}
 use Rattle.format.specs.declared.Written.the-variants.{Length, Refused as NotWritten}
 use Rattle.sharing.specs.Arrays.{marksFrom, tableOf, Full}
-use Rattle.sharing.specs.Calls.{openedAs, askedAs, closedAs}
+use Rattle.sharing.specs.Calls.{openedAs, askedAs, closedAs, tidiedAs}
 use Rattle.sharing.specs.Model.{Answer, refusal, granted, nothing, found, closed, tidied}
 use Rattle.sharing.specs.Step.{After, leaves}
 use Rattle.sharing.specs.Table.{Mark, Table}
@@ -78,3 +78,9 @@ same-closed Accepted Accepted e = refl
 same-closed Accepted (Refused s) e = apart e (λ z. omega arith)
 same-closed (Refused r) Accepted e = apart e (λ z. omega arith)
 same-closed (Refused r) (Refused s) e = ap Refused (same-refusal r s (cc) (cc))
+
+pub same-tidied : (a b : Verdict) → tidiedAs a ≡ tidiedAs b → a ≡ b
+same-tidied Accepted Accepted e = refl
+same-tidied Accepted (Refused s) e = apart e (λ z. omega arith)
+same-tidied (Refused r) Accepted e = apart e (λ z. omega arith)
+same-tidied (Refused r) (Refused s) e = ap Refused (same-refusal r s (cc) (cc))
