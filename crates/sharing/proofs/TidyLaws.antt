@@ -161,7 +161,7 @@ module _ {used : List Bool} {s new : List ℕ} {b to : ℕ} (t : Shifted used s 
   as-many = packed-length ts b (blocks s) all-there ∙ blocks-length s
 
   module _ (h : b < length s / 512) where
-    pub shifted-before : Before new (b + 1 - 1) to
+    pub shifted-before : Before new b to
     shifted-before = record { inside = omega (arith, t .long); before = omega (arith, t .inside) }
 
     pub shifted-same : getD used b false ≡ false → Shifted used s new (b + 1) to
@@ -177,12 +177,11 @@ module _ {used : List Bool} {s new : List ℕ} {b to : ℕ} (t : Shifted used s 
           whole = rw (← z) (t .whole);
         }
 
-    pub shifted-more : {mid : List ℕ} → getD used b false ≡ true → Wrote new mid (to * 512) (to * 512 + 512) (take 512 (drop ((b + 1 - 1) * 512) new)) → Shifted used s mid (b + 1) (to + 1)
+    pub shifted-more : {mid : List ℕ} → getD used b false ≡ true → Wrote new mid (to * 512) (to * 512 + 512) (take 512 (drop (b * 512) new)) → Shifted used s mid (b + 1) (to + 1)
     shifted-more {mid} e w =
         let i : getD ts b false ≡ true = getD-take (length s / 512) used b false h ∙ e in
         let bs = packedTo ts b (blocks s) in
-        let k : b + 1 - 1 ≡ b = omega arith in
-        let o : Wrote (join bs) mid (to * 512) (to * 512 + 512) (take 512 (drop (b * 512) (join bs))) = rw (k, t .is) at w in
+        let o : Wrote (join bs) mid (to * 512) (to * 512 + 512) (take 512 (drop (b * 512) (join bs))) = rw (t .is) at w in
         let z : set bs to (getD bs b []) ≡ packedTo ts (b + 1) (blocks s) = ap₂ (λ (j : ℕ) (x : List ℕ). set bs j x) (t .ranked) (packed-behind ts b (blocks s) all-there []) ∙ packed-more ts b (blocks s) all-there [] i ∙ rw (add-one b) refl in
         record {
           near = omega arith;

@@ -65,10 +65,10 @@ pub fn pack_blocks(used: &[bool; PLACES], store: &mut [u8])
     let mut b = 0;
     let mut to = 0;
     while b < blocks {
-        let moves = used[b];
+        let from = b;
         b += 1;
-        if moves {
-            move_block(&mut *store, b - 1, to);
+        if used[from] {
+            move_block(&mut *store, from, to);
             to += 1;
         }
     }
@@ -83,15 +83,13 @@ fn pack_rows(t: Table, used: &[bool; PLACES], blocks: usize) -> Table
     let mut b = 0;
     let mut to = 0;
     while b < blocks {
-        let moves = used[b];
-        let users = t.users[b];
-        let size = t.sizes[b];
-        next.users[b] = 0;
-        next.sizes[b] = 0;
+        let from = b;
         b += 1;
-        if moves {
-            next.users[to] = users;
-            next.sizes[to] = size;
+        next.users[from] = 0;
+        next.sizes[from] = 0;
+        if used[from] {
+            next.users[to] = t.users[from];
+            next.sizes[to] = t.sizes[from];
             to += 1;
         }
     }

@@ -12,14 +12,11 @@ abbrev μ-loop : tie.MeasureT-loop
 loop-holds : tie.Need-loop-holds Inv-loop μ-loop
 loop-holds c = search shiftings
 
-element-copy-out-moves : tie.Need-element-copy-out-moves Inv-loop μ-loop
-element-copy-out-moves c = search shiftings
-
 add-b : tie.Need-add-b Inv-loop μ-loop
 add-b c = search shiftings
 
-sub-move-block : tie.Need-sub-move-block Inv-loop μ-loop
-sub-move-block c = search shiftings
+element-copy-out-if1 : tie.Need-element-copy-out-if1 Inv-loop μ-loop
+element-copy-out-if1 c = search shiftings
 
 move-block-requires : tie.Need-move-block-requires Inv-loop μ-loop
 move-block-requires c κs = search shiftings
@@ -46,4 +43,4 @@ returns : tie.Need-returns Inv-loop μ-loop
 returns c = search shiftings
 
 pub pack-blocks-spec : {M : Type 1} → statement M
-pack-blocks-spec = tie.close (tie.spec Inv-loop μ-loop loop-holds element-copy-out-moves add-b sub-move-block move-block-requires add-to loop-less loop-again loop-less-2 loop-again-2 same-length returns)
+pack-blocks-spec = tie.close (tie.spec Inv-loop μ-loop loop-holds add-b element-copy-out-if1 move-block-requires add-to loop-less loop-again loop-less-2 loop-again-2 same-length returns)

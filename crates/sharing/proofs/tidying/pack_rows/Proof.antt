@@ -12,17 +12,8 @@ abbrev μ-loop : tie.MeasureT-loop
 loop-holds : tie.Need-loop-holds Inv-loop μ-loop
 loop-holds c = search rowings
 
-element-copy-out-moves : tie.Need-element-copy-out-moves Inv-loop μ-loop
-element-copy-out-moves c = search rowings
-
-element-copy-out-users : tie.Need-element-copy-out-users Inv-loop μ-loop
-element-copy-out-users c = search rowings
-
-mul-size : tie.Need-mul-size Inv-loop μ-loop
-mul-size c = search rowings
-
-element-copy-out-size : tie.Need-element-copy-out-size Inv-loop μ-loop
-element-copy-out-size c = search rowings
+add-b : tie.Need-add-b Inv-loop μ-loop
+add-b c = search rowings
 
 element-write-next : tie.Need-element-write-next Inv-loop μ-loop
 element-write-next c = search rowings
@@ -33,14 +24,23 @@ mul-next c = search rowings
 element-write-next-2 : tie.Need-element-write-next-2 Inv-loop μ-loop
 element-write-next-2 c = search rowings
 
-add-b : tie.Need-add-b Inv-loop μ-loop
-add-b c = search rowings
+element-copy-out-if1 : tie.Need-element-copy-out-if1 Inv-loop μ-loop
+element-copy-out-if1 c = search rowings
+
+element-copy-out-next : tie.Need-element-copy-out-next Inv-loop μ-loop
+element-copy-out-next c = search rowings
 
 element-write-next-3 : tie.Need-element-write-next-3 Inv-loop μ-loop
 element-write-next-3 c = search rowings
 
 mul-next-2 : tie.Need-mul-next-2 Inv-loop μ-loop
 mul-next-2 c = search rowings
+
+element-copy-out-next-2 : tie.Need-element-copy-out-next-2 Inv-loop μ-loop
+element-copy-out-next-2 c = search rowings
+
+mul-next-3 : tie.Need-mul-next-3 Inv-loop μ-loop
+mul-next-3 c = search rowings
 
 element-write-next-4 : tie.Need-element-write-next-4 Inv-loop μ-loop
 element-write-next-4 c = search rowings
@@ -64,4 +64,4 @@ returns : tie.Need-returns Inv-loop μ-loop
 returns c = search rowings
 
 pub pack-rows-spec : {M : Type 1} → statement M
-pack-rows-spec = tie.close (tie.spec Inv-loop μ-loop loop-holds element-copy-out-moves element-copy-out-users mul-size element-copy-out-size element-write-next mul-next element-write-next-2 add-b element-write-next-3 mul-next-2 element-write-next-4 add-to loop-less loop-again loop-less-2 loop-again-2 returns)
+pack-rows-spec = tie.close (tie.spec Inv-loop μ-loop loop-holds add-b element-write-next mul-next element-write-next-2 element-copy-out-if1 element-copy-out-next element-write-next-3 mul-next-2 element-copy-out-next-2 mul-next-3 element-write-next-4 add-to loop-less loop-again loop-less-2 loop-again-2 returns)
