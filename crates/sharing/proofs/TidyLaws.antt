@@ -17,7 +17,7 @@ use Rattle.sharing.specs.Laws.Arrays.{set-mark, get-mark, marks-length, 
 use Rattle.sharing.specs.Laws.Blocks.{Whole}
 use Rattle.sharing.specs.Laws.Bytes.{blocks-cons, blocks-end, blocks-length}
 use Rattle.sharing.specs.Laws.Histories.{join-cut, whole-cut}
-use Rattle.sharing.specs.Laws.Packing.{rank-none, rank-more, rank-same, rank-inside, rank-few, had-inside, packedTo, clearedTo, packed-none, packed-length, packed-behind, packed-same, packed-more, packed-blocks, cleared-none, cleared-same, cleared-more, cleared-marks, block-over, whole-moved}
+use Rattle.sharing.specs.Laws.Packing.{rank-none, rank-more, rank-same, rank-inside, rank-few, had-inside, packedTo, clearedTo, packed-none, packed-length, packed-ahead, packed-same, packed-more, packed-blocks, cleared-none, cleared-same, cleared-more, cleared-marks, block-over, whole-moved}
 use Rattle.sharing.specs.Marks.{Walkable}
 use Rattle.sharing.specs.Packing.{UsedBlocks, Before, Used, Packable, PacksBlocks, PacksRows, LeadsFrom, Led, LeadsHolds, TidiesTable}
 use Rattle.sharing.specs.Table.{Mark, mark, blank, Table, table, blocks, reach, taken}
@@ -182,7 +182,7 @@ module _ {used : List Bool} {s new : List ℕ} {b to : ℕ} (t : Shifted used s 
         let i : getD ts b false ≡ true = getD-take (length s / 512) used b false h ∙ e in
         let bs = packedTo ts b (blocks s) in
         let o : Wrote (join bs) mid (to * 512) (to * 512 + 512) (take 512 (drop (b * 512) (join bs))) = rw (t .is) at w in
-        let z : set bs to (getD bs b []) ≡ packedTo ts (b + 1) (blocks s) = ap₂ (λ (j : ℕ) (x : List ℕ). set bs j x) (t .ranked) (packed-behind ts b (blocks s) all-there []) ∙ packed-more ts b (blocks s) all-there [] i ∙ rw (add-one b) refl in
+        let z : set bs to (getD bs b []) ≡ packedTo ts (b + 1) (blocks s) = ap₂ (λ (j : ℕ) (x : List ℕ). set bs j x) (t .ranked) (packed-ahead ts b (blocks s) all-there []) ∙ packed-more ts b (blocks s) all-there [] i ∙ rw (add-one b) refl in
         record {
           near = omega arith;
           inside = omega (arith, t .inside);

@@ -1,5 +1,5 @@
 -- Histories by their events, the latest first: each call with its answer as somebody sees it. `says` is what can be seen of it: whether the call was granted, and with which number, which of an open is the hold.
-use Prim.Native.Nat.{ℕ, _+_, _*_, _≤_, _<_}
+use Prim.Native.Nat.{ℕ, suc, _+_, _*_, _≤_, _<_}
 use mathlib.Core.Path.{_≡_}
 use mathlib.Core.Bool.{Bool, false, cond, _&&_}
 use mathlib.Core.List.{List, [], _∷_}
@@ -9,7 +9,7 @@ use lib.ListN.{length, getD, take, drop}
 use Rattle.format.specs.Bytes.{same}
 use Rattle.format.specs.Options.{isSome}
 use Rattle.format.specs.Reading.{Judged, refused, accepted}
-use Rattle.sharing.specs.Blocks.{need, scatter}
+use Rattle.sharing.specs.Blocks.{need, right, scatter}
 use Rattle.sharing.specs.Histories.{owns}
 use Rattle.sharing.specs.Model.{Payloads, Call, opening, asking, closing, tidying, Answer, refusal, granted, nothing, found, closed, tidied}
 use Rattle.sharing.specs.Step.{step}
@@ -27,6 +27,11 @@ pub data Past (P : Payloads) {A : Type 0} (seen : Answer → A) : List (Event A)
   begun : {s : List ℕ} (n : ℕ) → length s ≡ n * 512 → 0 < n → n ≤ 128 → Past P seen [] (started (length s)) s
   called : {es : List (Event A)} {t : Table} {s : List ℕ} (call : Call) → Past P seen es t s → Past P seen (event call (seen (step P t s call .answer)) ∷ es) (step P t s call .table) (step P t s call .store)
 
+-- calls from a table and a store on, each on what the one before left
+pub data Onward (P : Payloads) {A : Type 0} (seen : Answer → A) (t : Table) (s : List ℕ) : List (Event A) → Table → List ℕ → Type 0 where
+  nothing-yet : Onward P seen t s [] t s
+  once-more : {es : List (Event A)} {u : Table} {r : List ℕ} (call : Call) → Onward P seen t s es u r → Onward P seen t s (event call (seen (step P u r call .answer)) ∷ es) (step P u r call .table) (step P u r call .store)
+
 -- A payload stands in the store from a block on: the table counts users there and knows its length, and these blocks are the payload's
 pub record Stored (t : Table) (s : List ℕ) (block : ℕ) (p : List ℕ) : Type 0 where
   pub used : 0 < getD (t .marks) block blank .users
@@ -37,6 +42,27 @@ pub record Stored (t : Table) (s : List ℕ) (block : ℕ) (p : List ℕ) : Type
 pub record FreeRun (t : Table) (s : List ℕ) (first n : ℕ) : Type 0 where
   pub inside : first + n ≤ length (blocks s)
   pub free : (i : ℕ) → first ≤ i → i < first + n → (block : ℕ) (p : List ℕ) → Stored t s block p → block ≤ i → i < block + need (length p) → ⊥
+
+-- a block of a payload that the table has users of is not there, or its check is wrong
+pub record Damage (t : Table) (s : List ℕ) : Type 0 where
+  pub first : ℕ
+  pub further : ℕ
+  pub stands : first < length (blocks s)
+  pub used : 0 < getD (t .marks) first blank .users
+  pub has : further < need (getD (t .marks) first blank .size)
+  pub wrong : right (getD (blocks s) (first + further) []) ≡ false
+
+-- how many of the blocks before one payloads stand in
+pub data UsedBefore (t : Table) (s : List ℕ) : (block used : ℕ) → Type 0 where
+  none-before : UsedBefore t s 0 0
+  one-used : {block used : ℕ} (first : ℕ) (p : List ℕ) → Stored t s first p → first ≤ block → block < first + need (length p) → UsedBefore t s block used → UsedBefore t s (suc block) (suc used)
+  one-free : {block used : ℕ} → FreeRun t s block 1 → UsedBefore t s block used → UsedBefore t s (suc block) used
+
+-- one of the events is the step of K13, and none behind it is a close
+pub data SinceStep {A : Type 0} : List (Event A) → Type 0 where
+  just-now : {es : List (Event A)} {a : A} → SinceStep (event tidying a ∷ es)
+  and-asked : {es : List (Event A)} {a : A} {c hold index : ℕ} {out : List ℕ} → SinceStep es → SinceStep (event (asking c hold index out) a ∷ es)
+  and-opened : {es : List (Event A)} {a : A} {c : ℕ} {payload work : List ℕ} → SinceStep es → SinceStep (event (opening c payload work) a ∷ es)
 
 -- none of a list is so
 pub data Never {A : Type 0} (So : A → Type 0) : List A → Type 0 where

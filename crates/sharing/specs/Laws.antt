@@ -31,3 +31,4 @@ pub mod Bytes
 pub mod Runs
 pub mod Same
 pub mod Packing
+pub mod Compacted

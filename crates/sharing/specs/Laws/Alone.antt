@@ -5,7 +5,7 @@ use mathlib.Core.Bool.{true, false}
 use mathlib.Core.List.{List, [], _∷_}
 use lib.ListN.{set}
 use Rattle.format.specs.Laws.Outcomes.{byTest}
-use Rattle.sharing.specs.Events.{Event, event, Past, begun, called, Never, nor, callsOf, answersTo}
+use Rattle.sharing.specs.Events.{Event, event, Past, begun, called, Onward, nothing-yet, once-more, Never, nor, callsOf, answersTo}
 use Rattle.sharing.specs.Histories.{owns}
 use Rattle.sharing.specs.Laws.Histories.{refines, starts, nobody}
 use Rattle.sharing.specs.Laws.Isolation.{desk-same, owns-is, other-desk}
@@ -29,10 +29,10 @@ never-head (nor f n) = f
 never-tail : {A : Type 0} {So : A → Type 0} {a : A} {l : List A} → Never So (a ∷ l) → Never So l
 never-tail (nor f n) = n
 
-module _ (P : Payloads) {A : Type 0} (seen : Answer → A) (c : ℕ) where
+module _ (P : Payloads) {A : Type 0} (seen : Answer → A) (c : ℕ) (first : List Entry) where
   -- the holds of a customer by their own calls, the latest first, and what these are answered
   unfoldable ownDesk : List Call → List Entry
-  ownDesk [] = desk c nobody
+  ownDesk [] = first
   ownDesk (k ∷ ks) = moved (acts P true (ownDesk ks) k .change) (ownDesk ks)
 
   unfoldable ownAnswers : List Call → List A
@@ -75,12 +75,24 @@ module _ (P : Payloads) {A : Type 0} (seen : Answer → A) (c : ℕ) where
               answers = rw o (w .answers);
             }
 
-    alone : {es : List (Event A)} {t : Table} {s : List ℕ} → Past P seen es t s → Never Full (answersTo c es) → Alone es t s
+    onward : {es : List (Event A)} {t u : Table} {s r : List ℕ} (m : Model) → Stands P t s m → desk c m ≡ first → Onward P seen t s es u r → Never Full (answersTo c es) → Alone es u r
     unfolding callsOf answersTo ownDesk ownAnswers
-    alone (begun {s = s} k e more few) n = record { model = nobody; stands = starts P s k e more few; holds = refl; answers = refl }
-    alone (called call past) n = goes-on call (λ k. alone past k) n
+    onward m st e nothing-yet n = record { model = m; stands = st; holds = e; answers = refl }
+    onward m st e (once-more call o) n = goes-on call (λ k. onward m st e o k) n
 
-    -- two histories that agree on the customer's calls
-    pub same-answers : {es fs : List (Event A)} {t u : Table} {s r : List ℕ} → Past P seen es t s → Past P seen fs u r
-        → Never Full (answersTo c es) → Never Full (answersTo c fs) → callsOf c es ≡ callsOf c fs → answersTo c es ≡ answersTo c fs
-    same-answers p q n k e = alone p n .answers ∙ ap ownAnswers e ∙ sym (alone q k .answers)
+module _ (P : Payloads) {A : Type 0} (seen : Answer → A) (c : ℕ) (Full : A → Type 0) (full : (buffer : List ℕ) → Full (seen (refusal 26 0 buffer))) where
+  alone : {es : List (Event A)} {t : Table} {s : List ℕ} → Past P seen es t s → Never Full (answersTo c es) → Alone P seen c (desk c nobody) es t s
+  unfolding callsOf answersTo ownDesk ownAnswers
+  alone (begun {s = s} k e more few) n = record { model = nobody; stands = starts P s k e more few; holds = refl; answers = refl }
+  alone (called call past) n = goes-on P seen c (desk c nobody) Full full call (λ k. alone past k) n
+
+  -- two histories that agree on the customer's calls
+  pub same-answers : {es fs : List (Event A)} {t u : Table} {s r : List ℕ} → Past P seen es t s → Past P seen fs u r
+      → Never Full (answersTo c es) → Never Full (answersTo c fs) → callsOf c es ≡ callsOf c fs → answersTo c es ≡ answersTo c fs
+  same-answers p q n k e = alone p n .answers ∙ ap (ownAnswers P seen c (desk c nobody)) e ∙ sym (alone q k .answers)
+
+  -- and what goes on from two tables that stand for one model
+  pub same-onward : {es fs : List (Event A)} {t u t′ u′ : Table} {s r s′ r′ : List ℕ} (m : Model) → Stands P t s m → Stands P u r m → Onward P seen t s es t′ s′ → Onward P seen u r fs u′ r′
+      → Never Full (answersTo c es) → Never Full (answersTo c fs) → callsOf c es ≡ callsOf c fs → answersTo c es ≡ answersTo c fs
+  same-onward m st su p q n k e =
+      onward P seen c (desk c m) Full full m st refl p n .answers ∙ ap (ownAnswers P seen c (desk c m)) e ∙ sym (onward P seen c (desk c m) Full full m su refl q k .answers)

@@ -93,7 +93,7 @@ behind x i d e o = record { first = width x + o .first; payload = o .payload; mo
 past-piece : (x : Piece) (sh : Shelf) (d : ℕ) → getD (spread takenOf (x ∷ sh)) (width x + d) true ≡ getD (spread takenOf sh) d true
 past-piece x sh d = ap (λ (n : ℕ). getD (takenOf x ++ spread takenOf sh) (n + d) true) (sym (taken-width x)) ∙ getD-append-add (takenOf x) (spread takenOf sh) d true
 
-over-taken : (sh : Shelf) (i : ℕ) → i < size sh → getD (spread takenOf sh) i true ≡ true → Over i sh
+pub over-taken : (sh : Shelf) (i : ℕ) → i < size sh → getD (spread takenOf sh) i true ≡ true → Over i sh
 over-taken [] i h e = absurd (omega arith)
 over-taken (gap g ∷ sh) zero h e = absurd (no-true e)
 over-taken (gap g ∷ sh) (suc i) h e = behind (gap g) (suc i) i (omega arith) (over-taken sh i (omega arith) e)
@@ -104,17 +104,17 @@ over-taken (row p u ∷ sh) i h e = byTest (ltb i (need (length p)))
     let z : i ≡ width (row p u) + d = omega arith in
     behind (row p u) i d z (over-taken sh d (omega arith) (sym (past-piece (row p u) sh d) ∙ ap (λ (n : ℕ). getD (spread takenOf (row p u ∷ sh)) n true) (sym z) ∙ e)))
 
-taken-over : {b u : ℕ} {p : List ℕ} {sh : Shelf} (i : ℕ) → At b p u sh → b ≤ i → i < b + need (length p) → getD (spread takenOf sh) i true ≡ true
+pub taken-over : {b u : ℕ} {p : List ℕ} {sh : Shelf} (i : ℕ) → At b p u sh → b ≤ i → i < b + need (length p) → getD (spread takenOf sh) i true ≡ true
 taken-over i (here {p = p} {sh = sh} e) h k = all-true (need (length p)) (spread takenOf sh) i (omega arith)
 taken-over {p = p} i (past {d = d} {x = x} {sh = sh} e a) h k =
     let z : i ≡ width x + (i - width x) = omega arith in
     ap (λ (n : ℕ). getD (spread takenOf (x ∷ sh)) n true) z ∙ past-piece x sh (i - width x) ∙ taken-over (i - width x) a (omega arith) (omega arith)
 
 module _ (P : Payloads) {t : Table} {s : List ℕ} {m : Model} (st : Stands P t s m) where
-  taken-size : length (spread takenOf (st .shelf)) ≡ size (st .shelf)
+  pub taken-size : length (spread takenOf (st .shelf)) ≡ size (st .shelf)
   taken-size = spread-length takenOf taken-width (st .shelf)
 
-  run-free : (b k : ℕ) → startsFree (suc k) (drop b (spread takenOf (st .shelf))) ≡ true → FreeRun t s b (suc k)
+  pub run-free : (b k : ℕ) → startsFree (suc k) (drop b (spread takenOf (st .shelf))) ≡ true → FreeRun t s b (suc k)
   run-free b k e =
       let r = starts-is (suc k) (drop b (spread takenOf (st .shelf))) e in
       record {
@@ -125,7 +125,7 @@ module _ (P : Payloads) {t : Table} {s : List ℕ} {m : Model} (st : Stands P t 
             no-true (sym (r .1 (i - b) (omega arith)) ∙ getD-drop b (spread takenOf (st .shelf)) (i - b) true ∙ ap (λ (n : ℕ). getD (spread takenOf (st .shelf)) n true) (sym z) ∙ taken-over i (a .1) g h);
       }
 
-  free-run : (b k : ℕ) → FreeRun t s b (suc k) → startsFree (suc k) (drop b (spread takenOf (st .shelf))) ≡ true
+  pub free-run : (b k : ℕ) → FreeRun t s b (suc k) → startsFree (suc k) (drop b (spread takenOf (st .shelf))) ≡ true
   free-run b k f = is-starts (suc k) (drop b (spread takenOf (st .shelf))) (omega (arith, f .inside, length-drop b (spread takenOf (st .shelf)), taken-size, blocks-size P st))
       (λ i h. getD-drop b (spread takenOf (st .shelf)) i true ∙ byTest (getD (spread takenOf (st .shelf)) (b + i) true)
       (λ y. absurd (let o = over-taken (st .shelf) (b + i) (omega (arith, f .inside, blocks-size P st)) y in f .free (b + i) (omega arith) (omega arith) (o .first) (o .payload) (stored-at P st (o .there)) (o .from) (o .to)))

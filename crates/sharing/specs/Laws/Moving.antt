@@ -126,7 +126,7 @@ module _ (P : Payloads) (t : Table) (s : List ℕ) (m : Model) (st : Stands P t 
   abbrev pub had : List Bool
   had = taken 0 (t .marks) (blocks s)
 
-  had-is : had ≡ spread takenOf (st .shelf)
+  pub had-is : had ≡ spread takenOf (st .shelf)
   had-is = ap₂ (taken 0) (st .laid .marks) (blocks-are (st .laid)) ∙ taken-is (st .shelf) (st .laid .tail)
 
   pub tidy-laid : Laid (tidiedTable t had) (join (packedBlocks had (blocks s))) (tidyShelf (st .shelf))

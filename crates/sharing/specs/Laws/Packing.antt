@@ -77,7 +77,7 @@ module _ {A : Type 0} where
   pack-same (true ∷ ts) (suc b) (x ∷ l) e h = ap (λ (k : List A). x ∷ k) (pack-same ts b l e (omega arith))
   pack-same (false ∷ ts) (suc b) (x ∷ l) e h = pack-same ts b l e (omega arith)
 
-  pack-ranked : (ts : List Bool) (b : ℕ) (l : List A) → length ts ≤ length l → length (pack (take b ts) l) ≡ rank ts b
+  pub pack-ranked : (ts : List Bool) (b : ℕ) (l : List A) → length ts ≤ length l → length (pack (take b ts) l) ≡ rank ts b
   unfolding pack rank
   pack-ranked [] zero l h = refl
   pack-ranked [] (suc b) l h = refl
@@ -115,9 +115,9 @@ module _ {A : Type 0} where
     packed-length = length-append (pack (take b ts) l) (drop (rank ts b) l) ∙ omega (arith, front, length-drop (rank ts b) l, rank-few ts b)
 
     -- what was not passed stands as it was
-    pub packed-behind : (d : A) → getD (packedTo ts b l) b d ≡ getD l b d
+    pub packed-ahead : (d : A) → getD (packedTo ts b l) b d ≡ getD l b d
     unfolding packedTo
-    packed-behind d =
+    packed-ahead d =
         let z : b ≡ length (pack (take b ts) l) + (b - rank ts b) = omega (arith, front, rank-inside ts b) in
         let y : rank ts b + (b - rank ts b) ≡ b = omega (arith, rank-inside ts b) in
         ap (λ (i : ℕ). getD (pack (take b ts) l ++ drop (rank ts b) l) i d) z ∙ getD-append-add (pack (take b ts) l) (drop (rank ts b) l) (b - rank ts b) d ∙ getD-drop (rank ts b) l (b - rank ts b) d ∙ ap (λ (i : ℕ). getD l i d) y

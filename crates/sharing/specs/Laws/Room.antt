@@ -55,23 +55,23 @@ module _ (P : Payloads) (t : Table) (s : List ℕ) (m : Model) (st : Stands P t 
 
 -- A shelf whose rows stand in front: a run is as long as all the free blocks together
 
-starts-enough : (k b : ℕ) → k ≤ b → startsFree k (replicate b false) ≡ true
+pub starts-enough : (k b : ℕ) → k ≤ b → startsFree k (replicate b false) ≡ true
 unfolding startsFree
 starts-enough zero b h = refl
 starts-enough (suc k) zero h = absurd (omega arith)
 starts-enough (suc k) (suc b) h = starts-enough k b (omega arith)
 
-run-enough : (k b : ℕ) → suc k ≤ b → firstRun (suc k) (replicate b false) ≡ some 0
+pub run-enough : (k b : ℕ) → suc k ≤ b → firstRun (suc k) (replicate b false) ≡ some 0
 unfolding firstRun
 run-enough k zero h = absurd (omega arith)
 run-enough k (suc b) h = rw (starts-enough (suc k) (suc b) h)
 
-later-is : (n b : ℕ) → (d : ℕ) × (later n (some b) ≡ some d)
+pub later-is : (n b : ℕ) → (d : ℕ) × (later n (some b) ≡ some d)
 unfolding after
 later-is zero b = (b, refl)
 later-is (suc n) b = let r = later-is n b in (suc (r .0), rw (r .1))
 
-later-not : (n : ℕ) → later n none ≡ none
+pub later-not : (n : ℕ) → later n none ≡ none
 unfolding after
 later-not zero = refl
 later-not (suc n) = rw (later-not n)
@@ -94,7 +94,7 @@ taken-gaps (x ∷ free) = ap (λ (l : List Bool). false ∷ l) (taken-gaps free)
 abbrev pub freeBlocks : Shelf → ℕ
 freeBlocks sh = size sh - size (onlyRows sh)
 
-taken-tidy : (sh : Shelf) → spread takenOf (tidyShelf sh) ≡ replicate (size (onlyRows sh)) true ++ replicate (freeBlocks sh) false
+pub taken-tidy : (sh : Shelf) → spread takenOf (tidyShelf sh) ≡ replicate (size (onlyRows sh)) true ++ replicate (freeBlocks sh) false
 unfolding tidyShelf
 taken-tidy sh = spread-append takenOf (onlyRows sh) (map gap (leftOver sh)) ∙ ap₂ _++_ (taken-rows sh) (taken-gaps (leftOver sh) ∙ ap (λ (n : ℕ). replicate n false) (left-length sh))
 
