@@ -32,3 +32,4 @@ pub mod Runs
 pub mod Same
 pub mod Packing
 pub mod Compacted
+pub mod Dense
