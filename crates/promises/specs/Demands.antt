@@ -62,12 +62,12 @@ use Rattle.format.specs.Parts.{Part}
 use Rattle.stream.specs.declared.Stream.{Stream}
 use Rattle.stream.specs.Calls.{together as joined}
 use Rattle.wakemiono.specs.declared.arriving.WmStreamAnswer.{WmStreamAnswer}
--- THE SHARED TABLE: `SharedTable` is the state that a caller lends beside the store. A call on it is `Opening customer payload work`, `Asking customer hold function out` or `Closing customer hold`, and an event is a record of a `call` and its `answer`. Of events, the latest first: `callsOf c es` are the calls of the customer c, and `answersTo c es` their answers. `openedWith`, `opens` and `closes` are explained at K12, where they are named for the calls. `need n` is how many blocks a payload of n bytes takes, and `blocks s` are those of a store. `Stored (tableOf t) s b p`: the table t has users at the block b and the length of p, and the blocks of the store s from there on are those of p. `FreeRun (tableOf t) s b n`: n blocks from b on lie in the store, and no payload stands in any of them.
+-- THE SHARED TABLE: `SharedTable` is the state that a caller lends beside the store. A call on it is `Opening customer payload work`, `Asking customer hold function out`, `Closing customer hold` or `Tidying`, the step of K13, and an event is a record of a `call` and its `answer`. Of events, the latest first: `callsOf c es` are the calls of the customer c, and `answersTo c es` their answers. `openedWith`, `opens` and `closes` are explained at K12, where they are named for the calls. `need n` is how many blocks a payload of n bytes takes, and `blocks s` are those of a store. `Stored (tableOf t) s b p`: the table t has users at the block b and the length of p, and the blocks of the store s from there on are those of p. `FreeRun (tableOf t) s b n`: n blocks from b on lie in the store, and no payload stands in any of them. `UsedBefore (tableOf t) s b n`: payloads stand in n of the blocks before b; it counts them one by one. `Damage (tableOf t) s`: some block of a payload that the table has users of is not there, or is not `right`: its last four bytes are not the check of the others. `SinceStep es`: one of the events is the step, and none after it is a close.
 use Rattle.format.specs.Canonical.{canonicalNames}
 use Rattle.sharing.specs.Arrays.{tableOf}
 use Rattle.sharing.specs.Blocks.{need}
-use Rattle.sharing.specs.Events.{Event, event, callsOf, answersTo, openedWith, opens, closes, Stored, FreeRun}
-use Rattle.sharing.specs.Model.{opening as Opening, asking as Asking, closing as Closing, Call}
+use Rattle.sharing.specs.Events.{Event, event, callsOf, answersTo, openedWith, opens, closes, Stored, FreeRun, UsedBefore, Damage, SinceStep}
+use Rattle.sharing.specs.Model.{opening as Opening, asking as Asking, closing as Closing, tidying as Tidying, Call}
 use Rattle.sharing.specs.Named.{names as namePayloads}
 use Rattle.sharing.specs.Table.{blank, blocks}
 use Rattle.sharing.specs.declared.Table.{Table as SharedTable}
@@ -89,7 +89,7 @@ use Rattle.format.specs.declared.Question.the-variants.{ModuleName, FunctionNam
 -- Of metadata and hints: `ItemQuestion` is a function and an offset, each a record of one number; `ItemInRange q` says that both are below 4,294,967,296. `OlderInRange q` says it of a question for a hint of the older edition.
 use Rattle.format.specs.Theorems.{ItemQuestion, ItemInRange, OlderInRange}
 -- THE CALLS, each by its promise: `wm-walk bytes a` says that the answer a is one that the promise of wm_walk allows for these bytes. It is the promise itself, the one name that stands in the `ensures` of the call in crates/wakemiono/src. What the promises come to is said below, so that nothing has to be known of how they are put. `wm-name q` is the promise of the call that asks q: wm_module_name asks `ModuleName`, wm_function_name `FunctionName` of its function, wm_type_name `TypeName` of its index, wm_tag_name `TagName` of its tag, wm_local_name `LocalName` of its function and its local, wm_field_name `FieldName` of its index and its field, wm_kept `KeptContents` of its id; `wm-name-in q` is that of the same call with `_in`, which is lent a module. `wm-wide-name q` and `wm-wide-name-in q` are those of the wider edition, wm_wide_module_name and so on, which has six more: wm_wide_label_name asks `LabelName` of its function and its label, wm_wide_table_name `TableName`, wm_wide_memory_name `MemoryName`, wm_wide_global_name `GlobalName`, wm_wide_element_name `ElementName` and wm_wide_data_name `DataName`. The calls that write are promised of the output before and after, too: `old` and `new`. `wm-markers p is os is′ os′ a` is promised of both lists before the call, `is` and `os`, and after it; `wm-quick-function-name p is os end function a` of a payload, two lists, an end and the function asked. `wm-pair q separate own a` is the promise of the call that asks q over two payloads, wm_pair_module_name and so on, and `wm-wide-pair` that of the wider edition; `wm-pair-join separate own old new a` is the join's. `wm-stream-part s p t a` is promised of the state before the call, s, a part, the state after the call, t, and the answer; `wm-stream-finish s t a` of both states and the answer; `wm-stream-begin b` of the state that comes back. `wm-table-start n t` is promised of the length of a store and the table that comes back; `wm-table-open t s customer payload work u r work′ a` of the table, the store and the work buffer before the call and after it, u, r and work′; `wm-table-function-name t s customer hold function out out′ a` of the output before and after, as nothing else is written to, and `wm-table-close t s customer hold u a` of the table.
-use Rattle.wakemiono.specs.Calls.{wm-walk, wm-section, wm-custom, wm-names-judge, wm-name, wm-metadata-judge, wm-metadata, wm-hints-judge, wm-hint, wm-name-in, wm-metadata-in, wm-hint-in, wm-names-canonical, wm-metadata-canonical, wm-hints-canonical, wm-function-names-write, wm-names-is-canonical, wm-metadata-is-canonical, wm-hints-is-canonical, wm-wide-names-judge, wm-wide-name, wm-wide-name-in, wm-wide-names-canonical, wm-wide-names-is-canonical, wm-old-hints-judge, wm-old-hint, wm-old-hint-in, wm-old-hints-canonical, wm-old-hints-is-canonical, wm-why-function, wm-why-local, wm-markers, wm-quick-function-name, wm-pair, wm-wide-pair, wm-pair-join, wm-wide-pair-join, wm-stream-begin, wm-stream-part, wm-stream-finish, wm-hints-on-branches, wm-table-start, wm-table-open, wm-table-function-name, wm-table-close}
+use Rattle.wakemiono.specs.Calls.{wm-walk, wm-section, wm-custom, wm-names-judge, wm-name, wm-metadata-judge, wm-metadata, wm-hints-judge, wm-hint, wm-name-in, wm-metadata-in, wm-hint-in, wm-names-canonical, wm-metadata-canonical, wm-hints-canonical, wm-function-names-write, wm-names-is-canonical, wm-metadata-is-canonical, wm-hints-is-canonical, wm-wide-names-judge, wm-wide-name, wm-wide-name-in, wm-wide-names-canonical, wm-wide-names-is-canonical, wm-old-hints-judge, wm-old-hint, wm-old-hint-in, wm-old-hints-canonical, wm-old-hints-is-canonical, wm-why-function, wm-why-local, wm-markers, wm-quick-function-name, wm-pair, wm-wide-pair, wm-pair-join, wm-wide-pair-join, wm-stream-begin, wm-stream-part, wm-stream-finish, wm-hints-on-branches, wm-table-start, wm-table-open, wm-table-function-name, wm-table-close, wm-table-compact}
 -- HINTS ON BRANCHES, by crates/branches/specs: `hintsOnBranches m` is the check of a module; `importedFunctions` counts the functions that are imported, and `functionBodies` are the bodies. `Placed` has a `number`, where it stands, `at`, and its `value`: of hints, by function and then by offset. The rule without a step stands in Rule.antt, over the grammar of core specification 1.0 in Grammar.antt: `HasHints m`: walk and hint payload of m are accepted; `Hinted m first parts fs`: so are its import list and its list of bodies, `first` functions are imported, `parts` are the bodies and fs the hints. `AllSit first parts fs`: every hint of fs has a body of which a br_if or an if begins at its offset. `ModuleRefused m n at`: the walk, the payload, the import list, the list of bodies or the first hint that does not sit is refused with n at that offset.
 use Rattle.branches.specs.Branches.{importedFunctions, functionBodies, hintsOnBranches}
 use Rattle.branches.specs.Hints.{Placed, Hints}
@@ -834,7 +834,7 @@ pub record K5 : Type 0 where
 
 -- K12. "The shared table itself. A second crate: 16 customers (0 to 15), 8 holds each (0 to 7), over one lent store of 1 to 128 blocks of 512 bytes: 508 of payload, zeros behind its end, then the check, the wrapping sum of those 127 little-endian words, in that byte order. A customer opens a name payload (first edition), lending a work buffer for its canonical form, and gets their lowest unused hold; asks a function name through it, copied to a lent buffer; closes it, the store unchanged. Equal canonical payloads are stored once, in the first run of free blocks long enough, an empty one in one block. Each payload's users at any time are the granted opens less the granted closes of the history; at none its blocks are free and are used again. No answer holds a place in the store. If two histories agree on one customer's calls but for the store, lend at each call the store they started with, of 1 to 128 blocks, written by nothing else, and never refuse that customer for room, the customer's answers are the same. Refusals in this order: 30, a store of another length than at the start, or not 1 to 128 blocks; 23, no such customer; 24, hold not open or above 7; document 01's for the payload, with 13 for the work buffer; 25, eight holds in use; 27, a needed block's check is wrong (an open needs all used blocks, a question those of its payload, a close none), or a question's payload is no longer accepted; 26, payload not yet stored and no free run long enough; for a question, 13 last. The new ones give offset 0. Each changes nothing, save that after 27 or 26 on an open, as after a grant, the work buffer begins with the canonical payload." Proved as `k12` in Proved.antt.
 
--- A history: a table started over a store of 1 to 128 blocks of 512 bytes, and calls one after the other, each lent the table and the store as the one before left them. Each call is an event, with its answer and with the lent buffer after it; the latest comes first
+-- A history: a table started over a store of 1 to 128 blocks of 512 bytes, and calls one after the other, each lent the table and the store as the one before left them; K13's step is one of them. Each call is an event, with its answer and with the lent buffer after it; the latest comes first
 abbrev pub TableEvent : Type 0
 TableEvent = Event (WmAnswer × List ℕ)
 
@@ -843,6 +843,7 @@ pub data History : List TableEvent → SharedTable → (store : List ℕ) → Ty
   anOpen : {es : List TableEvent} {t u : SharedTable} {s r : List ℕ} {a : WmAnswer} (customer : ℕ) (payload work work′ : List ℕ) → wm-table-open t s customer payload work u r work′ a → History es t s → History (event (Opening customer payload work) (a, work′) ∷ es) u r
   aQuestion : {es : List TableEvent} {t : SharedTable} {s : List ℕ} {a : WmAnswer} (customer hold function : ℕ) (out out′ : List ℕ) → wm-table-function-name t s customer hold function out out′ a → History es t s → History (event (Asking customer hold function out) (a, out′) ∷ es) t s
   aClose : {es : List TableEvent} {t u : SharedTable} {s : List ℕ} {a : WmAnswer} (customer hold : ℕ) → wm-table-close t s customer hold u a → History es t s → History (event (Closing customer hold) (a, []) ∷ es) u s
+  aStep : {es : List TableEvent} {t u : SharedTable} {s r : List ℕ} {a : WmAnswer} → wm-table-compact t s u r a → History es t s → History (event Tidying (a, []) ∷ es) u r
 
 -- A call is granted where its answer is found; of an open the length is the hold
 abbrev pub granted : WmAnswer × List ℕ → Option ℕ
@@ -951,3 +952,47 @@ pub record K12 : Type 0 where
   pub open-elsewhere : (t u : SharedTable) (s r : List ℕ) → NotTheStore t s → (customer : ℕ) (payload work work′ : List ℕ) (a : WmAnswer) → wm-table-open t s customer payload work u r work′ a → (a ≡ wmRefused 30 0) × (tableOf u ≡ tableOf t) × (r ≡ s) × (work′ ≡ work)
   pub ask-elsewhere : (t : SharedTable) (s : List ℕ) → NotTheStore t s → (customer hold function : ℕ) (out out′ : List ℕ) (a : WmAnswer) → wm-table-function-name t s customer hold function out out′ a → (a ≡ wmRefused 30 0) × (out′ ≡ out)
   pub close-elsewhere : (t u : SharedTable) (s : List ℕ) → NotTheStore t s → (customer hold : ℕ) (a : WmAnswer) → wm-table-close t s customer hold u a → (a ≡ wmRefused 30 0) × (tableOf u ≡ tableOf t)
+
+-- K13. "Close the gaps. After a busy week the store refuses 26 though half of it is free. Add a step that moves stored blocks to the front, in their present order; blocks behind them keep their bytes. Every customer's next answers are as before, save that an open refused 26 may now be granted; for the first open after the step that reaches that check, with no close between, 26 is given exactly when the payload isn't stored and too few blocks are free in all. K12's rule on two histories counts the step as nobody's call. Refusals: 30, then 27 if any used block's check is wrong, offset 0, found before anything is moved." Proved as `k13` in Proved.antt.
+
+-- Calls from a table and a store on, as in a history
+pub data Onward (t : SharedTable) (s : List ℕ) : List TableEvent → SharedTable → (store : List ℕ) → Type 0 where
+  noneYet : Onward t s [] t s
+  nextOpen : {es : List TableEvent} {u v : SharedTable} {r x : List ℕ} {a : WmAnswer} (customer : ℕ) (payload work work′ : List ℕ) → wm-table-open u r customer payload work v x work′ a → Onward t s es u r → Onward t s (event (Opening customer payload work) (a, work′) ∷ es) v x
+  nextQuestion : {es : List TableEvent} {u : SharedTable} {r : List ℕ} {a : WmAnswer} (customer hold function : ℕ) (out out′ : List ℕ) → wm-table-function-name u r customer hold function out out′ a → Onward t s es u r → Onward t s (event (Asking customer hold function out) (a, out′) ∷ es) u r
+  nextClose : {es : List TableEvent} {u v : SharedTable} {r : List ℕ} {a : WmAnswer} (customer hold : ℕ) → wm-table-close u r customer hold v a → Onward t s es u r → Onward t s (event (Closing customer hold) (a, []) ∷ es) v r
+  nextStep : {es : List TableEvent} {u v : SharedTable} {r x : List ℕ} {a : WmAnswer} → wm-table-compact u r v x a → Onward t s es u r → Onward t s (event Tidying (a, []) ∷ es) v x
+
+-- What an open answers, with its work buffer after it, and what it answers after the step: the same, or it was refused 26 and is granted now
+pub data Eased : (before after : WmAnswer × List ℕ) → Type 0 where
+  asBefore : {r : WmAnswer × List ℕ} → Eased r r
+  nowGranted : (hold : ℕ) (work : List ℕ) → Eased (wmRefused 26 0, work) (wmFound 0 0 hold, work)
+
+-- A step after a history: the table and the store before it, and those that it leaves
+pub record Stepped (t u : SharedTable) (s r : List ℕ) (a : WmAnswer) : Type 0 where
+  -- it is granted
+  pub granted : a ≡ wmFound 0 0 0
+  -- "moves stored blocks to the front, in their present order": each payload goes, with its users, to where as many blocks stand before it as payloads stood in before it; and nothing else stands there then
+  pub goes : (b n : ℕ) (p : List ℕ) → Stored (tableOf t) s b p → UsedBefore (tableOf t) s b n → Stored (tableOf u) r n p × (usersAt u n ≡ usersAt t b)
+  pub came : (n : ℕ) (p : List ℕ) → Stored (tableOf u) r n p → (b : ℕ) × Stored (tableOf t) s b p × UsedBefore (tableOf t) s b n
+  pub counted : (b : ℕ) → b ≤ length (blocks s) → (n : ℕ) × UsedBefore (tableOf t) s b n
+  -- "blocks behind them keep their bytes"
+  pub behind : (n : ℕ) → UsedBefore (tableOf t) s (length (blocks s)) n → (length r ≡ length s) × (drop (n * 512) r ≡ drop (n * 512) s)
+  -- "Every customer's next answers are as before, save that an open refused 26 may now be granted"
+  pub asks : (customer hold function : ℕ) (out out′ out″ : List ℕ) (c d : WmAnswer) → wm-table-function-name t s customer hold function out out′ c → wm-table-function-name u r customer hold function out out″ d → (d ≡ c) × (out″ ≡ out′)
+  pub closes : (customer hold : ℕ) (v w : SharedTable) (c d : WmAnswer) → wm-table-close t s customer hold v c → wm-table-close u r customer hold w d → d ≡ c
+  pub opens : (customer : ℕ) (payload work work′ work″ : List ℕ) (v w : SharedTable) (x y : List ℕ) (c d : WmAnswer) → wm-table-open t s customer payload work v x work′ c → wm-table-open u r customer payload work w y work″ d → Eased (c, work′) (d, work″)
+  -- The same for as long as nobody refuses the customer for room: whatever others do meanwhile, the one time with the step and the other without
+  pub onward : (customer : ℕ) (fs gs : List TableEvent) (v w : SharedTable) (x y : List ℕ) → Onward t s fs v x → Onward u r gs w y → NeverForRoom customer fs → NeverForRoom customer gs → callsOf customer fs ≡ callsOf customer gs → answersTo customer fs ≡ answersTo customer gs
+
+pub record K13 : Type 0 where
+  pub step : (es : List TableEvent) (t u : SharedTable) (s r : List ℕ) → History es t s → (a : WmAnswer) → wm-table-compact t s u r a → Stepped t u s r a
+  -- "for the first open after the step that reaches that check, with no close between, 26 is given exactly when the payload isn't stored and too few blocks are free in all": for every open until the next close
+  pub room : (es : List TableEvent) (t u : SharedTable) (s r : List ℕ) → History es t s → SinceStep es → (customer : ℕ) (payload work work′ : List ℕ) (a : WmAnswer) → wm-table-open t s customer payload work u r work′ a → (p : List ℕ) (h n : ℕ) → MayOpen es t s customer payload work p h → UsedBefore (tableOf t) s (length (blocks s)) n
+      → (a ≡ wmRefused 26 0) ↔ (((b : ℕ) → Stored (tableOf t) s b p → ⊥) × (length (blocks s) < n + need (length p)))
+  -- "K12's rule on two histories counts the step as nobody's call": the histories of `isolation` in K12 have steps, and no customer's calls and answers tell of them
+  pub nobodys : (customer : ℕ) (es : List TableEvent) (r : WmAnswer × List ℕ) → (callsOf customer (event Tidying r ∷ es) ≡ callsOf customer es) × (answersTo customer (event Tidying r ∷ es) ≡ answersTo customer es)
+  -- "Refusals: 30, then 27 if any used block's check is wrong, offset 0, found before anything is moved": of any table. Nothing is changed
+  pub elsewhere : (t u : SharedTable) (s r : List ℕ) → NotTheStore t s → (a : WmAnswer) → wm-table-compact t s u r a → (a ≡ wmRefused 30 0) × (tableOf u ≡ tableOf t) × (r ≡ s)
+  pub damaged : (t u : SharedTable) (s r : List ℕ) → (NotTheStore t s → ⊥) → Damage (tableOf t) s → (a : WmAnswer) → wm-table-compact t s u r a → (a ≡ wmRefused 27 0) × (tableOf u ≡ tableOf t) × (r ≡ s)
+  pub granted : (t u : SharedTable) (s r : List ℕ) → (NotTheStore t s → ⊥) → (Damage (tableOf t) s → ⊥) → (a : WmAnswer) → wm-table-compact t s u r a → a ≡ wmFound 0 0 0

@@ -24,3 +24,4 @@ pub mod Joins
 pub mod Arriving
 pub mod Branching
 pub mod Sharing
+pub mod Compacting

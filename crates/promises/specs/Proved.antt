@@ -68,6 +68,7 @@ use Rattle.promises.specs.Laws.Telling.{number-told, else-zero, yes-told
 use Rattle.promises.specs.Laws.Through.{name-through, hint-through, older-through, metadata-through, hint-data-through}
 use Rattle.promises.specs.Laws.Why.{function-in-1, local-in-2, says-why}
 use Rattle.promises.specs.Laws.Branching.{imports-numbered, bodies-numbered, branches-fair}
+use Rattle.promises.specs.Laws.Compacting.{stepped, room-after, nobodys-call, compact-elsewhere, compact-damaged, compact-granted}
 use Rattle.promises.specs.Laws.Sharing.{open-replies, ask-replies, close-replies, table-users, table-used, table-kept, table-once, isolated-customer, shown-name, never-refused, open-refused, ask-refused, close-refused}
 use Rattle.promises.specs.Laws.FunctionNames.{function-names}
 use Rattle.promises.specs.Laws.Markers.{made-reply, markers-refused, markers-numbered, indices-left, offsets-left, markers-marked, own-answers, rule-followed, quick-refused, quick-numbered}
@@ -75,7 +76,7 @@ use Rattle.promises.specs.Laws.Pairs.{asks-pairs, hands-back}
 use Rattle.promises.specs.Laws.Joins.{joins-pairs}
 use Rattle.promises.specs.Laws.Walking.{walked, walk-counts, section-found, section-first, section-none, section-refused, custom-tells, custom-refused}
 use Rattle.wakemiono.specs.Calls.{wm-walk, wm-metadata-judge, wm-hints-judge, wm-metadata-canonical, wm-hints-canonical, wm-function-names-write, wm-old-hints-judge, wm-old-hints-canonical, wm-hints-on-branches}
-use Rattle.promises.specs.Demands.{Verdict, Reply, SectionReply, HintReply, Answers, RefusedBy, RefusedThrough, RefusedOrShort, ListsRefused, NeedsRoom, Writing, Demand1, HoldsName, HoldsData, JudgesExactly, AnswersNames, AnswersMetadata, AnswersHints, Walks, Demand2, SameAnswer, Rewritten, Rewrites, Demand3, yes, no, replyNone, replyFound, replyRefused, sectionNone, sectionFound, sectionRefused, hintNone, hintUnlikely, hintLikely, hintRefused, byTheWalk, byItsPayload, asJudged, tooShort, listsDisagree, notAbove, notText, subsectionTooLarge, outputTooShort, TellsCanonical, K10, K9, OlderRefused, AnswersOlder, K2, olderJudged, olderTooLong, olderTooShort, K11, K7, K8, K3, Leaves, K5, K6, K12}
+use Rattle.promises.specs.Demands.{Verdict, Reply, SectionReply, HintReply, Answers, RefusedBy, RefusedThrough, RefusedOrShort, ListsRefused, NeedsRoom, Writing, Demand1, HoldsName, HoldsData, JudgesExactly, AnswersNames, AnswersMetadata, AnswersHints, Walks, Demand2, SameAnswer, Rewritten, Rewrites, Demand3, yes, no, replyNone, replyFound, replyRefused, sectionNone, sectionFound, sectionRefused, hintNone, hintUnlikely, hintLikely, hintRefused, byTheWalk, byItsPayload, asJudged, tooShort, listsDisagree, notAbove, notText, subsectionTooLarge, outputTooShort, TellsCanonical, K10, K9, OlderRefused, AnswersOlder, K2, olderJudged, olderTooLong, olderTooShort, K11, K7, K8, K3, Leaves, K5, K6, K12, K13}
 use Rattle.branches.specs.Branches.{hintsOnBranches}
 use Rattle.branches.specs.Theorems.{module-exactly, module-refused-exactly, without-hints}
 use Rattle.promises.specs.Answers.{saysVerdict, verdict-said}
@@ -510,4 +511,14 @@ k12 = record {
   open-elsewhere = open-refused;
   ask-elsewhere = ask-refused;
   close-elsewhere = close-refused;
+}
+
+pub k13 : K13
+k13 = record {
+  step = stepped;
+  room = room-after;
+  nobodys = nobodys-call;
+  elsewhere = compact-elsewhere;
+  damaged = compact-damaged;
+  granted = compact-granted;
 }

@@ -43,15 +43,15 @@ use Rattle.wakemiono.specs.Boundary.{wmNone, wmFound, wmRefused, wmPlace}
 use Rattle.wakemiono.specs.Calls.{wm-name, wm-table-open, wm-table-function-name, wm-table-close}
 use Rattle.wakemiono.specs.Shared.{wmShared, bufferOf, Shares}
 use Rattle.wakemiono.specs.declared.WmAnswer.{WmAnswer}
-use Rattle.promises.specs.Demands.{FoundIn, TableEvent, History, itsStart, anOpen, aQuestion, aClose, granted, heldBy, opensOf, closesOf, OpensLessCloses, usersAt, numbers, isAmong, MayOpen, OpenReply, openNoCustomer, openNotAccepted, openTooShort, openNoHold, openNoRoom, openStored, openNew, QuestionReply, askNoCustomer, askNotOpen, askNone, askTooShort, askFound, CloseReply, closeNoCustomer, closeNotOpen, closeOpen, NeverForRoom, OpenedIn, NotTheStore, otherLength, noBlocks}
+use Rattle.promises.specs.Demands.{FoundIn, TableEvent, History, itsStart, anOpen, aQuestion, aClose, aStep, granted, heldBy, opensOf, closesOf, OpensLessCloses, usersAt, numbers, isAmong, MayOpen, OpenReply, openNoCustomer, openNotAccepted, openTooShort, openNoHold, openNoRoom, openStored, openNew, QuestionReply, askNoCustomer, askNotOpen, askNone, askTooShort, askFound, CloseReply, closeNoCustomer, closeNotOpen, closeOpen, NeverForRoom, OpenedIn, NotTheStore, otherLength, noBlocks}
 use Rattle.promises.specs.Laws.Refusing.{names-fair}
 use Rattle.promises.specs.Laws.Saying.{found-said}
 
 -- what is seen of an answer
-abbrev seen : Answer → WmAnswer × List ℕ
+abbrev pub seen : Answer → WmAnswer × List ℕ
 seen a = (wmShared a, bufferOf a)
 
-sees : (a : Answer) → granted (seen a) ≡ yes a
+pub sees : (a : Answer) → granted (seen a) ≡ yes a
 unfolding yes
 sees (refusal n at buffer) = refl
 sees (grantedAs hold work) = refl
@@ -70,16 +70,18 @@ past (itsStart n e more few is) = rw (is .0) (begun n e more few)
 past (anOpen customer payload work work′ is h) = one-more (opening customer payload work) (is .shares) (past h)
 past (aQuestion customer hold function out out′ is h) = one-more (asking customer hold function out) is (past h)
 past (aClose customer hold is h) = one-more (closing customer hold) (is .shares) (past h)
+past (aStep is h) = one-more tidying (is .shares) (past h)
 
-full : {es : List TableEvent} {t : SharedTable} {s : List ℕ} → History es t s → Full t
+pub full : {es : List TableEvent} {t : SharedTable} {s : List ℕ} → History es t s → Full t
 full (itsStart n e more few is) = is .1
 full (anOpen customer payload work work′ is h) = is .full
 full (aQuestion customer hold function out out′ is h) = full h
 full (aClose customer hold is h) = is .full
+full (aStep is h) = is .full
 
 -- An open
 
-not-accepted-form : (payload : List ℕ) {n at : ℕ} → canonicalNames knownKind payload ≡ refused n at → judgeNames knownKind 0 payload ≡ refused n at
+pub not-accepted-form : (payload : List ℕ) {n at : ℕ} → canonicalNames knownKind payload ≡ refused n at → judgeNames knownKind 0 payload ≡ refused n at
 unfolding canonicalNames
 not-accepted-form payload e = refused-exactly rewriteNames (judgeNames knownKind 0 payload) .0 e
 
@@ -182,10 +184,10 @@ module _ {es : List TableEvent} {t : SharedTable} {s : List ℕ} (h : History es
 
 -- Isolation
 
-abbrev ForRoom : WmAnswer × List ℕ → Type 0
+abbrev pub ForRoom : WmAnswer × List ℕ → Type 0
 ForRoom r = r .0 ≡ wmRefused 26 0
 
-never-for-room : (l : List (WmAnswer × List ℕ)) → ((buffer : List ℕ) → Among (wmRefused 26 0, buffer) l → ⊥) → Never ForRoom l
+pub never-for-room : (l : List (WmAnswer × List ℕ)) → ((buffer : List ℕ) → Among (wmRefused 26 0, buffer) l → ⊥) → Never ForRoom l
 never-for-room [] f = never
 never-for-room (r ∷ l) f = nor (λ e. f (r .1) (subst (λ (x : WmAnswer). Among (x, r .1) (r ∷ l)) e here)) (never-for-room l (λ buffer m. f buffer (further m)))
 
@@ -245,7 +247,7 @@ number-of closed e = absurd (omega (arith, ap (λ (x : WmAnswer). x .kind) e))
 number-of tidied e = absurd (omega (arith, ap (λ (x : WmAnswer). x .kind) e))
 
 -- payloads are refused with neither
-not-own : (k : ℕ) → isAmong numbers k ≡ false → (p : List ℕ) (n at : ℕ) → names .canonical p ≡ refused n at → n ≢ k
+pub not-own : (k : ℕ) → isAmong numbers k ≡ false → (p : List ℕ) (n at : ℕ) → names .canonical p ≡ refused n at → n ≢ k
 unfolding names
 not-own k l p n at e z = no-both (sym l ∙ rw z at (names-fair knownKind 0 p .numbered n at (not-accepted-form p e)))
   where
@@ -269,7 +271,7 @@ never-refused es t s h call r m n at e = (λ z. never-here 27 (omega arith) refl
 
 -- Another store
 
-not-its : (t : SharedTable) (s : List ℕ) → NotTheStore t s → lengthFits (t .bytes) (length s) ≡ false
+pub not-its : (t : SharedTable) (s : List ℕ) → NotTheStore t s → lengthFits (t .bytes) (length s) ≡ false
 unfolding lengthFits
 not-its t s n = byTest (lengthFits (t .bytes) (length s))
     (λ y. absurd (onBoth (eqb (length s) (t .bytes)) (eqb (length s % 512) 0 && (ltb 0 (length s) && leb (length s) 65536)) y λ a b.
@@ -282,7 +284,7 @@ not-its t s n = byTest (lengthFits (t .bytes) (length s))
     on (otherLength g) a b c d = g a
     on (noBlocks g) a b c d = g (length s / 512) (omega arith) (omega arith) (omega arith)
 
-elsewhere : (t : SharedTable) (s : List ℕ) (call : Call) → NotTheStore t s → step names (tableOf t) s call ≡ leaves (tableOf t) s (refusal 30 0 (lent call))
+pub elsewhere : (t : SharedTable) (s : List ℕ) (call : Call) → NotTheStore t s → step names (tableOf t) s call ≡ leaves (tableOf t) s (refusal 30 0 (lent call))
 unfolding step
 elsewhere t s call n = rw (not-its t s n)
 
