@@ -68,7 +68,8 @@ pub use pairs::{
 };
 pub use stream::{stream_begin, stream_finish, stream_part, Stream};
 pub use table::{
-    table_close, table_function_name, table_open, table_start, OpenHold, Stored, Table,
+    table_close, table_compact, table_function_name, table_open, table_start, OpenHold, Stored,
+    Table,
 };
 pub use telling::{
     hints_is_canonical, metadata_is_canonical, names_is_canonical, old_hints_is_canonical,

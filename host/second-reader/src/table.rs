@@ -106,6 +106,12 @@ pub fn table_close(table: &mut Table, store: &[u8], customer: u32, hold: u32) ->
     Answer::counted(table.close(store, (customer, hold)).map(|()| 0))
 }
 
+/// Moves what is stored to the front of the store, and so joins the blocks that are free. Found: nothing
+/// more is said.
+pub fn table_compact(table: &mut Table, store: &mut [u8]) -> Answer {
+    Answer::counted(table.compact(store).map(|()| 0))
+}
+
 impl Table {
     /// What is stored, in the order of the store. No call tells it: it is for whoever looks on.
     #[must_use]
@@ -185,6 +191,31 @@ impl Table {
         self.check_store(store)?;
         self.place(hold)?;
         self.holds.remove(&hold);
+        Ok(())
+    }
+
+    fn compact(&mut self, store: &mut [u8]) -> Result<(), Refusal> {
+        self.check_store(store)?;
+        self.check_used_blocks(store)?;
+        let mut moved = BTreeMap::new();
+        let mut first_block = 0;
+        // In the order of the store, so that nothing is written over that has not moved yet.
+        for place in self.places() {
+            let blocks = place.blocks();
+            let bytes = blocks.start * BLOCK..blocks.end * BLOCK;
+            store.copy_within(bytes, first_block * BLOCK);
+            moved.insert(
+                place,
+                Place {
+                    first_block,
+                    ..place
+                },
+            );
+            first_block += blocks.len();
+        }
+        for place in self.holds.values_mut() {
+            *place = moved[place];
+        }
         Ok(())
     }
 

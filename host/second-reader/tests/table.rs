@@ -263,6 +263,7 @@ fn every_call_is_30(table: &mut Table, store: &mut [u8]) {
         assert_eq!(asked, refused(30, 0));
         assert_eq!(table_close(table, store, customer, HOLDS), refused(30, 0));
     }
+    assert_eq!(table_compact(table, store), refused(30, 0));
     assert_eq!(lent, [UNTOUCHED; NAMED.len()]);
     assert_eq!((table.clone(), store.to_vec()), before);
 }
@@ -546,4 +547,218 @@ fn k12_r31a_a_question_changes_nothing() {
     assert_eq!(shop.ask(0, 0, 0), (found(0, 1), b"a".to_vec()));
     assert_eq!(shop.ask(0, 0, 9), (NONE, vec![]));
     assert_eq!(shop, before);
+}
+
+// Gaps.
+
+/// A shop of so many blocks. Its first payloads take the blocks that are said, and hold their number as
+/// a byte; payload n is open as hold n % 8 of customer n / 8.
+fn shop_of(blocks: usize, payloads: &[usize]) -> Shop {
+    let mut shop = Shop::new(blocks);
+    for (number, blocks) in payloads.iter().enumerate() {
+        let payload = kept_payload(blocks * PAYLOAD, number as u8);
+        shop.open_granted(number as u32 / HOLDS, &payload);
+    }
+    shop
+}
+
+fn close_payloads(shop: &mut Shop, payloads: &[usize]) {
+    for number in payloads.iter().map(|number| *number as u32) {
+        assert_eq!(shop.close(number / HOLDS, number % HOLDS), CLOSED);
+    }
+}
+
+/// The blocks that a step leaves, by the numbers that they had before it.
+#[track_caller]
+fn compacts_to(shop: &mut Shop, old_numbers: &[usize]) {
+    let before = shop.clone();
+    assert_eq!(shop.compact(), COMPACTED);
+    for (number, old) in old_numbers.iter().enumerate() {
+        assert_eq!(shop.block(number), before.block(*old), "block {number}");
+    }
+    assert_eq!(shop.store.len(), old_numbers.len() * BLOCK);
+    assert_no_gap(shop, &before);
+    let once = shop.clone();
+    assert_eq!(shop.compact(), COMPACTED);
+    assert_eq!(*shop, once, "a second step finds nothing to move");
+}
+
+/// What is stored stands side by side, each payload as before and open by the same holds.
+fn assert_no_gap(shop: &Shop, before: &Shop) {
+    let (stored, stored_before) = (
+        shop.table.stored(&shop.store),
+        before.table.stored(&before.store),
+    );
+    let mut first_block = 0;
+    for (stored, before) in stored.iter().zip(&stored_before) {
+        assert_eq!(stored.first_block, first_block);
+        assert_eq!(stored.payload, before.payload);
+        assert_eq!(stored.users, before.users);
+        first_block += stored.payload.len().div_ceil(PAYLOAD).max(1);
+    }
+    assert_eq!(stored.len(), stored_before.len());
+    for (open, before) in shop.table.open_holds().zip(before.table.open_holds()) {
+        assert_eq!((open.customer, open.hold), (before.customer, before.hold));
+        assert_eq!(open.length, before.length);
+    }
+    assert_eq!(
+        shop.table.open_holds().count(),
+        before.table.open_holds().count()
+    );
+}
+
+#[test]
+fn a_store_in_which_nothing_is_stored_stays_as_it_is() {
+    let mut never_used = Shop::new(2);
+    compacts_to(&mut never_used, &[0, 1]);
+    let mut free_again = shop_of(3, &[1, 2]);
+    close_payloads(&mut free_again, &[0, 1]);
+    compacts_to(&mut free_again, &[0, 1, 2]);
+}
+
+#[test]
+fn so_does_one_without_a_gap() {
+    compacts_to(&mut shop_of(4, &[1, 2]), &[0, 1, 2, 3]);
+    compacts_to(&mut shop_of(3, &[1, 2]), &[0, 1, 2]);
+    compacts_to(&mut shop_of(1, &[1]), &[0]);
+}
+
+/// Each payload goes to the front in the order in which it stands, and blocks behind them are as they were.
+#[test]
+fn k13_r34_gaps_are_closed_and_blocks_behind_keep_their_bytes() {
+    let rows: [(&[usize], &[usize], &[usize]); 6] = [
+        // At the front, of one block and of many.
+        (&[1, 1, 1], &[0], &[1, 2, 2, 3, 4, 5]),
+        (&[3, 2, 1], &[0], &[3, 4, 5, 3, 4, 5]),
+        // In the middle, of one block and of many.
+        (&[2, 1, 2], &[1], &[0, 1, 3, 4, 4, 5]),
+        (&[1, 1, 2, 2], &[1, 2], &[0, 4, 5, 3, 4, 5]),
+        // Two of them, and with the last block in use.
+        (&[1, 2, 1, 1, 1], &[0, 2], &[1, 2, 4, 5, 4, 5]),
+        // A payload that is longer than the gap before it.
+        (&[1, 5], &[0], &[1, 2, 3, 4, 5, 5]),
+    ];
+    for (payloads, closed, left) in rows {
+        let mut shop = shop_of(6, payloads);
+        close_payloads(&mut shop, closed);
+        compacts_to(&mut shop, left);
+    }
+}
+
+#[test]
+fn k13_r34_blocks_1_and_3_of_4() {
+    let mut shop = shop_of(4, &[1, 1, 1, 1]);
+    close_payloads(&mut shop, &[0, 2]);
+    compacts_to(&mut shop, &[1, 3, 2, 3]);
+    assert_eq!(shop.stored(), [(0, 1), (1, 1)]);
+}
+
+/// Every second block of the greatest store, before and behind the others.
+#[test]
+fn every_second_block_of_128() {
+    for free in [0, 1] {
+        let mut shop = shop_of(MOST_BLOCKS, &[1; MOST_BLOCKS]);
+        let closed: Vec<usize> = (free..MOST_BLOCKS).step_by(2).collect();
+        close_payloads(&mut shop, &closed);
+        let used = (1 - free..MOST_BLOCKS).step_by(2);
+        let left: Vec<usize> = used.chain(MOST_BLOCKS / 2..MOST_BLOCKS).collect();
+        compacts_to(&mut shop, &left);
+    }
+}
+
+/// An empty payload takes a block, too.
+#[test]
+fn an_empty_payload_moves_with_the_others() {
+    let mut shop = shop_of(3, &[1]);
+    shop.open_granted(1, &[]);
+    shop.open_granted(2, &NAMED);
+    close_payloads(&mut shop, &[0]);
+    compacts_to(&mut shop, &[1, 2, 2]);
+    assert_eq!(shop.ask(1, 0, 0), (NONE, vec![]));
+    assert_eq!(shop.ask(2, 0, 0), (found(0, 1), b"a".to_vec()));
+}
+
+#[test]
+fn every_customer_is_answered_as_before() {
+    let mut shop = shop_of(6, &[2]);
+    for customer in [3, 9, 15] {
+        shop.open_granted(customer, &NAMED);
+        shop.open_granted(customer, &[customer as u8 + 100, 0x00]);
+    }
+    assert_eq!(shop.close(3, 1), CLOSED);
+    close_payloads(&mut shop, &[0]);
+    let before = shop.clone();
+    assert_eq!(shop.compact(), COMPACTED);
+    assert_eq!(shop.stored(), [(0, 3), (1, 1), (2, 1)]);
+    for customer in 0..=CUSTOMERS {
+        for hold in 0..=HOLDS {
+            for function in 0..4 {
+                let asked = shop.ask(customer, hold, function);
+                assert_eq!(asked, before.ask(customer, hold, function));
+            }
+            let closed = before.clone().close(customer, hold);
+            assert_eq!(shop.clone().close(customer, hold), closed);
+        }
+        for payload in [&NAMED[..], &NAMED_OTHERWISE, &[109, 0x00], &[], &[0xFF]] {
+            let opened = before.clone().open(customer, payload);
+            assert_eq!(shop.clone().open(customer, payload), opened);
+        }
+    }
+}
+
+/// Two blocks are free, and there is no run of two before the step.
+#[test]
+fn an_open_that_was_refused_26_is_granted_after_the_step() {
+    let mut shop = shop_of(5, &[1, 1, 1, 1, 1]);
+    close_payloads(&mut shop, &[1, 3]);
+    let two_blocks = kept_payload(2 * PAYLOAD, 0x77);
+    let three_blocks = kept_payload(3 * PAYLOAD, 0x77);
+    assert_eq!(shop.open(1, &two_blocks), refused(26, 0));
+    assert_eq!(shop.compact(), COMPACTED);
+    assert_eq!(shop.open(1, &three_blocks), refused(26, 0));
+    assert_eq!(shop.open(1, &two_blocks), found(0, 0));
+    assert_eq!(shop.stored(), [(0, 1), (1, 1), (2, 1), (3, 1)]);
+    assert_eq!(shop.open(1, &[]), refused(26, 0));
+    assert_eq!(shop.open(2, &two_blocks), found(0, 0));
+}
+
+/// Every byte of a store is changed: what is used is met though it would not have to move, and nothing
+/// moves; what is free is not met.
+#[test]
+fn k13_r34_a_damaged_block_is_27_before_anything_moves() {
+    let mut whole = shop_of(6, &[1, 2, 1, 1]);
+    close_payloads(&mut whole, &[2]);
+    for at in 0..whole.store.len() {
+        let mut shop = whole.clone();
+        shop.store[at] ^= 1 << (at % 8);
+        let is_free = [3, 5].contains(&(at / BLOCK));
+        match is_free {
+            true => compacts_to(&mut shop, &[0, 1, 2, 4, 4, 5]),
+            false => assert_eq!(shop.compact(), refused(27, 0), "byte {at}"),
+        }
+    }
+    let mut without_gap = shop_of(2, &[1, 1]);
+    without_gap.store[BLOCK] ^= 1;
+    assert_eq!(without_gap.compact(), refused(27, 0));
+}
+
+/// Checks alone are looked at: what is no longer accepted moves as it stands.
+#[test]
+fn a_payload_that_is_no_longer_accepted_moves() {
+    let mut shop = shop_of(2, &[1]);
+    shop.open_granted(1, &NAMED);
+    close_payloads(&mut shop, &[0]);
+    shop.tamper(1, 5, &[0xFF]);
+    compacts_to(&mut shop, &[1, 1]);
+    assert_eq!(shop.ask(1, 0, 0), (refused(27, 0), vec![]));
+}
+
+#[test]
+fn k13_30_comes_before_27() {
+    let mut shop = shop_of(2, &[1]);
+    shop.store[0] ^= 1;
+    let mut too_long = [&shop.store[..], &[0; BLOCK]].concat();
+    every_call_is_30(&mut shop.table, &mut too_long);
+    every_call_is_30(&mut shop.table, &mut too_long[..BLOCK]);
+    assert_eq!(shop.compact(), refused(27, 0));
 }

@@ -102,6 +102,13 @@ impl Shop {
         answer
     }
 
+    pub fn compact(&mut self) -> Answer {
+        let before = self.clone();
+        let answer = table_compact(&mut self.table, &mut self.store);
+        assert!(answer.kind == Kind::Found || *self == before);
+        answer
+    }
+
     pub fn block(&self, number: usize) -> &[u8] {
         &self.store[number * BLOCK..][..BLOCK]
     }
@@ -124,6 +131,7 @@ impl Shop {
 }
 
 pub const CLOSED: Answer = found(0, 0);
+pub const COMPACTED: Answer = found(0, 0);
 
 /// A canonical payload of a length of which all is kept, and whose contents are all this byte.
 pub fn kept_payload(length: usize, byte: u8) -> Vec<u8> {
