@@ -431,8 +431,8 @@ wm_stream_answer wm_stream_finish(wm_stream *stream);
  * The store is memory of 1 to 128 blocks of 512 bytes, which the caller lends at each call as the call before left it; at the
  * start it may hold anything. A block has 508 bytes of payload, zeros behind the payload's end, then the check: the wrapping
  * sum of those 127 little-endian words, as such a word. A payload takes the first run of free blocks that is long enough, an
- * empty one a block; free blocks keep what they hold. Checks are for what something else wrote to the store: an open needs all
- * used blocks, a question those of its payload, a close none.
+ * empty one a block; free blocks keep what they hold. Checks are for what something else wrote to the store: an open and a
+ * compaction need all used blocks, a question those of its payload, a close none.
  *
  * What is known between two calls is the table, which is the caller's and is lent by a pointer to memory that is aligned for
  * uint64_t. Its fields are the library's own: copy it as you like, with its store or from one place to another, but never go
@@ -461,6 +461,12 @@ wm_answer wm_table_function_name(const wm_table *table, const uint8_t *store, si
                                  uint32_t function, uint8_t *out, size_t out_len);
 /* A customer closes a hold: FOUND with offset 0, length 0. Refusals in this order: 30; 23; 24. */
 wm_answer wm_table_close(wm_table *table, const uint8_t *store, size_t store_len, uint32_t customer, uint32_t hold);
+/* Closes the gaps that closes have left, for whoever looks after the table: the stored blocks go to the front of the store, in
+ * their order, and the blocks behind them keep their bytes. FOUND with offset 0, length 0, also where there is no gap. Every
+ * customer is answered as before, save that an open that is refused 26 may be granted: the first one that gets as far, with no
+ * close between, is refused 26 exactly where its payload is not stored yet and too few blocks are free in all. Refusals in this
+ * order: 30; 27 where the check of any used block is wrong, whether it would move or not, found before anything is moved. */
+wm_answer wm_table_compact(wm_table *table, uint8_t *store, size_t store_len);
 
 #ifdef __cplusplus
 }

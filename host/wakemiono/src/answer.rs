@@ -109,8 +109,8 @@ impl Answer {
         }
     }
 
-    /// Whether a hold was closed, of which nothing more is said.
-    pub(crate) fn closed(self) -> Result<(), Refusal> {
+    /// Whether a call was granted of which nothing more is said.
+    pub(crate) fn granted(self) -> Result<(), Refusal> {
         self.taken(0)
     }
 
@@ -579,15 +579,18 @@ mod tests {
     }
 
     #[test]
-    fn a_hold_is_closed_or_not() {
-        assert_eq!(answer(FOUND, 0, 0, 0).closed(), Ok(()));
-        assert_eq!(answer(REFUSED, 24, 0, 0).closed().unwrap_err().number(), 24);
+    fn a_call_of_which_nothing_more_is_said_is_granted_or_not() {
+        assert_eq!(answer(FOUND, 0, 0, 0).granted(), Ok(()));
+        assert_eq!(
+            answer(REFUSED, 24, 0, 0).granted().unwrap_err().number(),
+            24
+        );
     }
 
     #[test]
     #[should_panic(expected = "is it of another version?")]
-    fn of_a_close_nothing_more_is_said() {
-        let _ = answer(FOUND, 0, 0, 1).closed();
+    fn nothing_more_is_said_of_it() {
+        let _ = answer(FOUND, 0, 0, 1).granted();
     }
 
     #[test]

@@ -231,8 +231,8 @@ impl Reason {
             }
             Reason::AllHoldsOpen => "close a hold that is no longer asked, and open again",
             Reason::NoRoom => {
-                "close holds, so that payloads without users give their blocks back, or start a table \
-                 over a larger store"
+                "compact the table; close holds, so that payloads without users give their blocks back; \
+                 or start a table over a larger store"
             }
             Reason::StoreDamaged => {
                 "something else wrote to the store: start another table over it, and open the payloads \

@@ -30,7 +30,8 @@ use crate::{Customer, FunctionIndex, Hold, Name, NamePayload, Reason, Refusal};
 /// ```
 ///
 /// What a customer is answered depends on nothing that other customers do, save that an open may be
-/// refused for want of room. No answer says where something stands in the store, nor who else has it.
+/// refused for want of room; [`compact`](Self::compact) joins the room that closes have left here and
+/// there. No answer says where something stands in the store, nor who else has it.
 ///
 /// A question only borrows the table, so that under a [`RwLock`](std::sync::RwLock) many are asked at a
 /// time. A clone has a store of its own, with all that is open in it.
@@ -273,7 +274,45 @@ impl SharedTable {
     /// [`NoCustomer`](Reason::NoCustomer), then [`HoldNotOpen`](Reason::HoldNotOpen). The table is then
     /// as it was.
     pub fn close(&mut self, customer: Customer, hold: Hold) -> Result<(), Refusal> {
-        self.table.close(&self.store, customer.0, hold.0).closed()
+        self.table.close(&self.store, customer.0, hold.0).granted()
+    }
+
+    /// Closes the gaps that closed payloads have left: what is stored moves to the front of the store, in
+    /// the order in which it stands, and the blocks behind it keep their bytes. It is nobody's call but
+    /// that of whoever looks after the table, after a busy time or when an open found no room.
+    ///
+    /// ```
+    /// use wakemiono::{function_names, Customer, FunctionIndex, NamePayload, Reason, SharedTable};
+    ///
+    /// let short = function_names([(FunctionIndex(0), "main")])?;
+    /// let long = function_names([(FunctionIndex(0), "n".repeat(600))])?; // it takes two blocks
+    /// let (one, other) = (Customer(0), Customer(1));
+    ///
+    /// let mut table = SharedTable::new(3)?;
+    /// let before = table.open(one, NamePayload::new(&[]))?;
+    /// let hold = table.open(other, NamePayload::new(&short))?;
+    /// table.close(one, before)?; // the first block is free again, and so is the last
+    ///
+    /// let opened = table.open(one, NamePayload::new(&long));
+    /// assert_eq!(opened.unwrap_err().reason(), Reason::NoRoom);
+    /// table.compact()?;
+    /// table.open(one, NamePayload::new(&long))?;
+    ///
+    /// let name = table.function_name(other, hold, FunctionIndex(0))?;
+    /// assert_eq!(name.as_deref(), Some(&b"main"[..]));
+    /// # Ok::<(), Box<dyn std::error::Error>>(())
+    /// ```
+    ///
+    /// Every customer is answered as before, save that an open that found no room may find it now. The
+    /// first one after the step that gets as far, with no close between, finds room exactly where its
+    /// payload is stored already or as many blocks are free in all as it takes.
+    ///
+    /// # Errors
+    ///
+    /// [`StoreDamaged`](Reason::StoreDamaged) where the check of any used block is wrong, whether it would
+    /// have to move or not. Nothing has moved then, and the table is as it was.
+    pub fn compact(&mut self) -> Result<(), Refusal> {
+        self.table.compact(&mut self.store).granted()
     }
 
     /// The store as it stands, for whoever looks after it: what all customers have stored, and in blocks
@@ -353,6 +392,27 @@ mod tests {
         assert_eq!(work, [0x01, 0x04, 0x01, 0x00, 0x01, 0x61, 0xEE]);
     }
 
+    /// A block that would have to move, and one that would not.
+    #[test]
+    fn what_was_damaged_is_not_moved() {
+        let (mut table, hold) = opened();
+        for closed in [false, true] {
+            if closed {
+                table.open(CUSTOMER, NamePayload::new(&[])).unwrap();
+                table.close(CUSTOMER, hold).unwrap();
+            }
+            let used = usize::from(closed);
+            table.store[used * SharedTable::BLOCK] ^= 1;
+            let before = table.clone();
+            assert_eq!(number(table.compact()), 27);
+            assert_eq!(table.table, before.table);
+            assert_eq!(table.store, before.store);
+            table.store[used * SharedTable::BLOCK] ^= 1;
+        }
+        assert_eq!(table.compact(), Ok(()));
+        assert_eq!(ask(&table, Hold(1)), Ok(None));
+    }
+
     /// Which no call of this type lends.
     #[test]
     fn a_store_of_another_length_is_refused_first() {
@@ -362,6 +422,7 @@ mod tests {
         assert_eq!(number(table.open(nobody, NamePayload::new(&[]))), 30);
         assert_eq!(number(ask(&table, hold)), 30);
         assert_eq!(number(table.close(nobody, hold)), 30);
+        assert_eq!(number(table.compact()), 30);
     }
 
     #[test]

@@ -158,6 +158,27 @@ fn table_agrees(bytes: &[u8]) {
     }
 }
 
+/// A payload that moves to the front of a store gives the names that it has.
+fn moved_payload_agrees(bytes: &[u8]) {
+    const KEPT: [u8; 2] = [0xFF, 0x00];
+    let payload = NamePayload::new(bytes);
+    let Ok(canonical) = payload.to_canonical() else {
+        return;
+    };
+    let mut table = SharedTable::new(2).expect("a store may have two blocks");
+    let (one, other) = (Customer(3), Customer(4));
+    let before = table.open(one, NamePayload::new(&KEPT)).expect("room");
+    let hold = table.open(other, payload).expect("room");
+    table.close(one, before).expect("it is open");
+    assert_eq!(table.compact(), Ok(()));
+    assert_eq!(table.store()[..canonical.len()], canonical);
+    for function in (0..5).map(FunctionIndex) {
+        let expected = payload.function_name(function).expect("it is accepted");
+        let expected = Ok(expected.map(|name| name.as_bytes().to_vec()));
+        assert_eq!(table.function_name(other, hold, function), expected);
+    }
+}
+
 /// What a question gets from a pair, as whose it is and what: a name, or a refusal.
 type Said<'a> = Result<Option<(Whose, Name<'a>)>, (Option<Whose>, Refusal)>;
 
@@ -225,6 +246,7 @@ fn names_agree_in_both(bytes: &[u8]) {
     reasons_agree(bytes);
     markers_agree(bytes);
     table_agrees(bytes);
+    moved_payload_agrees(bytes);
 }
 
 fn metadata_agree(bytes: &[u8]) {
@@ -512,6 +534,7 @@ fn nothing_at_all_in_a_table() {
     assert_eq!(opened, Ok(hold));
     let name = table.function_name_into(customer, hold, FunctionIndex(0), &mut []);
     assert_eq!(name, Ok(None));
+    assert_eq!(table.compact(), Ok(()));
 }
 
 #[test]

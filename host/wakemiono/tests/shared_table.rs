@@ -10,12 +10,17 @@ use wakemiono::{
     function_names, Customer, FunctionIndex, Hold, NamePayload, Reason, Refusal, SharedTable,
 };
 
-/// What the output of the example program is held to.
-const EXPECTED: &str = include_str!("../examples/two_customers.expected");
+/// What the outputs of the example programs are held to.
+const TWO_CUSTOMERS: &str = include_str!("../examples/two_customers.expected");
+const CLOSE_THE_GAPS: &str = include_str!("../examples/close_the_gaps.expected");
 
 #[path = "../examples/two_customers.rs"]
 #[allow(dead_code)] // its `main` is the program's
 mod two_customers;
+
+#[path = "../examples/close_the_gaps.rs"]
+#[allow(dead_code)] // its `main` is the program's
+mod close_the_gaps;
 
 const ONE: Customer = Customer(0);
 const OTHER: Customer = Customer(15);
@@ -264,9 +269,88 @@ fn customers_on_threads() {
     });
 }
 
+/// A store of six blocks: payloads of one block in 0, 2 and 5, of two in 3 and 4, and block 1 free again.
+fn with_a_gap() -> SharedTable {
+    let mut table = table(6);
+    for (blocks, letter) in [(1, 'a'), (1, 'b'), (1, 'c'), (2, 'd'), (1, 'e')] {
+        let payload = of_blocks(blocks, letter);
+        table.open(ONE, NamePayload::new(&payload)).unwrap();
+    }
+    table.close(ONE, Hold(1)).unwrap();
+    table
+}
+
+fn block(store: &[u8], number: usize) -> &[u8] {
+    &store[number * SharedTable::BLOCK..][..SharedTable::BLOCK]
+}
+
 #[test]
-fn the_example_prints_what_is_expected() {
-    let mut printed = vec![];
-    two_customers::tell(&mut printed).expect("it is told");
-    assert_eq!(String::from_utf8(printed).unwrap(), EXPECTED);
+fn gaps_are_closed_and_blocks_behind_keep_their_bytes() {
+    let mut table = with_a_gap();
+    let before = table.store().to_vec();
+    table.compact().unwrap();
+    for (number, old) in [0, 2, 3, 4, 5, 5].into_iter().enumerate() {
+        assert_eq!(block(table.store(), number), block(&before, old));
+    }
+    let once = table.store().to_vec();
+    table.compact().unwrap();
+    assert_eq!(table.store(), once, "there is no gap left");
+    for (hold, letter) in [(0, "a"), (2, "c"), (3, "d"), (4, "e")] {
+        let name = text(table.function_name(ONE, Hold(hold), FunctionIndex(0)));
+        assert_eq!(name.replace(letter, ""), "");
+    }
+    let closed = table.function_name(ONE, Hold(1), FunctionIndex(0));
+    assert_eq!(refused(closed), (24, 0));
+    assert_eq!(table.open(ONE, NamePayload::new(&P)), Ok(Hold(1)));
+}
+
+#[test]
+fn a_table_without_gaps_stays_as_it_is() {
+    let mut table = table(3);
+    let store = table.store().to_vec();
+    assert_eq!(table.compact(), Ok(()));
+    assert_eq!(table.store(), store);
+    table.open(ONE, NamePayload::new(&P)).unwrap();
+    table.open(OTHER, NamePayload::new(&EVERY_ID)).unwrap();
+    let store = table.store().to_vec();
+    assert_eq!(table.compact(), Ok(()));
+    assert_eq!(table.store(), store);
+}
+
+/// Two blocks are free, and not side by side.
+#[test]
+fn an_open_finds_room_once_the_gaps_are_closed() {
+    let mut table = with_a_gap();
+    table.close(ONE, Hold(2)).unwrap();
+    table
+        .open(OTHER, NamePayload::new(&of_blocks(1, 'b')))
+        .unwrap();
+    table.close(ONE, Hold(4)).unwrap();
+    let two_blocks = of_blocks(2, 'n');
+    let two_blocks = NamePayload::new(&two_blocks);
+    assert_eq!(refused(table.open(OTHER, two_blocks)), (26, 0));
+    table.compact().unwrap();
+    let three_blocks = of_blocks(3, 'n');
+    let opened = table.open(OTHER, NamePayload::new(&three_blocks));
+    assert_eq!(refused(opened), (26, 0));
+    assert_eq!(table.open(OTHER, two_blocks), Ok(Hold(1)));
+    let names = [
+        (ONE, 0, "a"),
+        (OTHER, 0, "b"),
+        (ONE, 3, "d"),
+        (OTHER, 1, "n"),
+    ];
+    for (customer, hold, letter) in names {
+        let name = text(table.function_name(customer, Hold(hold), FunctionIndex(0)));
+        assert_eq!(name.replace(letter, ""), "");
+    }
+}
+
+#[test]
+fn the_examples_print_what_is_expected() {
+    let (mut shared, mut compacted) = (vec![], vec![]);
+    two_customers::tell(&mut shared).expect("it is told");
+    close_the_gaps::tell(&mut compacted).expect("it is told");
+    assert_eq!(String::from_utf8(shared).unwrap(), TWO_CUSTOMERS);
+    assert_eq!(String::from_utf8(compacted).unwrap(), CLOSE_THE_GAPS);
 }

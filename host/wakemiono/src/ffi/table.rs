@@ -47,6 +47,7 @@ extern "C" {
         customer: u32,
         hold: u32,
     ) -> Answer;
+    fn wm_table_compact(table: *mut Table, store: *mut u8, store_len: usize) -> Answer;
 }
 
 impl Table {
@@ -106,6 +107,12 @@ impl Table {
         // SAFETY: a table, and pointer and length of one live slice, lent, which does not overlap it.
         // Any customer and hold are taken.
         unsafe { wm_table_close(self, store.as_ptr(), store.len(), customer, hold) }
+    }
+
+    pub(crate) fn compact(&mut self, store: &mut [u8]) -> Answer {
+        // SAFETY: a table, and pointer and length of one `&mut` slice, the output, which does not
+        // overlap it.
+        unsafe { wm_table_compact(self, store.as_mut_ptr(), store.len()) }
     }
 }
 
