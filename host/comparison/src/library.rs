@@ -492,6 +492,7 @@ extern "C" {
         customer: u32,
         hold: u32,
     ) -> Told;
+    fn wm_table_compact(table: *mut TableState, store: *mut u8, store_len: usize) -> Told;
 }
 
 /// `wm_custom` of the header, on slices.
@@ -647,4 +648,10 @@ pub fn table_function_name(
 pub fn table_close(table: &mut TableState, store: &[u8], customer: u32, hold: u32) -> Told {
     // SAFETY: the table overlaps the live slice nowhere, any numbers are a table, and the call stores into it alone.
     unsafe { wm_table_close(table, store.as_ptr(), store.len(), customer, hold) }
+}
+
+/// `wm_table_compact` of the header, on a table and a slice.
+pub fn table_compact(table: &mut TableState, store: &mut [u8]) -> Told {
+    // SAFETY: the table overlaps the live slice nowhere, any numbers are a table, and the call stores into these two alone.
+    unsafe { wm_table_compact(table, store.as_mut_ptr(), store.len()) }
 }

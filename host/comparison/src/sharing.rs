@@ -54,9 +54,11 @@ pub trait Table {
     fn function_name(&mut self, store: &[u8], asked: Asked, out: &mut [u8]) -> Told;
     /// Closes a hold.
     fn close(&mut self, store: &[u8], customer: u32, hold: u32) -> Told;
+    /// Closes the gaps in the store.
+    fn compact(&mut self, store: &mut [u8]) -> Told;
 }
 
-/// What a customer calls, and what is lent to the call beside the store.
+/// What is called, and what is lent to the call beside the store.
 #[derive(Clone, Copy, Debug)]
 pub enum Call<'p> {
     /// An open, with a work buffer of so much room.
@@ -80,12 +82,14 @@ pub enum Call<'p> {
         /// Which is closed.
         hold: u32,
     },
+    /// The gaps are closed.
+    Compact,
 }
 
-/// A call of a customer on a store.
+/// A call on a store.
 #[derive(Clone, Copy, Debug)]
 pub struct Step<'p> {
-    /// Who calls.
+    /// Who calls; of no account where the gaps are closed.
     pub customer: u32,
     /// What is called.
     pub call: Call<'p>,
@@ -98,8 +102,13 @@ impl Step<'_> {
     pub fn room(&self) -> usize {
         match self.call {
             Call::Open { room, .. } | Call::FunctionName { room, .. } => room,
-            Call::Close { .. } => 0,
+            Call::Close { .. } | Call::Compact => 0,
         }
+    }
+
+    /// Whose call it is. That the gaps are closed is nobody's.
+    pub fn is_by(&self, customer: u32) -> bool {
+        self.customer == customer && !matches!(self.call, Call::Compact)
     }
 }
 
@@ -155,6 +164,21 @@ impl<T: Table> Shop<T> {
     pub fn put(&mut self, step: &Step<'_>) -> Seen {
         let state = self.table.state();
         let before = self.store().to_vec();
+        let seen = self.call(step);
+        let granted = seen.told.kind == FOUND;
+        let is_question = matches!(step.call, Call::FunctionName { .. });
+        if !granted || is_question {
+            assert_eq!(self.table.state(), state, "{step:?} changed the table");
+        }
+        let may_write = matches!(step.call, Call::Open { .. } | Call::Compact);
+        if !granted || !may_write {
+            assert_eq!(self.store(), before, "{step:?} changed the store");
+        }
+        self.assert_nothing_before_the_store(step);
+        seen
+    }
+
+    fn call(&mut self, step: &Step<'_>) -> Seen {
         let framed = framed(&mut self.output, step.room());
         let buffer = &mut framed[GUARD..];
         let store = self.store.last(step.store_length);
@@ -174,17 +198,9 @@ impl<T: Table> Shop<T> {
                 self.table.function_name(store, asked, buffer)
             }
             Call::Close { hold } => self.table.close(store, step.customer, hold),
+            Call::Compact => self.table.compact(store),
         };
         let output = guarded_output(framed, format_args!("{step:?}")).to_vec();
-        let granted = told.kind == FOUND;
-        let is_question = matches!(step.call, Call::FunctionName { .. });
-        if !granted || is_question {
-            assert_eq!(self.table.state(), state, "{step:?} changed the table");
-        }
-        if !granted || !matches!(step.call, Call::Open { .. }) {
-            assert_eq!(self.store(), before, "{step:?} changed the store");
-        }
-        self.assert_nothing_before_the_store(step);
         Seen { told, output }
     }
 
@@ -262,6 +278,7 @@ pub fn count(met: &mut Met, step: &Step<'_>, told: Told) {
         Call::Open { .. } => "open",
         Call::FunctionName { .. } => "function_name",
         Call::Close { .. } => "close",
+        Call::Compact => "compact",
     };
     let answer = match told.kind {
         REFUSED => (call, "refused", told.code),

@@ -1,12 +1,14 @@
-//! Tables that nobody started: calls on them end, answer in the order of the refusals, and keep to what they may change.
-//! And tables that were started over no store.
+//! Tables that nobody started: calls on them end, answer in the order of the refusals, and keep to what they may change;
+//! and where gaps are closed, what is left is said of any table. And tables that were started over no store.
+
+use std::ops::Range;
 
 use comparison::library::{self, TableState, Told, FOUND, NONE, PLACES, REFUSED};
 use comparison::random::{seed, Random};
 use comparison::sharing::history::{customers, Maker, Payloads, Trouble};
 use comparison::sharing::makes::LibraryTable;
 use comparison::sharing::{
-    is_store, Both, Call, Shop, Step, Table, BLOCK, CUSTOMERS, HOLDS, MOST_BLOCKS,
+    is_store, Both, Call, Shop, Step, Table, BLOCK, CUSTOMERS, HOLDS, MOST_BLOCKS, PAYLOAD,
 };
 
 const NO_CUSTOMER: u32 = 23;
@@ -177,12 +179,12 @@ fn refused_first(state: &TableState, step: &Step<'_>) -> Option<u32> {
     if !is_store(length) || length as u64 != state.bytes {
         return Some(OTHER_STORE);
     }
-    if step.customer >= CUSTOMERS {
-        return Some(NO_CUSTOMER);
-    }
-    let own = (step.customer * HOLDS) as usize;
-    let holds = &state.holds[own..own + HOLDS as usize];
+    let own = step.customer as usize * HOLDS as usize;
+    let holds = state.holds.get(own..own + HOLDS as usize);
+    let holds = holds.unwrap_or_default();
     match step.call {
+        Call::Compact => None,
+        _ if step.customer >= CUSTOMERS => Some(NO_CUSTOMER),
         Call::FunctionName { hold, .. } | Call::Close { hold } => {
             let is_open = holds.get(hold as usize).is_some_and(|lead| *lead > 0);
             (!is_open).then_some(NOT_OPEN)
@@ -209,6 +211,7 @@ fn assert_in_order(state: &TableState, step: &Step<'_>, told: Told) {
         Call::Open { .. } => &[DAMAGED, NO_ROOM],
         Call::FunctionName { .. } => &[DAMAGED, 13],
         Call::Close { .. } => &[],
+        Call::Compact => &[DAMAGED],
     };
     let is_allowed = match code {
         Some(code) => others.contains(&code),
@@ -234,8 +237,12 @@ fn tables_that_nobody_started() {
         for _ in 0..CALLS {
             let state = shop.table.state();
             let step = maker.step(&mut r);
+            let store = shop.store().to_vec();
             let told = shop.put(&step).told;
             assert_in_order(&state, &step, told);
+            if matches!(step.call, Call::Compact) && told.code != OTHER_STORE {
+                assert_gaps_closed(&mut shop, &state, &store, told);
+            }
             met[told.kind as usize] += 1;
         }
     }
@@ -246,7 +253,7 @@ fn tables_that_nobody_started() {
 /// Every call on it is refused, whatever else is wrong.
 #[test]
 fn tables_over_no_store() {
-    let calls = [open(NAMED), open(&NAMED[..5]), ASK, CLOSE];
+    let calls = [open(NAMED), open(&NAMED[..5]), ASK, CLOSE, Call::Compact];
     for length in [
         0,
         1,
@@ -281,7 +288,156 @@ fn lengths_are_compared_in_64_bits() {
     let mut shop = shop(1, |state| {
         *state = library::table_start((1 << 32) + BLOCK as u64);
     });
-    for call in [open(NAMED), ASK, CLOSE] {
+    for call in [open(NAMED), ASK, CLOSE, Call::Compact] {
         assert_eq!(put(&mut shop, call), refused(OTHER_STORE));
     }
+}
+
+/// How many blocks a payload of a size takes.
+fn needed(size: u32) -> usize {
+    (size as usize).div_ceil(PAYLOAD).max(1)
+}
+
+fn is_right(block: &[u8]) -> bool {
+    let words = block.chunks(4);
+    let mut words = words.map(|word| u32::from_le_bytes([word[0], word[1], word[2], word[3]]));
+    let check = words.next_back();
+    Some(words.fold(0, u32::wrapping_add)) == check
+}
+
+/// The blocks of each payload that begins in a store, whether they are all there or not.
+fn payloads(state: &TableState, blocks: usize) -> Vec<Range<usize>> {
+    let first_blocks = (0..blocks).filter(|block| state.users[*block] > 0);
+    first_blocks
+        .map(|first| first..first + needed(state.sizes[first]))
+        .collect()
+}
+
+/// What is to be left where gaps are closed, whatever the table knows; nothing where something is damaged. A hold leads
+/// to one more than the number of taken blocks before that to which it led.
+fn without_gaps(state: &TableState, store: &[u8]) -> Option<(TableState, Vec<u8>)> {
+    let old: Vec<&[u8]> = store.chunks(BLOCK).collect();
+    let payloads = payloads(state, old.len());
+    let is_whole = |payload: &Range<usize>| {
+        let blocks = old.get(payload.clone());
+        blocks.is_some_and(|blocks| blocks.iter().all(|block| is_right(block)))
+    };
+    if !payloads.iter().all(is_whole) {
+        return None;
+    }
+    let is_taken = |block: &usize| payloads.iter().any(|payload| payload.contains(block));
+    let taken: Vec<usize> = (0..old.len()).filter(is_taken).collect();
+    let mut left = state.clone();
+    for hold in left.holds.iter_mut().filter(|hold| **hold > 0) {
+        let led_to = usize::from(*hold) - 1;
+        *hold = 1 + taken.iter().filter(|block| **block < led_to).count() as u8;
+    }
+    for block in 0..old.len() {
+        let from = taken.get(block);
+        left.users[block] = from.map_or(0, |from| state.users[*from]);
+        left.sizes[block] = from.map_or(0, |from| state.sizes[*from]);
+    }
+    let behind = old[taken.len()..].iter().copied();
+    let blocks = taken.iter().map(|block| old[*block]).chain(behind);
+    Some((left, blocks.flatten().copied().collect()))
+}
+
+/// Holds the answer where gaps were closed, and what is left, to what is to be.
+fn assert_gaps_closed(shop: &mut Shop<LibraryTable>, state: &TableState, store: &[u8], told: Told) {
+    let (expected, (left, left_store)) = match without_gaps(state, store) {
+        Some(left) => (found(0), left),
+        None => (refused(DAMAGED), (state.clone(), store.to_vec())),
+    };
+    assert_eq!(told, expected, "{state:?}");
+    assert_eq!(shop.table.state(), left, "{state:?}");
+    assert_eq!(shop.store(), left_store, "{state:?}");
+}
+
+fn close_gaps(shop: &mut Shop<LibraryTable>) -> Told {
+    let (state, store) = (shop.table.state(), shop.store().to_vec());
+    let told = put(shop, Call::Compact);
+    assert_gaps_closed(shop, &state, &store, told);
+    told
+}
+
+/// Blocks 1 to 3 belong to the one, and block 2 to the other as well. Marks behind the store stay where they are.
+#[test]
+fn payloads_that_overlap_move_together() {
+    let mut shop = shop(6, |state| {
+        (state.users[1], state.sizes[1]) = (1, 2 * 508 + 1);
+        (state.users[2], state.sizes[2]) = (2, 7);
+        (state.users[5], state.sizes[5]) = (255, 0);
+        (state.users[6], state.sizes[6]) = (9, 10);
+        state.holds[..9].copy_from_slice(&[0, 1, 2, 3, 4, 6, 7, 128, 255]);
+    });
+    assert_eq!(close_gaps(&mut shop), found(0));
+    let state = shop.table.state();
+    assert_eq!(state.holds[..9], [0, 1, 1, 2, 3, 4, 5, 5, 5]);
+    assert_eq!(state.users[..8], [1, 2, 0, 255, 0, 0, 9, 0]);
+    assert_eq!(state.sizes[..8], [1_017, 7, 0, 0, 0, 0, 10, 0]);
+}
+
+#[test]
+fn a_payload_that_runs_past_the_store_is_not_moved() {
+    for (block, size) in [(3, 509), (1, 4 * 508 + 1), (1, u32::MAX)] {
+        let mut shop = shop(4, |state| {
+            state.users[block] = 1;
+            state.sizes[block] = size;
+        });
+        assert_eq!(close_gaps(&mut shop), refused(DAMAGED));
+    }
+}
+
+/// Blocks of any bytes with right checks, but for one in many.
+fn any_blocks(r: &mut Random, blocks: usize) -> Vec<u8> {
+    const ONE_WRONG_IN: usize = 60;
+    let mut store = vec![];
+    for _ in 0..blocks {
+        let words: Vec<u32> = (0..PAYLOAD / 4).map(|_| r.number() as u32).collect();
+        let wrong = u32::from(r.once_in(ONE_WRONG_IN));
+        let check = words.iter().copied().fold(wrong, u32::wrapping_add);
+        store.extend(words.into_iter().chain([check]).flat_map(u32::to_le_bytes));
+    }
+    store
+}
+
+/// A table whose payloads may overlap, and are so short that most are whole; some begin behind the store. Its holds lead
+/// anywhere.
+fn any_short_payloads(r: &mut Random, store_length: usize) -> TableState {
+    const ONE_PAST_THE_END_IN: usize = 40;
+    let mut state = library::table_start(store_length as u64);
+    state.holds = state.holds.map(|_| r.number() as u8);
+    let one_in = r.one_of(&[1, 2, 3, 10]);
+    let longest = r.one_of(&[1, 2 * PAYLOAD, 3 * PAYLOAD]);
+    let blocks = store_length / BLOCK;
+    for row in 0..PLACES {
+        if r.once_in(one_in) {
+            let room = match r.once_in(ONE_PAST_THE_END_IN) {
+                true => longest,
+                false => blocks.saturating_sub(row) * PAYLOAD,
+            };
+            state.users[row] = any_number(r) as u8;
+            state.sizes[row] = r.below(longest + 1).min(room) as u32;
+        }
+    }
+    state
+}
+
+#[test]
+fn gaps_of_tables_that_nobody_started() {
+    const TABLES: usize = 4_000;
+    const LEAST_OF_EACH: usize = 400;
+    const STORES: [usize; 6] = [1, 2, 5, 20, 60, MOST_BLOCKS];
+    let mut r = Random::new(seed());
+    let mut closed = 0;
+    for _ in 0..TABLES {
+        let blocks = r.one_of(&STORES);
+        let store = any_blocks(&mut r, blocks);
+        let mut shop: Shop<LibraryTable> = Shop::new(&store);
+        shop.table = LibraryTable::made_up(any_short_payloads(&mut r, store.len()));
+        closed += usize::from(close_gaps(&mut shop).kind == FOUND);
+    }
+    println!("closed the gaps of {closed} of {TABLES} tables");
+    let met = LEAST_OF_EACH..TABLES - LEAST_OF_EACH;
+    assert!(met.contains(&closed), "{closed} of {TABLES}");
 }

@@ -185,6 +185,37 @@ fn all_of_them_side_by_side() {
     }
 }
 
+/// Each by a hold of its own, and every second one is closed. What is left moves to the front, and is asked there; then
+/// those that were closed are opened again, behind it.
+#[test]
+fn the_gaps_between_them_are_closed() {
+    let payloads = accepted();
+    let mut both = both();
+    let places = (0..CUSTOMERS).flat_map(|customer| (0..HOLDS).map(move |hold| (customer, hold)));
+    let opened: Vec<_> = places.zip(&payloads).collect();
+    for ((customer, hold), payload) in &opened {
+        assert_eq!(open(&mut both, *customer, payload).length, (*hold).into());
+    }
+    let (closed, left): (Vec<_>, Vec<_>) =
+        opened.into_iter().partition(|((_, hold), _)| hold % 2 == 0);
+    for ((customer, hold), _) in &closed {
+        close(&mut both, *customer, *hold);
+    }
+    let stored = both.stored();
+    assert_eq!(put(&mut both, 0, Call::Compact).told.kind, FOUND);
+    assert_eq!(both.stored(), stored);
+    for ((customer, hold), payload) in left {
+        for function in functions(&Names::of(payload, &FIRST)) {
+            let expected = own_name(payload, function);
+            assert_eq!(name(&mut both, customer, hold, function), expected);
+        }
+    }
+    for ((customer, hold), payload) in closed {
+        assert_eq!(open(&mut both, customer, payload).length, hold.into());
+    }
+    assert_eq!(both.stored().len(), DIFFERENT);
+}
+
 /// What happens to a payload: it is cut off, or a byte is another. Of a long one, at some places.
 fn damaged(payload: &[u8]) -> Vec<Vec<u8>> {
     const PLACES: usize = 200;

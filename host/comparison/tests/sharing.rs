@@ -1,15 +1,16 @@
-//! Shared tables: random calls of sixteen customers, put to both makes and held to a model that knows no blocks, and one
-//! customer's answers held to those among other customers.
+//! Shared tables: random calls of sixteen customers, between which gaps are closed, put to both makes and held to a model
+//! that knows no blocks; one customer's answers held to those among other customers, and to those where no gap is closed.
 
 use std::collections::BTreeMap;
 
-use comparison::library::{TableState, Told, FOUND, NONE};
+use comparison::library::{TableState, Told, FOUND, NONE, REFUSED};
 use comparison::random::{seed, Random};
 use comparison::sharing::history::{customers, Event, History, Maker, Payloads, Trouble};
 use comparison::sharing::makes::LibraryTable;
 use comparison::sharing::model::{follow, Model};
 use comparison::sharing::{
-    compare, Asked, Difference, Met, Seen, Shop, Step, Table, BLOCK, CUSTOMERS, HOLDS,
+    compare, Asked, Call, Difference, Met, Seen, Shop, Step, Table, BLOCK, CUSTOMERS, HOLDS,
+    PAYLOAD,
 };
 
 /// How many histories are put, by how many customers each, and how long they are.
@@ -90,11 +91,13 @@ fn assert_met(met: &Met) {
         ("function_name", "kind", FOUND),
         ("function_name", "kind", NONE),
         ("close", "kind", FOUND),
+        ("compact", "kind", FOUND),
     ];
     let refusals = [
         ("open", &[2, 13, 23, 25, 26, 27, 30][..]),
         ("function_name", &[13, 23, 24, 27, 30]),
         ("close", &[23, 24, 30]),
+        ("compact", &[27, 30]),
     ];
     for (call, codes) in refusals {
         answers.extend(codes.iter().map(|code| (call, "refused", *code)));
@@ -144,7 +147,7 @@ const OWN_CALLS: usize = 150;
 /// Fewer calls than this are put by others before each call of the customer.
 const OTHERS_BOUND: usize = 8;
 
-/// The calls of one customer, among those of others.
+/// The calls of one customer, among those of others, between which the gaps are closed now and then.
 fn among_others<'p>(
     r: &mut Random,
     payloads: &'p Payloads,
@@ -179,11 +182,15 @@ fn seen_by<T: Table>(customer: u32, history: &History<'_>) -> Vec<Seen> {
             continue;
         };
         let seen = shop.put(step);
-        if step.customer == customer {
+        if step.is_by(customer) {
             all.push(seen);
         }
     }
     all
+}
+
+fn is_refused_for_room(seen: &Seen) -> bool {
+    seen.told.code == NO_ROOM
 }
 
 /// Compares what one customer sees among others with what they see alone, and among others again. Says how many pairs
@@ -195,14 +202,13 @@ fn isolated<T: Table>(r: &mut Random, pairs: usize) -> Result<usize, Difference>
         let payloads = Payloads::new(r, 8);
         let customer = r.below(CUSTOMERS as usize) as u32;
         let own = Maker::new(r, &payloads, vec![customer], BLOCK, Trouble::None);
-        let own: Vec<Step<'_>> = (0..OWN_CALLS).map(|_| own.step(r)).collect();
+        let own: Vec<Step<'_>> = (0..OWN_CALLS).map(|_| own.customers_step(r)).collect();
         let seen = [(); 2].map(|()| {
             let blocks = r.one_of(&MANY_BLOCKS);
             seen_by::<T>(customer, &among_others(r, &payloads, &own, blocks))
         });
         assert_eq!(seen[0].len(), OWN_CALLS);
-        let refused_for_room = |seen: &Seen| seen.told.code == NO_ROOM;
-        if !seen.iter().flatten().any(refused_for_room) {
+        if !seen.iter().flatten().any(is_refused_for_room) {
             compared += 1;
             if seen[0] != seen[1] {
                 return Err(format!("customer {customer} in pair {compared}"));
@@ -229,6 +235,49 @@ fn what_the_second_reader_shows_is_nothing_of_the_others() {
     sees_nothing_of_the_others::<second_reader::Table>();
 }
 
+/// The steps of a history, up to the first open that is refused for room in a table in which gaps are closed or in one
+/// in which none is. Says after how many steps they differ there, and else how many were put.
+fn without_closing<T: Table>(history: &History<'_>) -> Result<usize, Difference> {
+    let (mut closing, mut never): (Shop<T>, Shop<T>) =
+        (Shop::new(&history.store), Shop::new(&history.store));
+    for (number, event) in history.events.iter().enumerate() {
+        let Event::Step(step) = event else {
+            continue;
+        };
+        let seen = closing.put(step);
+        if let Call::Compact = step.call {
+            continue;
+        }
+        let also_seen = never.put(step);
+        if is_refused_for_room(&seen) || is_refused_for_room(&also_seen) {
+            return Ok(number);
+        }
+        if seen != also_seen {
+            return Err(format!("event {number}, {step:?}: {seen:?}, {also_seen:?}"));
+        }
+    }
+    Ok(history.events.len())
+}
+
+/// Compares what all customers see where gaps are closed with what they see where none is.
+fn no_answer_is_another<T: Table>(r: &mut Random) -> Result<usize, Difference> {
+    let mut compared = 0;
+    with_histories(r, FEW, Trouble::None, |history| {
+        compared += without_closing::<T>(history)?;
+        Ok(())
+    })?;
+    Ok(compared)
+}
+
+#[test]
+fn every_customer_is_answered_as_before() {
+    const LEAST_COMPARED: usize = 2_000;
+    let compared = no_answer_is_another::<LibraryTable>(&mut Random::new(seed()));
+    let compared = compared.expect("no difference");
+    println!("compared {compared} calls");
+    assert!(compared >= LEAST_COMPARED, "only {compared} were compared");
+}
+
 /// A table that is wrong in one thing, which the tests above must see.
 struct Wrong<const FAULT: u8>(second_reader::Table);
 
@@ -242,12 +291,27 @@ const SERVES_DAMAGED: u8 = 2;
 const CLOSES_ANOTHERS: u8 = 3;
 /// What it knows of its users is wrong, though nothing that it answers is.
 const MISCOUNTS: u8 = 4;
+/// Gaps are not closed, though it is said.
+const KEEPS_GAPS: u8 = 5;
+/// A customer's hold is closed with the gaps.
+const LOSES_A_HOLD: u8 = 6;
+/// Blocks behind what is stored are cleared.
+const CLEARS_BEHIND: u8 = 7;
+/// What is damaged is overlooked where gaps are closed.
+const OVERLOOKS_DAMAGE: u8 = 8;
 
 const NO_CUSTOMER: u32 = 23;
 const NOT_OPEN: u32 = 24;
 const ALL_HOLDS_OPEN: u32 = 25;
 const NO_ROOM: u32 = 26;
 const DAMAGED: u32 = 27;
+
+const CLOSED: Told = Told {
+    kind: FOUND,
+    code: 0,
+    offset: 0,
+    length: 0,
+};
 
 impl<const FAULT: u8> Table for Wrong<FAULT> {
     fn start(store_length: u64) -> Self {
@@ -293,6 +357,34 @@ impl<const FAULT: u8> Table for Wrong<FAULT> {
         };
         self.0.close(store, whose, hold)
     }
+
+    fn compact(&mut self, store: &mut [u8]) -> Told {
+        let (table, bytes) = (self.0.clone(), store.to_vec());
+        let told = self.0.compact(store);
+        match (FAULT, told.kind) {
+            (KEEPS_GAPS, FOUND) => {
+                self.0 = table;
+                store.copy_from_slice(&bytes);
+            }
+            (LOSES_A_HOLD, FOUND) => {
+                self.0.close(store, 0, 0);
+            }
+            (CLEARS_BEHIND, FOUND) => {
+                let used = used_bytes(&self.0, store);
+                store[used..].fill(0);
+            }
+            (OVERLOOKS_DAMAGE, REFUSED) if told.code == DAMAGED => return CLOSED,
+            _ => {}
+        }
+        told
+    }
+}
+
+/// How many bytes of a store without gaps are used.
+fn used_bytes(table: &second_reader::Table, store: &[u8]) -> usize {
+    let stored = table.stored(store).into_iter();
+    let blocks = stored.map(|stored| stored.payload.len().div_ceil(PAYLOAD).max(1));
+    blocks.sum::<usize>() * BLOCK
 }
 
 const FEW: Put = Put {
@@ -323,6 +415,12 @@ fn wrong_tables_are_seen() {
     assert!(is_seen::<REFUSES_IN_ANOTHER_ORDER>(&mut r));
     assert!(is_seen::<SERVES_DAMAGED>(&mut r));
     assert!(is_seen::<CLOSES_ANOTHERS>(&mut r));
+    assert!(is_seen::<KEEPS_GAPS>(&mut r));
+    assert!(is_seen::<LOSES_A_HOLD>(&mut r));
     assert!(is_seen_by_comparison::<MISCOUNTS>(&mut r));
+    assert!(is_seen_by_comparison::<CLEARS_BEHIND>(&mut r));
+    assert!(is_seen_by_comparison::<OVERLOOKS_DAMAGE>(&mut r));
     assert!(isolated::<Wrong<CLOSES_ANOTHERS>>(&mut r, PAIRS).is_err());
+    assert!(isolated::<Wrong<LOSES_A_HOLD>>(&mut r, PAIRS).is_err());
+    assert!(no_answer_is_another::<Wrong<LOSES_A_HOLD>>(&mut r).is_err());
 }

@@ -181,7 +181,7 @@ pub struct Maker<'p> {
     payloads: &'p Payloads,
     /// Those that call, of which some may not exist.
     customers: Vec<u32>,
-    /// How often each of the three calls is put, against the others.
+    /// How often each of their three calls is put, against the others.
     weights: [usize; 3],
     trouble: Trouble,
     store_length: usize,
@@ -189,6 +189,9 @@ pub struct Maker<'p> {
 
 /// Of so many calls one has something out of range: the customer, or the hold, or the length of the store.
 const ONE_OUT_OF_RANGE_IN: usize = 25;
+
+/// Of so many calls one closes the gaps.
+const ONE_COMPACT_IN: usize = 20;
 
 /// Of so many calls one has too little room, or a little more than it needs.
 const ONE_ROOM_IN: usize = 8;
@@ -260,8 +263,20 @@ impl<'p> Maker<'p> {
         }
     }
 
-    /// A call of one of the customers.
+    /// A call of one of the customers, or the gaps are closed.
     pub fn step(&self, r: &mut Random) -> Step<'p> {
+        let step = self.customers_step(r);
+        match r.once_in(ONE_COMPACT_IN) {
+            true => Step {
+                call: Call::Compact,
+                ..step
+            },
+            false => step,
+        }
+    }
+
+    /// A call of one of the customers.
+    pub fn customers_step(&self, r: &mut Random) -> Step<'p> {
         let customer = r.one_of(&self.customers);
         let [opens, questions, closes] = self.weights;
         let chosen = r.below(opens + questions + closes);

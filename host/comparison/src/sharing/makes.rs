@@ -48,6 +48,10 @@ impl Table for LibraryTable {
     fn close(&mut self, store: &[u8], customer: u32, hold: u32) -> Told {
         library::table_close(self.0.last_table(), store, customer, hold)
     }
+
+    fn compact(&mut self, store: &mut [u8]) -> Told {
+        library::table_compact(self.0.last_table(), store)
+    }
 }
 
 impl Table for second_reader::Table {
@@ -74,6 +78,10 @@ impl Table for second_reader::Table {
 
     fn close(&mut self, store: &[u8], customer: u32, hold: u32) -> Told {
         second_reader::table_close(self, store, customer, hold).into()
+    }
+
+    fn compact(&mut self, store: &mut [u8]) -> Told {
+        second_reader::table_compact(self, store).into()
     }
 }
 

@@ -2,12 +2,16 @@
 //!
 //! It says what a call is to answer and to leave in its buffer. Two things are not known to it: whether there is room
 //! for a payload that is not stored yet, and which block a damaged byte is in. There it says which refusal may be given
-//! in place of its own answer, and takes the word of the table that it is held against.
+//! in place of its own answer, and takes the word of the table that it is held against. That the gaps are closed
+//! changes nothing of what is held; but then, up to the next close, it knows whether there is room, by counting.
 
 use std::collections::BTreeMap;
 use std::rc::Rc;
 
-use super::{count, is_store, Call, Difference, Met, Seen, Shop, Step, Table, CUSTOMERS, HOLDS};
+use super::{
+    count, is_store, Call, Difference, Met, Seen, Shop, Step, Table, BLOCK, CUSTOMERS, HOLDS,
+    PAYLOAD,
+};
 use crate::library::{Told, FOUND, NONE, REFUSED};
 use crate::sharing::history::{Event, History};
 use crate::tally::UNTOUCHED;
@@ -28,6 +32,8 @@ pub struct Model {
     store_length: usize,
     held: [Holds; CUSTOMERS as usize],
     users: BTreeMap<Rc<[u8]>, usize>,
+    /// Whether the gaps were closed, and no hold since.
+    without_gaps: bool,
 }
 
 /// What a call is to answer and to leave, and the refusals that may stand in place of the answer.
@@ -43,6 +49,7 @@ impl Model {
             store_length,
             held: Default::default(),
             users: BTreeMap::new(),
+            without_gaps: false,
         }
     }
 
@@ -74,16 +81,20 @@ impl Model {
         if !is_store(length) || length != self.store_length {
             return Foreseen::refusal(step, OTHER_STORE, 0);
         }
-        let Some(holds) = self.held.get(step.customer as usize) else {
-            return Foreseen::refusal(step, NO_CUSTOMER, 0);
-        };
-        match step.call {
-            Call::Open { payload, .. } => self.foresee_open(step, holds, payload),
-            Call::FunctionName { hold, function, .. } => match open_at(holds, hold) {
-                Some(payload) => foresee_name(step, payload, function),
-                None => Foreseen::refusal(step, NOT_OPEN, 0),
+        match (step.call, self.held.get(step.customer as usize)) {
+            (Call::Compact, _) => Foreseen {
+                or_refused: vec![DAMAGED],
+                ..Foreseen::only(found(0), untouched(step))
             },
-            Call::Close { hold } => match open_at(holds, hold) {
+            (_, None) => Foreseen::refusal(step, NO_CUSTOMER, 0),
+            (Call::Open { payload, .. }, Some(holds)) => self.foresee_open(step, holds, payload),
+            (Call::FunctionName { hold, function, .. }, Some(holds)) => {
+                match open_at(holds, hold) {
+                    Some(payload) => foresee_name(step, payload, function),
+                    None => Foreseen::refusal(step, NOT_OPEN, 0),
+                }
+            }
+            (Call::Close { hold }, Some(holds)) => match open_at(holds, hold) {
                 Some(_) => Foreseen::only(found(0), untouched(step)),
                 None => Foreseen::refusal(step, NOT_OPEN, 0),
             },
@@ -101,38 +112,56 @@ impl Model {
         let Some(hold) = holds.iter().position(Option::is_none) else {
             return Foreseen::refusal(step, ALL_HOLDS_OPEN, 0);
         };
-        let is_stored = self.users.contains_key(&canonical[..]);
-        let or_refused = match is_stored {
-            true => vec![DAMAGED],
-            false => vec![DAMAGED, NO_ROOM],
+        let (told, or_refused) = match self.has_room(&canonical) {
+            Some(true) => (found(hold as u64), vec![DAMAGED]),
+            Some(false) => (refused(NO_ROOM, 0), vec![DAMAGED]),
+            None => (found(hold as u64), vec![DAMAGED, NO_ROOM]),
         };
-        let seen = Seen {
-            told: found(hold as u64),
-            output: begun_with(&canonical, step),
-        };
-        Foreseen { seen, or_refused }
+        let output = begun_with(&canonical, step);
+        Foreseen {
+            seen: Seen { told, output },
+            or_refused,
+        }
+    }
+
+    /// Whether a payload is stored or there is room for it, where that is known.
+    fn has_room(&self, payload: &[u8]) -> Option<bool> {
+        if self.users.contains_key(payload) {
+            return Some(true);
+        }
+        let used: usize = self.users.keys().map(|stored| blocks(stored)).sum();
+        let is_room = used + blocks(payload) <= self.store_length / BLOCK;
+        self.without_gaps.then_some(is_room)
     }
 
     /// What a granted call changes.
     fn granted(&mut self, step: &Step<'_>, length: u64) {
-        let holds = &mut self.held[step.customer as usize];
+        let customer = step.customer as usize;
         match step.call {
             Call::FunctionName { .. } => {}
             Call::Open { payload, .. } => {
                 let payload: Rc<[u8]> = canonical(payload).expect("it was granted").into();
-                holds[length as usize] = Some(payload.clone());
+                self.held[customer][length as usize] = Some(payload.clone());
                 *self.users.entry(payload).or_default() += 1;
             }
             Call::Close { hold } => {
-                let payload = holds[hold as usize].take().expect("it was granted");
+                let hold = &mut self.held[customer][hold as usize];
+                let payload = hold.take().expect("it was granted");
+                self.without_gaps = false;
                 let users = self.users.get_mut(&payload).expect("it was open");
                 *users -= 1;
                 if *users == 0 {
                     self.users.remove(&payload);
                 }
             }
+            Call::Compact => self.without_gaps = true,
         }
     }
+}
+
+/// How many blocks a payload takes.
+fn blocks(payload: &[u8]) -> usize {
+    payload.len().div_ceil(PAYLOAD).max(1)
 }
 
 impl Foreseen {
