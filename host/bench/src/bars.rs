@@ -1,6 +1,7 @@
 //! What may be taken at most: so many times what other operations take, or so many instructions.
 
 use crate::code;
+use crate::gaps::{self, Moved};
 use crate::modules;
 use crate::operation::{Operation, Who};
 use crate::pairs;
@@ -153,6 +154,23 @@ fn of_close(payload: &'static str) -> Bar {
     }
 }
 
+/// What a step that closes gaps may take of its own: it goes through the marks of all blocks and through all holds, and
+/// the table is copied.
+const COMPACTION: u64 = 8_000;
+
+/// A block that moves: so many instructions for each of its bytes.
+const MOVE: u64 = 4;
+
+/// Gaps that are closed: one look at each used block, and each moves once.
+fn of_compaction((payload, moved): (&'static str, Moved)) -> Bar {
+    let most = COMPACTION + LOOK * moved.blocks as u64 + MOVE * moved.bytes as u64;
+    Bar {
+        payload,
+        operation: Operation::TableCompact,
+        most: Most::Instructions(most),
+    }
+}
+
 /// All bars, those of pairs, of modules, of code and of shared tables last.
 fn bars() -> impl Iterator<Item = Bar> {
     let of_modules = modules::all().flat_map(of_module);
@@ -162,7 +180,8 @@ fn bars() -> impl Iterator<Item = Bar> {
     let of_closes = shared::all().map(of_close);
     let made = BARS.into_iter().chain(of_pairs);
     let made = made.chain(of_modules).chain(of_code);
-    made.chain(of_opens).chain(of_closes)
+    let of_compactions = gaps::moved().map(of_compaction);
+    made.chain(of_opens).chain(of_closes).chain(of_compactions)
 }
 
 /// A line for each bar, or a sentence on those that are broken.
@@ -329,6 +348,14 @@ mod tests {
     fn so_is_one_of_an_open() {
         let said = lines(&rows("shared-1-full", Operation::TableOpen, 1));
         let line = "shared-1-full: 'table, open what is stored' takes 22233 instructions more than 'rewrite', at most 22232 is the bar, so speed it up.\n";
+        assert_eq!(said.expect_err("one is broken"), line);
+    }
+
+    /// Of 128 blocks 64 are used, and all of these move.
+    #[test]
+    fn so_is_one_of_gaps_that_are_closed() {
+        let said = lines(&rows("gaps-128", Operation::TableCompact, 1));
+        let line = "gaps-128: 'table, compact' takes 147265 instructions, at most 147264 is the bar, so speed it up.\n";
         assert_eq!(said.expect_err("one is broken"), line);
     }
 

@@ -208,7 +208,7 @@ mod tests {
                 library::old_hints_judge(bytes),
                 second_reader::old_hints_judge(bytes).into(),
             ],
-            Kind::Pair | Kind::WidePair | Kind::Module | Kind::Code | Kind::Shared => {
+            Kind::Pair | Kind::WidePair | Kind::Module | Kind::Code | Kind::Shared | Kind::Gaps => {
                 panic!("payloads alone are made here")
             }
         }

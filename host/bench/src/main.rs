@@ -7,6 +7,7 @@ mod bars;
 mod bytes;
 mod code;
 mod fixtures;
+mod gaps;
 mod made;
 mod measuring;
 mod modules;
@@ -32,7 +33,7 @@ bench payloads        the names of the payloads, a line each
 bench run PAYLOAD     puts each operation on a payload to both readers, and prints which region counts what
 bench table COUNTS    the counts of all runs as a table
 bench lines COUNTS    the same as tab-separated lines
-bench bars COUNTS     how near rewritings of older hints, markers, quick questions, pairs, modules in parts, hints on branches and opens of shared tables are to their bars; fails where one is broken
+bench bars COUNTS     how near rewritings of older hints, markers, quick questions, pairs, modules in parts, hints on branches, opens and compactions of shared tables are to their bars; fails where one is broken
 ";
 
 fn main() -> ExitCode {

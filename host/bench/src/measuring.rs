@@ -69,6 +69,7 @@ pub fn measure(payload: &Payload) -> Result<Vec<Operation>, String> {
         Kind::Module => module(bytes),
         Kind::Code => vec![walk(bytes), on_branches(bytes)],
         Kind::Shared => shared::calls(payload),
+        Kind::Gaps => vec![shared::compaction(payload)],
     };
     let agreed = |(operation, alike): Compared| match alike {
         true => Ok(operation),
@@ -468,6 +469,7 @@ mod tests {
             Operation::TableOpen,
             Operation::TableLookUp,
             Operation::TableClose,
+            Operation::TableCompact,
         ] {
             assert!(operations.contains(&tried), "not tried: {}", tried.words());
         }

@@ -45,6 +45,7 @@ pub enum Operation {
     TableOpen,
     TableLookUp,
     TableClose,
+    TableCompact,
 }
 
 impl Operation {
@@ -92,6 +93,7 @@ impl Operation {
             Operation::TableOpen => "table, open what is stored",
             Operation::TableLookUp => "table, last function",
             Operation::TableClose => "table, close",
+            Operation::TableCompact => "table, compact",
         }
     }
 }

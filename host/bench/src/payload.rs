@@ -1,6 +1,6 @@
 //! A payload, and the names of all that are measured.
 
-use crate::{bytes, code, fixtures, made, modules, pairs, shared};
+use crate::{bytes, code, fixtures, gaps, made, modules, pairs, shared};
 
 /// The name of the section with names.
 pub const NAMES: &str = "name";
@@ -25,10 +25,12 @@ pub enum Kind {
     Code,
     /// By the first edition of names, in a shared table in which it is stored already.
     Shared,
+    /// All that stands in a shared table in which gaps are closed.
+    Gaps,
 }
 
 impl Kind {
-    /// The name of the custom section that holds such a payload; none of a whole module.
+    /// The name of the custom section that holds such a payload; none of a whole module, nor of several payloads.
     fn section(self) -> Option<&'static str> {
         match self {
             Kind::Names | Kind::WideNames | Kind::Pair | Kind::WidePair | Kind::Shared => {
@@ -36,7 +38,7 @@ impl Kind {
             }
             Kind::Hints => Some("metadata.code.branch_hint"),
             Kind::OldHints => Some("branchHints"),
-            Kind::Module | Kind::Code => None,
+            Kind::Module | Kind::Code | Kind::Gaps => None,
         }
     }
 }
@@ -72,12 +74,12 @@ impl Payload {
 }
 
 /// The names of all payloads: the made ones, the pairs of these, whole modules, some with hints on their code, those in
-/// shared tables, then those of the fixtures.
+/// shared tables, shared tables with gaps, then those of the fixtures.
 pub fn names() -> Vec<String> {
     let pairs = pairs::all().map(|(name, _)| name);
     let made = made::payloads().chain(pairs);
     let made = made.chain(modules::all()).chain(code::all());
-    let made = made.chain(shared::all());
+    let made = made.chain(shared::all()).chain(gaps::all());
     let of_fixtures = fixtures::payloads().into_iter().map(|payload| payload.name);
     made.map(str::to_string).chain(of_fixtures).collect()
 }
@@ -93,5 +95,6 @@ pub fn named(name: &str) -> Option<Payload> {
         .or_else(|| modules::payload(name))
         .or_else(|| code::payload(name))
         .or_else(|| shared::payload(name))
+        .or_else(|| gaps::payload(name))
         .or_else(of_fixtures)
 }

@@ -125,7 +125,7 @@ fn alike(payload: &[u8]) -> Vec<Vec<u8>> {
 }
 
 /// A payload with the names of as many functions as so many blocks have room for.
-fn of_blocks(r: &mut Random, blocks: usize) -> Vec<u8> {
+pub fn of_blocks(r: &mut Random, blocks: usize) -> Vec<u8> {
     let room = blocks * PAYLOAD;
     let mut names = up_to(room, || texts::go(r));
     loop {

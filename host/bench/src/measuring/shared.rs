@@ -1,5 +1,5 @@
 //! Calls on a shared table, put once to each make of it: an open of a payload that is stored already, a question through
-//! the hold that it gives, and the close of that hold.
+//! the hold that it gives, and the close of that hold; and in another table the gaps are closed.
 
 use comparison::library::{self, TableState, FOUND};
 use comparison::sharing::{BLOCK, CUSTOMERS, HOLDS, MOST_BLOCKS};
@@ -9,7 +9,7 @@ use crate::name_map::{NameMap, FUNCTIONS};
 use crate::operation::Operation;
 use crate::payload::Payload;
 use crate::region::counted;
-use crate::shared;
+use crate::{gaps, shared};
 
 /// Who opens the payload again: the last customer, who has a hold left.
 const CUSTOMER: u32 = CUSTOMERS - 1;
@@ -24,7 +24,7 @@ pub fn calls(payload: &Payload) -> Vec<Compared> {
     let bytes = &payload.bytes[..];
     let names = NameMap::of(bytes, FUNCTIONS).expect("functions");
     let last = *names.lists.indices.last().expect("some have names");
-    let mut tables = Tables::with(&shared::stored(payload));
+    let mut tables = Tables::with(MOST_BLOCKS, &shared::stored(payload));
     let (hold, opened) = tables.open(bytes);
     vec![
         rewrite(bytes),
@@ -35,11 +35,21 @@ pub fn calls(payload: &Payload) -> Vec<Compared> {
     ]
 }
 
+/// Every second payload is closed, the first of them too, so that all that are left have to move.
+pub fn compaction(payload: &Payload) -> Compared {
+    let stored = gaps::stored(payload);
+    let mut tables = Tables::with(stored.len(), &stored);
+    for number in (0..stored.len() as u32).step_by(2) {
+        tables.close_uncounted(number / HOLDS, number % HOLDS);
+    }
+    tables.compact()
+}
+
 impl Tables {
-    /// Stores of the greatest length in which these payloads are stored, each open once: the first eight by the first
-    /// customer, and so on.
-    fn with(payloads: &[Vec<u8>]) -> Tables {
-        let length = MOST_BLOCKS * BLOCK;
+    /// Stores of so many blocks in which these payloads are stored, each open once: the first eight by the first customer,
+    /// and so on.
+    fn with(blocks: usize, payloads: &[Vec<u8>]) -> Tables {
+        let length = blocks * BLOCK;
         let mut tables = Tables {
             told: (library::table_start(length as u64), vec![0; length]),
             read: (second_reader::table_start(length as u64), vec![0; length]),
@@ -119,5 +129,26 @@ impl Tables {
             });
         let alike = are_alike(told, read) && self.are_alike();
         (Operation::TableClose, alike)
+    }
+    fn close_uncounted(&mut self, customer: u32, hold: u32) {
+        let (table, store) = &mut self.told;
+        let told = library::table_close(table, store, customer, hold);
+        assert_eq!(told.kind, FOUND, "it is open");
+        let (table, store) = &mut self.read;
+        let _ = second_reader::table_close(table, store, customer, hold);
+    }
+
+    fn compact(&mut self) -> Compared {
+        const REGIONS: [u8; 2] = regions(Operation::TableCompact);
+        let (table, store) = &mut self.told;
+        let told = counted::<{ REGIONS[0] }, _, _>((table, &mut store[..]), |(table, store)| {
+            library::table_compact(table, store)
+        });
+        let (table, store) = &mut self.read;
+        let read = counted::<{ REGIONS[1] }, _, _>((table, &mut store[..]), |(table, store)| {
+            second_reader::table_compact(table, store)
+        });
+        let alike = are_alike(told, read) && told.kind == FOUND && self.are_alike();
+        (Operation::TableCompact, alike)
     }
 }
