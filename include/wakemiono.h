@@ -425,8 +425,8 @@ wm_stream_answer wm_stream_finish(wm_stream *stream);
 /* A table of name payloads that customers share. There are 16 customers, 0 to 15, with 8 holds each, 0 to 7. A customer opens
  * a payload, of the first edition, and gets their lowest unused hold; asks function names through it; and closes it. Each
  * payload is stored in its canonical form, and equal ones are stored once, whoever opens them; the last close of a payload
- * frees its blocks, which are used again. What a customer is answered depends on nothing that others do, but for refusal 26;
- * and no answer says where something stands in the store.
+ * frees its blocks, which are used again. What a customer is answered depends on nothing that others do, nor on when gaps in
+ * the store are closed, but for refusal 26; and no answer says where something stands in the store.
  *
  * The store is memory of 1 to 128 blocks of 512 bytes, which the caller lends at each call as the call before left it; at the
  * start it may hold anything. A block has 508 bytes of payload, zeros behind the payload's end, then the check: the wrapping

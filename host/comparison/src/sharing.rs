@@ -106,7 +106,7 @@ impl Step<'_> {
         }
     }
 
-    /// Whose call it is. That the gaps are closed is nobody's.
+    /// Whether it is a call of that customer. Closing the gaps is nobody's call.
     pub fn is_by(&self, customer: u32) -> bool {
         self.customer == customer && !matches!(self.call, Call::Compact)
     }

@@ -623,7 +623,7 @@ fn so_does_one_without_a_gap() {
     compacts_to(&mut shop_of(1, &[1]), &[0]);
 }
 
-/// Each payload goes to the front in the order in which it stands, and blocks behind them are as they were.
+/// Payloads go to the front in the order in which they stand, and blocks behind them are as they were.
 #[test]
 fn k13_r34_gaps_are_closed_and_blocks_behind_keep_their_bytes() {
     let rows: [(&[usize], &[usize], &[usize]); 6] = [
