@@ -464,8 +464,8 @@ wm_answer wm_table_close(wm_table *table, const uint8_t *store, size_t store_len
 /* Closes the gaps that closes have left, for whoever looks after the table: the stored blocks go to the front of the store, in
  * their order, and the blocks behind them keep their bytes. FOUND with offset 0, length 0, also where there is no gap. Every
  * customer is answered as before, save that an open that is refused 26 may be granted: the first one that gets as far, with no
- * close between, is refused 26 exactly where its payload is not stored yet and too few blocks are free in all. Refusals in this
- * order: 30; 27 where the check of any used block is wrong, whether it would move or not, found before anything is moved. */
+ * close between, is refused 26 exactly where its payload is not stored yet and too few blocks are free in all. Refusals in
+ * this order: 30; 27 where the check of any used block is wrong, whether it would move or not, found before anything moves. */
 wm_answer wm_table_compact(wm_table *table, uint8_t *store, size_t store_len);
 
 #ifdef __cplusplus
