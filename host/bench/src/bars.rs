@@ -1,7 +1,7 @@
 //! What may be taken at most: so many times what other operations take, or so many instructions.
 
 use crate::code;
-use crate::gaps::{self, Moved};
+use crate::gaps;
 use crate::modules;
 use crate::operation::{Operation, Who};
 use crate::pairs;
@@ -154,16 +154,12 @@ fn of_close(payload: &'static str) -> Bar {
     }
 }
 
-/// What a step that closes gaps may take of its own: it goes through the marks of all blocks and through all holds, and
-/// the table is copied.
-const COMPACTION: u64 = 8_000;
-
-/// A block that moves: so many instructions for each of its bytes.
-const MOVE: u64 = 4;
+/// A block that moves: an instruction for each of its words.
+const MOVE: u64 = 128;
 
 /// Gaps that are closed: one look at each used block, and each moves once.
-fn of_compaction((payload, moved): (&'static str, Moved)) -> Bar {
-    let most = COMPACTION + LOOK * moved.blocks as u64 + MOVE * moved.bytes as u64;
+fn of_compaction((payload, blocks): (&'static str, usize)) -> Bar {
+    let most = CALL + (LOOK + MOVE) * blocks as u64;
     Bar {
         payload,
         operation: Operation::TableCompact,
@@ -355,7 +351,7 @@ mod tests {
     #[test]
     fn so_is_one_of_gaps_that_are_closed() {
         let said = lines(&rows("gaps-128", Operation::TableCompact, 1));
-        let line = "gaps-128: 'table, compact' takes 147265 instructions, at most 147264 is the bar, so speed it up.\n";
+        let line = "gaps-128: 'table, compact' takes 20385 instructions, at most 20384 is the bar, so speed it up.\n";
         assert_eq!(said.expect_err("one is broken"), line);
     }
 
