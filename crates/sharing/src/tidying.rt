@@ -140,10 +140,10 @@ fn lead_holds(t: Table, to: &[u8; ENTRIES]) -> Table
     ensures { λ r. ⌜ LeadsHolds (now (to .entry)) t r ⌝ }
 {
     let mut next = t;
-    let mut k = 0;
-    while k < PLACES {
-        next.holds[k] = led(to, t.holds[k]);
-        k += 1;
+    let mut hold = 0;
+    while hold < PLACES {
+        next.holds[hold] = led(to, t.holds[hold]);
+        hold += 1;
     }
     next
 }

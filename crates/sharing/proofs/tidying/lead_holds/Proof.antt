@@ -4,10 +4,10 @@ use Rattle.sharing.proofs.tidying.lead_holds.Statement.{statement}
 use Rattle.sharing.proofs.tidying.lead_holds.Tie as tie
 
 abbrev Inv-loop : tie.InvT-loop
-Inv-loop to t next₀ k₀ next k = Following to t next k
+Inv-loop to t next₀ hold₀ next hold = Following to t next hold
 
 abbrev μ-loop : tie.MeasureT-loop
-μ-loop to t next₀ k₀ next k = 128 - k
+μ-loop to t next₀ hold₀ next hold = 128 - hold
 
 loop-holds : tie.Need-loop-holds Inv-loop μ-loop
 loop-holds c = search followings
@@ -21,8 +21,8 @@ led-requires c κs = search followings
 element-write-next : tie.Need-element-write-next Inv-loop μ-loop
 element-write-next c = search followings
 
-add-k : tie.Need-add-k Inv-loop μ-loop
-add-k c = search followings
+add-hold : tie.Need-add-hold Inv-loop μ-loop
+add-hold c = search followings
 
 loop-less : tie.Need-loop-less Inv-loop μ-loop
 loop-less c = search followings
@@ -34,4 +34,4 @@ returns : tie.Need-returns Inv-loop μ-loop
 returns c = search followings
 
 pub lead-holds-spec : {M : Type 1} → statement M
-lead-holds-spec = tie.close (tie.spec Inv-loop μ-loop loop-holds element-copy-out-led led-requires element-write-next add-k loop-less loop-again returns)
+lead-holds-spec = tie.close (tie.spec Inv-loop μ-loop loop-holds element-copy-out-led led-requires element-write-next add-hold loop-less loop-again returns)
