@@ -14,3 +14,4 @@ pub mod Rows
 pub mod Order
 pub mod Checks
 pub mod Modules
+pub mod Faults

@@ -7,5 +7,6 @@ pub mod Metadata
 pub mod Older
 pub mod Modules
 pub mod Forgetting
+pub mod Faults
 pub mod Laws
 pub mod Grammar

@@ -1,0 +1,4 @@
+pub mod Stops
+pub mod Numbers
+pub mod Parts
+pub mod Lists
