@@ -1,3 +1,6 @@
 pub mod Numbers
 pub mod Parts
 pub mod Lists
+pub mod Names
+pub mod Metadata
+pub mod Older

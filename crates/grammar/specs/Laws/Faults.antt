@@ -2,3 +2,6 @@ pub mod Stops
 pub mod Numbers
 pub mod Parts
 pub mod Lists
+pub mod Names
+pub mod Metadata
+pub mod Older

@@ -113,18 +113,18 @@ indirect-sound {ℓ} : {C : Type ℓ} (o : ℕ) (bs : List ℕ) {c : Content Par
 unfolding contents bare
 indirect-sound o bs h e k = inTurn (filling (table (table name)) o bs) _ e λ t o₁ r₁ e₁ e₂. k _ (fills-sound indirect-exact o bs h e₁) (rw (← got-value e₂))
 
-contents-sound : (kind : Kind) (o : ℕ) (bs : List ℕ) {c : Content Part} {o′ : ℕ} {rest : List ℕ} → Bytes bs → contents kind o bs ≡ got c o′ rest → Contents kind bs (bare c)
+pub contents-sound : (kind : Kind) (o : ℕ) (bs : List ℕ) {c : Content Part} {o′ : ℕ} {rest : List ℕ} → Bytes bs → contents kind o bs ≡ got c o′ rest → Contents kind bs (bare c)
 unfolding contents bare remaining
 contents-sound oneName o bs h e = inTurn (filling name o bs) _ e λ x o₁ r₁ e₁ e₂. rw (← got-value e₂) (aName (fills-sound name-exact o bs h e₁))
 contents-sound nameMap o bs h e = map-sound o bs h e λ t m q. rw (← q) (aNameMap m)
 contents-sound indirectMap o bs h e = indirect-sound o bs h e λ t m q. rw (← q) (anIndirectNameMap m)
 contents-sound kept o bs h e = rw (← got-value e) anyBytes
 
-record ContentsRead (k : Kind) (bs : List ℕ) (c : Content (List ℕ)) (o : ℕ) : Type 0 where
-  value : Content Part
-  next : ℕ
-  reads : contents k o bs ≡ got value next []
-  same : bare value ≡ c
+pub record ContentsRead (k : Kind) (bs : List ℕ) (c : Content (List ℕ)) (o : ℕ) : Type 0 where
+  pub value : Content Part
+  pub next : ℕ
+  pub reads : contents k o bs ≡ got value next []
+  pub same : bare value ≡ c
 
 map-complete : {bs : List ℕ} {t : Table (List ℕ)} → NameMap bs t → (o : ℕ) → ContentsRead nameMap bs (names t) o
 unfolding contents bare
@@ -134,7 +134,7 @@ indirect-complete : {bs : List ℕ} {t : Table (Table (List ℕ))} → IndirectN
 unfolding contents bare
 indirect-complete m o = let (v, o′, e, q) = fills-complete indirect-exact m o in record { value = namesBy v; next = o′; reads = rw e; same = ap namesBy q }
 
-contents-complete : {kind : Kind} {bs : List ℕ} {c : Content (List ℕ)} → Contents kind bs c → (o : ℕ) → ContentsRead kind bs c o
+pub contents-complete : {kind : Kind} {bs : List ℕ} {c : Content (List ℕ)} → Contents kind bs c → (o : ℕ) → ContentsRead kind bs c o
 unfolding contents bare remaining
 contents-complete (aName g) o = let (v, o′, e, q) = fills-complete name-exact g o in record { value = single v; next = o′; reads = rw e; same = ap single q }
 contents-complete (aNameMap m) o = map-complete m o

@@ -48,7 +48,7 @@ module _ {A : Type 0} {read : Reader A} {grammar : Grammar A} (exact : Exact rea
         same = ap₂ _∷_ (one .same) (more .same);
       }
 
-  vector-exact : Exact (vector read) (λ x. x) (Vector grammar)
+  pub vector-exact : Exact (vector read) (λ x. x) (Vector grammar)
   unfolding vector
   vector-exact = record {
     sound = λ o bs h e. inTurn (number o bs) _ e λ n o₁ r₁ e₁ e₂.
@@ -78,7 +78,7 @@ unfolding olderKind
 kind-complete (unlikely {bs = bs} u) o rest = record { value = Unlikely; next = o + length bs; reads = rw (number-complete u o rest); same = refl }
 kind-complete (likely {bs = bs} u) o rest = record { value = Likely; next = o + length bs; reads = rw (number-complete u o rest); same = refl }
 
-kind-exact : Exact olderKind (λ x. x) OlderKind
+pub kind-exact : Exact olderKind (λ x. x) OlderKind
 unfolding olderKind
 kind-exact = record {
   sound = λ o bs h e. inTurn (number o bs) _ e λ k o₁ r₁ e₁ e₂. passed (leb k 1) _ _ _ _ _ e₂ λ t e₃. rw (← got-value e₃, ← got-rest e₃) (kind-means k t (number-sound o bs h e₁));
@@ -97,7 +97,7 @@ hint-complete (branchHint {kind = a} {offset = b} {n = n} g u) o rest =
       same = ap (λ h. record { kind = h; offset = n }) (kind .same);
     }
 
-hint-exact : Exact olderHint (λ x. x) OlderBranchHint
+pub hint-exact : Exact olderHint (λ x. x) OlderBranchHint
 unfolding olderHint
 hint-exact = record {
   sound = λ o bs h e. inTurn (olderKind o bs) _ e λ k o₁ r₁ e₁ e₂. inTurn (number o₁ r₁) _ e₂ λ n o₂ r₂ e₃ e₄.
@@ -112,7 +112,7 @@ hint-exact = record {
 }
 
 -- an entry: the byte behind the function is 0
-zero-read {ℓ} : {C : Type ℓ} (o : ℕ) (bs : List ℕ) {v : Unit {0}} {o′ : ℕ} {rest : List ℕ} → zeroByte o bs ≡ got v o′ rest → (bs ≡ 0 ∷ rest → C) → C
+pub zero-read {ℓ} : {C : Type ℓ} (o : ℕ) (bs : List ℕ) {v : Unit {0}} {o′ : ℕ} {rest : List ℕ} → zeroByte o bs ≡ got v o′ rest → (bs ≡ 0 ∷ rest → C) → C
 unfolding zeroByte
 zero-read o [] e k = absurd (not-got e)
 zero-read o (b ∷ bs) e k = byTest (eqb b 0) (λ t. k (rw (eqb-true b 0 t) (ap (λ x. 0 ∷ x) (got-rest (rw t at e))))) (λ t. absurd (not-got (rw t at e)))
@@ -128,7 +128,7 @@ entry-complete (functionHints {function = a} {hints = b} {n = n} u g) o rest =
       same = ap (λ hs. record { function = n; hints = hs }) (hints .same);
     }
 
-entry-exact : Exact olderEntry (λ x. x) FunctionBranchHints
+pub entry-exact : Exact olderEntry (λ x. x) FunctionBranchHints
 unfolding olderEntry
 entry-exact = record {
   sound = λ o bs h e.

@@ -17,6 +17,7 @@ use Rattle.format.specs.Text.{utf8}
 use Rattle.format.specs.Refusals.{numberOf}
 use Rattle.format.specs.Laws.Outcomes.{not-got, got-value, false-true, byTest}
 use Rattle.format.specs.Laws.Passing.{sized-passes, tested-passes, Reaches, reach-step}
+use Rattle.format.specs.Laws.Tight.{bytes-before}
 use Rattle.format.specs.Laws.Turns.{inSized, tested}
 use Rattle.format.specs.declared.Reason.{Reason}
 use Rattle.format.specs.declared.Reason.the-variants.{NotText}
@@ -65,6 +66,7 @@ pub record Cut (p : Part) (bs : List ℕ) (o o₁ : ℕ) (r₁ : List ℕ) : Typ
   pub means : U32 size (length (p .bytes))
   pub place : p .at ≡ o + length size
   pub next : o₁ ≡ o + length size + length (p .bytes)
+  pub own : Bytes (p .bytes)
 
 pub cut-apart : (o : ℕ) (bs : List ℕ) {p : Part} {o₁ : ℕ} {r₁ : List ℕ} → Bytes bs → sized o bs ≡ got p o₁ r₁ → Cut p bs o o₁ r₁
 cut-apart o bs h e =
@@ -77,6 +79,7 @@ cut-apart o bs h e =
       means = rw long (s .means);
       place = s .next;
       next = omega (arith, next, s .next, long);
+      own = bytes-before (take n r₂) (drop n r₂) (rw (take-append-drop n r₂) (s .left));
     })
 
 pub part-reads : {size text : List ℕ} → U32 size (length text) → (o : ℕ) (rest : List ℕ) → sized o (size ++ (text ++ rest)) ≡ got (record { at = o + length size; bytes = text }) (o + length size + length text) rest
@@ -99,7 +102,7 @@ module _ (test : List ℕ → Bool) (why : Reason) (spot : ℕ → Part → ℕ)
   tested-stops u t o rest = rw (part-reads u o rest, t)
 
 -- a name
-not-true : (b : Bool) → (b ≡ true → ⊥) → b ≡ false
+pub not-true : (b : Bool) → (b ≡ true → ⊥) → b ≡ false
 not-true true h = absurd (h refl)
 not-true false h = refl
 

@@ -9,6 +9,7 @@ use lib.ListN.{length, length-append}
 use Rattle.format.specs.Bytes.{Bytes}
 use Rattle.format.specs.Refusals.{numberOf}
 use Rattle.format.specs.Reading.{Outcome, got, stop, Reader, andThen, return, _>>_, checked, atEnd, filling}
+use Rattle.format.specs.Parts.{goOn}
 use Rattle.format.specs.Laws.Outcomes.{not-got, got-rest, got-next, got-value}
 use Rattle.format.specs.Laws.Passing.{Passes, Reaches, reach}
 use Rattle.format.specs.declared.Reason.{Reason}
@@ -35,6 +36,11 @@ stopsIn (stop n at) f e first then = first (stop-again e)
 pub stopsFirst {ℓ} : {A B : Type 0} {C : Type ℓ} (r : Outcome A) (g : A → B) {n k : ℕ} → andThen r (λ v. return (g v)) ≡ stop n k → (r ≡ stop n k → C) → C
 stopsFirst (got a o bs) g e first = absurd (not-got (sym e))
 stopsFirst (stop n at) g e first = first (stop-again e)
+
+-- inside a part
+pub stopsInside {ℓ} : {A : Type 0} {C : Type ℓ} (r : Outcome A) (o : ℕ) (bs : List ℕ) {n k : ℕ} → goOn r o bs ≡ stop n k → (r ≡ stop n k → C) → C
+stopsInside (got a o₁ r₁) o bs e next = absurd (not-got (sym e))
+stopsInside (stop n at) o bs e next = next e
 
 -- a check refused, or what comes after it stopped
 pub stopsAtCheck {ℓ} : {B : Type 0} {C : Type ℓ} (b : Bool) (why : Reason) (at : ℕ) (f : Reader B) (o : ℕ) (bs : List ℕ) {n k : ℕ} → (checked b why at >> f) o bs ≡ stop n k → (b ≡ false → numberOf why ≡ n → at ≡ k → C) → (b ≡ true → f o bs ≡ stop n k → C) → C
