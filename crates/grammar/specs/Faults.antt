@@ -4,3 +4,4 @@ pub mod Lists
 pub mod Names
 pub mod Metadata
 pub mod Older
+pub mod Modules

@@ -10,3 +10,4 @@ pub mod Forgetting
 pub mod Faults
 pub mod Laws
 pub mod Grammar
+pub mod Refusing

@@ -25,7 +25,7 @@ pub record Passed (seen : Seen) (id : ℕ) (r : Option ℕ) : Type 0 where
   pub not-again : (row : ℕ) → r ≡ some row → not (seen .there row) ≡ true
   pub not-late : (row : ℕ) → r ≡ some row → not (beforeCode row && seen .code) ≡ true
 
-last-check {ℓ} : {C : Type ℓ} (b : Bool) (why : Reason) (at o : ℕ) (bs : List ℕ) {v : Unit {0}} {o′ : ℕ} {rest : List ℕ} → checked b why at o bs ≡ got v o′ rest → (b ≡ true → o ≡ o′ → bs ≡ rest → C) → C
+pub last-check {ℓ} : {C : Type ℓ} (b : Bool) (why : Reason) (at o : ℕ) (bs : List ℕ) {v : Unit {0}} {o′ : ℕ} {rest : List ℕ} → checked b why at o bs ≡ got v o′ rest → (b ≡ true → o ≡ o′ → bs ≡ rest → C) → C
 last-check true why at o bs e k = k refl (got-next e) (got-rest e)
 last-check false why at o bs e k = absurd (not-got e)
 
@@ -63,7 +63,7 @@ unfolding section idRules
 section-reads seen o id bs p c {o₁} {r₁} h e₁ e₂ = rw (h .known, h .order, h .no-data, e₁, e₂, row-passes seen (rowOf c) o o₁ r₁ (h .not-again) (h .not-late))
 
 -- They are what the rules allow
-not-both : (a b : Bool) → (a ≡ true → b ≡ true → ⊥) → not (a && b) ≡ true
+pub not-both : (a b : Bool) → (a ≡ true → b ≡ true → ⊥) → not (a && b) ≡ true
 not-both true true h = absurd (h refl refl)
 not-both true false h = refl
 not-both false b h = refl
@@ -78,7 +78,7 @@ unfolding isCalled
 called-bare x none = refl
 called-bare x (some c) = refl
 
-row-bare : (c : Option Custom) → rowOf c ≡ rowIn (mapSome bareCustom c)
+pub row-bare : (c : Option Custom) → rowOf c ≡ rowIn (mapSome bareCustom c)
 row-bare c = λ i. rowFrom 0 tracked (λ x. called-bare x c i)
 
 module _ (seen : Seen) (s : Section) where

@@ -5,3 +5,6 @@ pub mod Lists
 pub mod Names
 pub mod Metadata
 pub mod Older
+pub mod Seen
+pub mod Modules
+pub mod Judgements

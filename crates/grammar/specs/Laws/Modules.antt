@@ -25,7 +25,7 @@ use Rattle.grammar.specs.Laws.Order.{Allows, after, Run, end, step, orde
 use Rattle.grammar.specs.Laws.Checks.{in-section, section-reads, passed-allows, allows-passed, seeing-after}
 
 -- one section
-framed : (id : ℕ) (p : Part) {c : Option Custom} {o₂ : ℕ} {r₂ part : List ℕ} → Bytes (p .bytes) → Sized part (p .bytes) → custom id (p .at) (p .bytes) ≡ got c o₂ r₂ → Framed (id ∷ part) (record { id = id; contents = p .bytes; custom = mapSome bareCustom c })
+pub framed : (id : ℕ) (p : Part) {c : Option Custom} {o₂ : ℕ} {r₂ part : List ℕ} → Bytes (p .bytes) → Sized part (p .bytes) → custom id (p .at) (p .bytes) ≡ got c o₂ r₂ → Framed (id ∷ part) (record { id = id; contents = p .bytes; custom = mapSome bareCustom c })
 unfolding custom remaining
 framed zero p h s e =
     inTurn (name (p .at) (p .bytes)) _ e λ n o₁ r₁ e₁ e₂.
@@ -33,20 +33,20 @@ framed zero p h s e =
     rw (← got-value e₂, text .is) (customSection (rw (text .is) at s) (text .means))
 framed (suc id) p h s e = rw (← got-value e) (otherSection {id = suc id} (λ q. omega (arith, q)) s)
 
-record FramedRead (seen : Seen) (bs : List ℕ) (s : BareSection) (o : ℕ) (rest : List ℕ) : Type 0 where
-  part : List ℕ
-  is : bs ≡ s .id ∷ part
-  value : Section
-  next : ℕ
-  reads : section seen o (s .id) (suc o) (part ++ rest) ≡ got value next rest
-  same : bareSection value ≡ s
+pub record FramedRead (seen : Seen) (bs : List ℕ) (s : BareSection) (o : ℕ) (rest : List ℕ) : Type 0 where
+  pub part : List ℕ
+  pub is : bs ≡ s .id ∷ part
+  pub value : Section
+  pub next : ℕ
+  pub reads : section seen o (s .id) (suc o) (part ++ rest) ≡ got value next rest
+  pub same : bareSection value ≡ s
 
 allowed-read : (seen : Seen) (o id : ℕ) (part rest : List ℕ) (p : Part) (c : Option Custom) (s : BareSection) {o₁ o₂ : ℕ} {r₂ : List ℕ} → sized (suc o) (part ++ rest) ≡ got p o₁ rest → custom id (p .at) (p .bytes) ≡ got c o₂ r₂ → bareSection (record { id = id; at = o; contents = p; custom = c }) ≡ s → Allows seen s → FramedRead seen (id ∷ part) s o rest
 allowed-read seen o id part rest p c s e₁ e₂ same h =
     let read : Section = record { id = id; at = o; contents = p; custom = c } in
     rw (← same) (record { part = part; is = refl; value = read; next = _; reads = section-reads seen o id (part ++ rest) p c (allows-passed seen read (rw same h)) e₁ e₂; same = refl })
 
-framed-complete : {bs : List ℕ} {s : BareSection} → Framed bs s → (seen : Seen) → Allows seen s → (o : ℕ) (rest : List ℕ) → FramedRead seen bs s o rest
+pub framed-complete : {bs : List ℕ} {s : BareSection} → Framed bs s → (seen : Seen) → Allows seen s → (o : ℕ) (rest : List ℕ) → FramedRead seen bs s o rest
 unfolding custom remaining
 framed-complete (customSection {part = part} {name = nm} {payload = payload} s n) seen h o rest =
     let a = sized-exact .complete s (suc o) rest in
@@ -100,7 +100,7 @@ sections-complete (aSection {bs = bs} {others = others} {s = s} frame m) (suc mo
     })
 
 -- the preamble
-begins-sound : (xs : List ℕ) (o : ℕ) (bs : List ℕ) {v : Unit {0}} {o′ : ℕ} {rest : List ℕ} → begins xs o bs ≡ got v o′ rest → bs ≡ xs ++ rest
+pub begins-sound : (xs : List ℕ) (o : ℕ) (bs : List ℕ) {v : Unit {0}} {o′ : ℕ} {rest : List ℕ} → begins xs o bs ≡ got v o′ rest → bs ≡ xs ++ rest
 unfolding begins
 begins-sound [] o bs e = got-rest e
 begins-sound (x ∷ xs) o [] e = absurd (not-got e)
@@ -109,13 +109,13 @@ begins-sound (x ∷ xs) o (b ∷ bs) e =
     (λ t. ap₂ (λ y ys. y ∷ ys) (sym (eqb-true x b t)) (begins-sound xs (suc o) bs (rw t at e)))
     (λ t. absurd (not-got (rw t at e)))
 
-begins-complete : (xs : List ℕ) (o : ℕ) (rest : List ℕ) → (o′ : ℕ) × (begins xs o (xs ++ rest) ≡ got tt o′ rest)
+pub begins-complete : (xs : List ℕ) (o : ℕ) (rest : List ℕ) → (o′ : ℕ) × (begins xs o (xs ++ rest) ≡ got tt o′ rest)
 unfolding begins
 begins-complete [] o rest = (o, refl)
 begins-complete (x ∷ xs) o rest = let (o′, e) = begins-complete xs (suc o) rest in (o′, rw (eq-eqb x x refl) e)
 
 -- THE MODULE
-preamble-bytes : (bs : List ℕ) → magic ++ version ++ bs ≡ preamble ++ bs
+pub preamble-bytes : (bs : List ℕ) → magic ++ version ++ bs ≡ preamble ++ bs
 unfolding preamble
 preamble-bytes bs = refl
 

@@ -47,7 +47,7 @@ in-among x [] e = false-true e
 in-among x (y ∷ ys) e = either (eqb x y) (isIn eqb x ys) e (λ t. rw (eqb-true x y t) here) (λ t. further (in-among x ys t))
 
 -- PLACES
-placed : (k : ℕ) {n : ℕ} {xs : List ℕ} → Among n xs → k ≤ placeFrom k xs n
+pub placed : (k : ℕ) {n : ℕ} {xs : List ℕ} → Among n xs → k ≤ placeFrom k xs n
 placed k {n} here = rw (eq-eqb n n refl) (omega arith)
 placed k {n} (further {x = x} a) = byTest (eqb n x) (λ t. rw t (omega arith)) (λ t. rw t (omega (arith, placed (suc k) a)))
 
