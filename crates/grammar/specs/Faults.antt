@@ -5,3 +5,4 @@ pub mod Names
 pub mod Metadata
 pub mod Older
 pub mod Modules
+pub mod Writing

@@ -7,4 +7,5 @@ pub mod Metadata
 pub mod Older
 pub mod Seen
 pub mod Modules
+pub mod Writing
 pub mod Judgements

@@ -109,7 +109,7 @@ begins-sound (x ∷ xs) o (b ∷ bs) e =
     (λ t. ap₂ (λ y ys. y ∷ ys) (sym (eqb-true x b t)) (begins-sound xs (suc o) bs (rw t at e)))
     (λ t. absurd (not-got (rw t at e)))
 
-pub begins-complete : (xs : List ℕ) (o : ℕ) (rest : List ℕ) → (o′ : ℕ) × (begins xs o (xs ++ rest) ≡ got tt o′ rest)
+begins-complete : (xs : List ℕ) (o : ℕ) (rest : List ℕ) → (o′ : ℕ) × (begins xs o (xs ++ rest) ≡ got tt o′ rest)
 unfolding begins
 begins-complete [] o rest = (o, refl)
 begins-complete (x ∷ xs) o rest = let (o′, e) = begins-complete xs (suc o) rest in (o′, rw (eq-eqb x x refl) e)

@@ -2,12 +2,12 @@
 use Prim.Native.Nat.{ℕ, _+_}
 use mathlib.Core.List.{List, _++_}
 use mathlib.Core.Logic.{_↔_}
-use mathlib.Core.Path.{_≡_, refl, sym, ap, _∙_}
+use mathlib.Core.Path.{_≡_, sym, ap, _∙_}
 use native.Mathlib.Omega.{arith}
 use Rattle.format.specs.Bytes.{Bytes}
-use Rattle.format.specs.Reading.{Outcome, got, stop, Reader, Judged, accepted, refused, mapJudged, judge}
+use Rattle.format.specs.Reading.{Outcome, got, stop, Reader, Judged, refused, mapJudged, judge}
 use Rattle.format.specs.Walk.{framing, walk}
-use Rattle.format.specs.Laws.Outcomes.{not-got, not-accepted, byOutcome, stop-refused, refused-exactly}
+use Rattle.format.specs.Laws.Outcomes.{not-got, not-accepted, byOutcome, refused-exactly}
 use Rattle.grammar.specs.Numbers.{Grammar}
 use Rattle.grammar.specs.Faults.Numbers.{Faults}
 use Rattle.grammar.specs.Faults.Modules.{ModuleFault}
@@ -20,10 +20,10 @@ pub record Judges {A : Type 0} (at : ℕ) (judgement : List ℕ → Judged A) (F
   pub refuses : {p : List ℕ} {n place : ℕ} → F p n place → judgement p ≡ refused n (at + place)
 
 module _ {A : Type 0} where
-  refused-number : {n m i j : ℕ} → _≡_ {A = Judged A} (refused n i) (refused m j) → n ≡ m
+  pub refused-number : {n m i j : ℕ} → _≡_ {A = Judged A} (refused n i) (refused m j) → n ≡ m
   refused-number e = cc
 
-  refused-place : {n m i j : ℕ} → _≡_ {A = Judged A} (refused n i) (refused m j) → i ≡ j
+  pub refused-place : {n m i j : ℕ} → _≡_ {A = Judged A} (refused n i) (refused m j) → i ≡ j
   refused-place e = cc
 
   stopped : (r : Outcome A) {n k : ℕ} → judge r ≡ refused n k → r ≡ stop n k

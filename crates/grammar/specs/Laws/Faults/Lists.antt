@@ -1,7 +1,7 @@
 -- The reader of lists stops exactly at their faults.
 use Prim.Native.Nat.{ℕ, zero, suc, _+_, _≤_}
 use mathlib.Core.Bool.{false}
-use mathlib.Core.List.{List, [], _∷_, _++_, append-assoc}
+use mathlib.Core.List.{List, _++_}
 use mathlib.Core.Option.{Option, none, some}
 use mathlib.Core.Path.{_≡_, refl, sym, ap, _∙_}
 use native.Mathlib.Omega.{arith}
@@ -9,9 +9,9 @@ use borrow.Author.Tests.{leb-true, leb-false, le-leb, lt-leb}
 use lib.Dec.{leb}
 use lib.ListN.{length}
 use Rattle.format.specs.Bytes.{Bytes}
-use Rattle.format.specs.Reading.{got, stop, Reader}
+use Rattle.format.specs.Reading.{stop, Reader}
 use Rattle.format.specs.Numbers.{number}
-use Rattle.format.specs.Tables.{Table, row, mapTable, rows, table}
+use Rattle.format.specs.Tables.{row, mapTable, rows, table}
 use Rattle.format.specs.Laws.Outcomes.{not-got}
 use Rattle.format.specs.Laws.Passing.{table-passes, Reaches, reach-step}
 use Rattle.grammar.specs.Numbers.{Grammar}
@@ -19,7 +19,7 @@ use Rattle.grammar.specs.Lists.{Listed}
 use Rattle.grammar.specs.Faults.Numbers.{Faults}
 use Rattle.grammar.specs.Faults.Lists.{Above, theFirst, aboveLast, EntriesFault, inTheNumber, notAbove, inTheValue, furtherOn, ListFault, inTheCount, inTheEntries}
 use Rattle.grammar.specs.Laws.Lists.{table-exact}
-use Rattle.grammar.specs.Laws.Faults.Stops.{stopsIn, stopsFirst, stopsAtCheck, Found, Stops, Reads, Went, Goes, went, goes}
+use Rattle.grammar.specs.Laws.Faults.Stops.{stopsIn, stopsFirst, stopsAtCheck, Found, Reads, went, goes}
 use Rattle.grammar.specs.Laws.Faults.Numbers.{number-reads}
 
 -- the least number that is still allowed

@@ -8,17 +8,17 @@ use mathlib.Core.Path.{_≡_, refl, sym, ap, _∙_}
 use native.Mathlib.Omega.{arith}
 use borrow.Author.Tests.{ltb-true, ltb-false, leb-true, leb-false, le-leb, lt-leb, lt-ltb, le-ltb, eqb-true, eqb-false, eq-eqb, ne-eqb}
 use lib.Dec.{ltb, leb, eqb}
-use lib.ListN.{length, length-append, getElem?}
+use lib.ListN.{length, length-append}
 use Rattle.format.specs.Bytes.{Bytes}
 use Rattle.format.specs.Refusals.{numberOf}
-use Rattle.format.specs.Reading.{Outcome, got, stop, checked}
+use Rattle.format.specs.Reading.{got, stop, checked}
 use Rattle.format.specs.Options.{mapSome}
-use Rattle.format.specs.Parts.{Part, sized, name, remaining, inside}
-use Rattle.format.specs.Walk.{preamble, begins, greatestId, rank, isCustom, isData, Custom, custom, nameSection, Tracked, tracked, nameRow, beforeCode, rowOf, Section, Seen, nothing, seeing, idRules, nameRules, section, sections, framing}
+use Rattle.format.specs.Parts.{sized, name, remaining, inside}
+use Rattle.format.specs.Walk.{preamble, begins, greatestId, rank, isCustom, isData, Custom, custom, nameSection, tracked, nameRow, beforeCode, rowOf, Section, Seen, nothing, seeing, idRules, nameRules, section, sections, framing}
 use Rattle.format.specs.Laws.Options.{not-some}
 use Rattle.format.specs.Laws.Tight.{bytes-after}
 use Rattle.format.specs.Laws.Passing.{reach}
-use Rattle.format.specs.Laws.Outcomes.{not-got, got-next, false-true, byTest, inTurn, passed, inPart}
+use Rattle.format.specs.Laws.Outcomes.{not-got, got-next, false-true, byTest, passed, inPart}
 use Rattle.format.specs.declared.Reason.{Reason}
 use Rattle.grammar.specs.Modules.{magic, version, Section as BareSection, Framed, customSection, otherSection, Sections, noSection, aSection, Among, here, further, Before, Called, sectionOrder, Ordered}
 use Rattle.grammar.specs.Forgetting.{bareCustom, bareSection}
@@ -27,8 +27,8 @@ use Rattle.grammar.specs.Laws.Ranks.{placed, before-rank, rank-before, r
 use Rattle.grammar.specs.Laws.Rows.{to-called, from-called, rowIn, elem-among, before-code-is, in-row, row-called, row-of}
 use Rattle.grammar.specs.Laws.Order.{Run, end, step, after, run-ordered, ordered-run}
 use Rattle.grammar.specs.Laws.Checks.{last-check, row-bare, not-both, in-section, passed-allows, seeing-after}
-use Rattle.grammar.specs.Laws.Modules.{framed, FramedRead, framed-complete, begins-sound, begins-complete, preamble-bytes}
-use Rattle.grammar.specs.Laws.Faults.Stops.{stop-number, stop-place, stopsIn, stopsFirst, stopsInside, stopsAtCheck, Found, Stops, Reads, went, goes}
+use Rattle.grammar.specs.Laws.Modules.{framed, framed-complete, begins-sound, preamble-bytes}
+use Rattle.grammar.specs.Laws.Faults.Stops.{stop-number, stop-place, stopsIn, stopsFirst, stopsInside, stopsAtCheck, Found, went, goes}
 use Rattle.grammar.specs.Laws.Faults.Parts.{sized-reads, cut-apart, part-reads, not-true, name-reads}
 use Rattle.grammar.specs.Laws.Faults.Seen.{afterAll, code-seen, there-seen, rank-seen, code-from, there-from, rank-from}
 

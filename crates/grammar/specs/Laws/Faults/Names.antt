@@ -1,23 +1,23 @@
 -- The reader of name payloads stops exactly at their faults.
 use Prim.Native.Nat.{ℕ, zero, suc, _+_, _≤_}
-use mathlib.Core.List.{List, [], _∷_, _++_}
+use mathlib.Core.List.{List, [], _∷_}
 use mathlib.Core.Option.{Option, none, some}
-use mathlib.Core.Path.{_≡_, refl, sym, ap, _∙_}
+use mathlib.Core.Path.{_≡_, sym, ap}
 use native.Mathlib.Omega.{arith}
 use borrow.Author.Tests.{leb-true, le-leb, lt-leb}
 use lib.Dec.{leb}
 use lib.ListN.{length, length-append}
 use Rattle.format.specs.Bytes.{Bytes}
-use Rattle.format.specs.Reading.{got, stop, filling}
-use Rattle.format.specs.Parts.{Part, sized, name, remaining, inside}
-use Rattle.format.specs.Tables.{Table, row, mapTable, table}
+use Rattle.format.specs.Reading.{stop, filling}
+use Rattle.format.specs.Parts.{sized, name, remaining, inside}
+use Rattle.format.specs.Tables.{row, mapTable, table}
 use Rattle.format.specs.Names.{Kind, oneName, nameMap, indirectMap, kept, single, names, namesBy, contents, subsections, payload}
 use Rattle.format.specs.Laws.Outcomes.{not-got, inPart}
 use Rattle.grammar.specs.Names.{NameMap, IndirectNameMap}
 use Rattle.grammar.specs.Faults.Names.{NameMapFault, IndirectNameMapFault, ContentsFault, inAName, inANameMap, inAnIndirectNameMap, SubsectionsFault, idNotAbove, inTheSize, inTheContents, furtherOn, NamePayloadFault}
 use Rattle.grammar.specs.Laws.Names.{SameIds, contents-sound, contents-complete}
 use Rattle.grammar.specs.Laws.Faults.Stops.{stopsIn, stopsFirst, stopsInside, stopsAtCheck, Found, Stops, Reads, went, goes}
-use Rattle.grammar.specs.Laws.Faults.Parts.{sized-reads, Cut, cut-apart, part-reads, name-reads, filling-faults}
+use Rattle.grammar.specs.Laws.Faults.Parts.{sized-reads, cut-apart, part-reads, name-reads, filling-faults}
 use Rattle.grammar.specs.Laws.Faults.Lists.{leastAfter, above-least, least-above, not-least, table-reads}
 
 map-reads : Reads (table name) (mapTable (λ p. p .bytes)) NameMap NameMapFault

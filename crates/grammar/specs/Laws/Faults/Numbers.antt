@@ -1,22 +1,21 @@
 -- The reader of numbers stops exactly at their faults.
 use Prim.Native.Nat.{ℕ, zero, suc, _+_, _*_, _%_, _≤_, _<_}
 use mathlib.Core.List.{List, [], _∷_, _++_}
-use mathlib.Core.Path.{_≡_, refl, sym, ap, ap₂, _∙_}
+use mathlib.Core.Path.{_≡_, refl, sym, ap}
 use native.Mathlib.Nat.{add-zero}
 use native.Mathlib.Omega.{arith}
 use borrow.Author.Tests.{ltb-false, leb-false, le-ltb, lt-leb}
 use lib.Dec.{ltb, leb}
 use lib.ListN.{length}
 use Rattle.format.specs.Bytes.{Bytes}
-use Rattle.format.specs.Reading.{got, stop}
+use Rattle.format.specs.Reading.{stop}
 use Rattle.format.specs.Numbers.{groups, number}
 use Rattle.format.specs.Laws.Outcomes.{not-got, byTest}
 use Rattle.format.specs.Laws.Passing.{number-passes, Reaches, reach-step}
 use Rattle.grammar.specs.Numbers.{U32}
 use Rattle.grammar.specs.Faults.Numbers.{GoOn, noByte, oneMore, NumberFault, cutOff, tooLarge}
-use Rattle.grammar.specs.Laws.Exact.{Accepts}
 use Rattle.grammar.specs.Laws.Numbers.{number-sound, number-complete}
-use Rattle.grammar.specs.Laws.Faults.Stops.{stop-number, stop-place, stopsFirst, Found, Stops, Reads}
+use Rattle.grammar.specs.Laws.Faults.Stops.{stop-number, stop-place, stopsFirst, Found, Reads}
 
 -- groups of which `more` may follow the next one
 groups-stopped {ℓ} : {C : Type ℓ} (more first o : ℕ) (bs : List ℕ) {n k : ℕ} → groups more first o bs ≡ stop n k → (GoOn bs → length bs ≤ more → 2 ≡ n → first ≡ k → C) → ((front others : List ℕ) (b : ℕ) → bs ≡ front ++ (b ∷ others) → GoOn front → length front ≡ more → 15 < b → 3 ≡ n → first ≡ k → C) → C

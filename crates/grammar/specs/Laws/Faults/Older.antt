@@ -1,10 +1,9 @@
 -- K2: the reader of the older edition of hints stops exactly at their faults.
 use Prim.Native.Nat.{ℕ, zero, suc, _+_}
-use mathlib.Core.Bool.{true, false}
 use mathlib.Core.List.{List, [], _∷_, _++_, append-nil}
 use mathlib.Core.Path.{_≡_, refl, sym, ap, _∙_}
 use native.Mathlib.Omega.{arith}
-use borrow.Author.Tests.{leb-false, lt-leb, eqb-true, eqb-false, ne-eqb}
+use borrow.Author.Tests.{leb-false, lt-leb, eqb-false, ne-eqb}
 use lib.Dec.{eqb, leb}
 use lib.ListN.{length}
 use Rattle.format.specs.Bytes.{Bytes}
@@ -15,8 +14,8 @@ use Rattle.format.specs.declared.Hint.{Hint}
 use Rattle.format.specs.Laws.Tight.{bytes-after}
 use Rattle.format.specs.Laws.Outcomes.{not-got, got-next, got-rest, byTest, inTurn, passed}
 use Rattle.format.specs.Laws.Passing.{Passes, Reaches, reach}
-use Rattle.grammar.specs.Numbers.{Grammar, U32}
-use Rattle.grammar.specs.Older.{Vector, OlderKind, OlderBranchHint, FunctionBranchHints, OlderHints}
+use Rattle.grammar.specs.Numbers.{Grammar}
+use Rattle.grammar.specs.Older.{Vector, OlderKind, OlderBranchHint, FunctionBranchHints}
 use Rattle.grammar.specs.Faults.Numbers.{Faults}
 use Rattle.grammar.specs.Faults.Older.{TimesFault, inTheNext, furtherOn, VectorFault, inTheCount, inTheEntries, OlderKindFault, inTheNumber, kindAbove, OlderHintFault, inTheKind, inTheOffset, OlderFunctionFault, inTheFunction, missing, notZero, inTheHints, OlderFault}
 use Rattle.grammar.specs.Laws.Older.{vector-exact, kind-exact, hint-exact, entry-exact, zero-read}

@@ -1,36 +1,35 @@
 -- The readers of sized parts and of names stop exactly at their faults, and so does one that must fill its part.
-use Prim.Native.Nat.{ℕ, _+_, _≤_}
+use Prim.Native.Nat.{ℕ, _+_}
 use mathlib.Core.Bool.{Bool, true, false}
-use mathlib.Core.List.{List, [], _∷_, _++_, append-assoc, append-nil}
+use mathlib.Core.List.{List, [], _∷_, _++_}
 use mathlib.Core.Path.{_≡_, refl, sym, ap, _∙_}
 use native.Mathlib.Nat.{add-zero}
 use native.Mathlib.Omega.{arith}
-use borrow.Author.Tests.{leb-true, leb-false, le-leb, lt-leb}
+use borrow.Author.Tests.{leb-false, le-leb, lt-leb}
 use lib.Dec.{leb}
 use lib.ListN.{length, take, drop, length-append, take-append-drop}
 use lib.Seq.{length-take-le, take-append-seam, drop-append-seam}
 use Rattle.format.specs.Bytes.{Bytes}
-use Rattle.format.specs.Reading.{Outcome, got, stop, Reader, andThen, atEnd, filling, _>>_, checked, return}
+use Rattle.format.specs.Reading.{got, stop, Reader, atEnd, filling}
 use Rattle.format.specs.Numbers.{number}
 use Rattle.format.specs.Parts.{Part, sized, name}
 use Rattle.format.specs.Text.{utf8}
 use Rattle.format.specs.Refusals.{numberOf}
-use Rattle.format.specs.Laws.Outcomes.{not-got, got-value, false-true, byTest}
+use Rattle.format.specs.Laws.Outcomes.{not-got, false-true}
 use Rattle.format.specs.Laws.Passing.{sized-passes, tested-passes, Reaches, reach-step}
 use Rattle.format.specs.Laws.Tight.{bytes-before}
 use Rattle.format.specs.Laws.Turns.{inSized, tested}
 use Rattle.format.specs.declared.Reason.{Reason}
 use Rattle.format.specs.declared.Reason.the-variants.{NotText}
 use Rattle.grammar.specs.Numbers.{Grammar, U32}
-use Rattle.grammar.specs.Texts.{Text}
-use Rattle.grammar.specs.Lists.{Sized, sized as aPart}
+use Rattle.grammar.specs.Lists.{Sized}
 use Rattle.grammar.specs.Names.{Name}
-use Rattle.grammar.specs.Faults.Numbers.{Faults, NumberFault}
+use Rattle.grammar.specs.Faults.Numbers.{Faults}
 use Rattle.grammar.specs.Faults.Parts.{SizedFault, inTheSize, runsPast, NameFault, inTheLength, notText, FillingFault, within, leftOver}
 use Rattle.grammar.specs.Laws.CodePoints.{utf8-text, text-utf8}
 use Rattle.grammar.specs.Laws.Lists.{sized-exact}
 use Rattle.grammar.specs.Laws.Names.{name-exact}
-use Rattle.grammar.specs.Laws.Faults.Stops.{stop-number, stop-place, stop-again, stopsIn, stopsAtCheck, Found, Stops, Reads, Went, Goes, went, goes}
+use Rattle.grammar.specs.Laws.Faults.Stops.{stop-number, stop-place, stopsIn, stopsAtCheck, Found, Stops, Reads, went, goes}
 use Rattle.grammar.specs.Laws.Faults.Numbers.{number-reads}
 
 -- a sized part

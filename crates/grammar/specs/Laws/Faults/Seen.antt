@@ -1,19 +1,19 @@
 -- What the walk has seen of sections, said of the sections themselves.
-use Prim.Native.Nat.{ℕ, _≤_, _<_}
-use mathlib.Core.Bool.{Bool, true, false, cond, _||_}
+use Prim.Native.Nat.{ℕ, _≤_}
+use mathlib.Core.Bool.{true, false}
 use mathlib.Core.List.{List, [], _∷_}
 use mathlib.Core.Logic.{_≢_}
 use mathlib.Core.Option.{some}
-use mathlib.Core.Path.{_≡_, refl, sym, _∙_}
+use mathlib.Core.Path.{_≡_, refl, _∙_}
 use native.Mathlib.Omega.{arith}
 use borrow.Author.Tests.{eqb-true, eqb-false, eq-eqb, ne-eqb}
 use lib.Dec.{eqb}
-use Rattle.format.specs.Walk.{rank, Seen, nothing, isRow}
-use Rattle.format.specs.Laws.Outcomes.{byTest, false-true}
-use Rattle.grammar.specs.Modules.{Section, Among, here, further, Ordered}
+use Rattle.format.specs.Walk.{rank, Seen, isRow}
+use Rattle.format.specs.Laws.Outcomes.{byTest}
+use Rattle.grammar.specs.Modules.{Section, Among, here, further}
 use Rattle.grammar.specs.Laws.Ranks.{either, left, right}
 use Rattle.grammar.specs.Laws.Rows.{rowIn, is-this-row, this-row-is}
-use Rattle.grammar.specs.Laws.Order.{Allows, after, Run, end, step}
+use Rattle.grammar.specs.Laws.Order.{after, Run, end, step}
 
 abbrev pub afterAll : Seen → List Section → Seen
 afterAll seen [] = seen

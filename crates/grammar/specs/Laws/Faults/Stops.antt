@@ -1,16 +1,15 @@
 -- A reader stops exactly where the bytes have a fault, with its number and at its place. Readings that stopped are taken apart here.
 use Prim.Native.Nat.{ℕ, _+_}
 use mathlib.Core.Bool.{Bool, true, false}
-use mathlib.Core.List.{List, [], _∷_, _++_, append-nil}
-use mathlib.Core.Path.{_≡_, refl, sym, ap, _∙_}
-use native.Mathlib.Nat.{add-zero}
+use mathlib.Core.List.{List, _++_}
+use mathlib.Core.Path.{_≡_, refl, sym, ap}
 use native.Mathlib.Omega.{arith}
 use lib.ListN.{length, length-append}
 use Rattle.format.specs.Bytes.{Bytes}
 use Rattle.format.specs.Refusals.{numberOf}
-use Rattle.format.specs.Reading.{Outcome, got, stop, Reader, andThen, return, _>>_, checked, atEnd, filling}
+use Rattle.format.specs.Reading.{Outcome, got, stop, Reader, andThen, return, _>>_, checked}
 use Rattle.format.specs.Parts.{goOn}
-use Rattle.format.specs.Laws.Outcomes.{not-got, got-rest, got-next, got-value}
+use Rattle.format.specs.Laws.Outcomes.{not-got}
 use Rattle.format.specs.Laws.Passing.{Passes, Reaches, reach}
 use Rattle.format.specs.declared.Reason.{Reason}
 use Rattle.grammar.specs.Numbers.{Grammar}
