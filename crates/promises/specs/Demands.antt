@@ -1,9 +1,9 @@
 -- THE FRONT DOOR. What users of the library demand, as types about its C calls, each under the sentence that it comes from, with the name of its proof in Proved.antt. A call is known by its promise alone: what is said here is said of every answer that meets the promise; that the call's own answer meets it is proved of its code.
 use Prim.Native.Nat.{ℕ, suc, _+_, _*_, _/_, _≤_, _<_}
 use mathlib.Core.List.{List, [], _∷_, _++_}
--- `cond t x y` is x where the test t holds, and y where it does not; `ltb m n` tests m < n, `eqb m n` tests m ≡ n, and `s || t` is either test
+-- `cond t x y` is x where the test t holds, and y where it does not; `eqb m n` tests m ≡ n, and `s || t` is either test
 use mathlib.Core.Bool.{Bool, true, false, cond, _||_}
-use lib.Dec.{ltb, eqb}
+use lib.Dec.{eqb}
 -- `A ↔ B`: each follows from the other; `x ≢ y`: they are not equal; `A × B`: both, and `(x : A) × B`: some x with B; `⊥`: never
 use mathlib.Core.Logic.{_↔_, _≢_}
 use mathlib.Core.Option.{Option, none, some}
@@ -18,12 +18,19 @@ use Rattle.format.specs.Through.{metadataSection}
 -- WHAT COMES BACK. Each call answers with a record of four numbers: `kind` (0 none, 1 found, 2 refused, 3 unlikely, 4 likely), `code`, `offset` and `length`. `wmNone` is four times 0; `wmFound code offset length` is the answer of kind 1 with these; `wmRefused n at` is the answer of kind 2 with the refusal's number n as its code, its offset `at` and the length 0.
 use Rattle.wakemiono.specs.declared.WmAnswer.{WmAnswer}
 use Rattle.wakemiono.specs.Boundary.{wmNone, wmFound, wmRefused, wmPlace}
--- WHAT THE RULES REFUSE, each with its number and its offset, as the rules are written down in `crates/format/specs`, one file a topic: `Judged A` is `accepted v`, with what was read, or `refused number offset`. `judgeModule m` judges a module, `judgeNames knownKind at p` a name payload that begins at an offset of what was lent, `judgeNames widerKind at p` one by the wider edition, `judgeMetadata anyItem at p` metadata of any format, and `judgeMetadata hintItem at p` branch hints; `itemOf format` is `hintItem` for the format branch_hint and else `anyItem`; `judgeOlder at p` judges hints of the older edition. Of what was read, `rewriteNames` and `rewriteMetadata` are the bytes of the canonical rewriting, and of older hints `writeOlder (sortedFrom nil es)`.
+-- WHAT THE RULES REFUSE, each with its number and its place, said as faults in crates/grammar/specs/Faults, one file a topic, apart from the library's readers: bytes have a fault where they begin well and then break one rule. `NamePayloadFault SourceIds p n k`: the bytes p have the fault n of a name payload at the place k, counted from their first; `NamePayloadFault WiderIds` is that of the wider edition, `MetadataFault Unknown AnyItemFault` of metadata of any format, `MetadataFault BranchHint HintFault` of branch hints, `OlderFault` of hints of the older edition, and `ModuleFault` of a module. `ListsFault indices lengths text n k` are the faults of the lists that names are written from: `FineLists` have none but a subsection too large, `contentsLength` is the length of its contents, `bytesFor n` that of the number n, and `Rise` says of a list that it rises. `Refuses at judgement grammar Fault`: the judgement of bytes that begin at an offset refuses exactly with their fault's number and at its place; no bytes have two faults; and they have one exactly where they have no meaning. `RefusesLists` says so of lists.
+use Rattle.grammar.specs.Faults.Numbers.{Faults}
+use Rattle.grammar.specs.Faults.Names.{NamePayloadFault}
+use Rattle.grammar.specs.Faults.Metadata.{AnyItemFault, HintFault, MetadataFault}
+use Rattle.grammar.specs.Faults.Older.{OlderFault}
+use Rattle.grammar.specs.Faults.Modules.{ModuleFault}
+use Rattle.grammar.specs.Faults.Writing.{Rise, FineLists, bytesFor, contentsLength, ListsFault}
+use Rattle.grammar.specs.Refusing.{Refuses, RefusesLists}
+-- THE JUDGEMENTS, as the rules are written down once more in `crates/format/specs`, by readers: `Judged A` is `accepted v`, with what was read, or `refused number offset`. `judgeModule m` judges a module, `judgeNames knownKind at p` a name payload that begins at an offset of what was lent, `judgeNames widerKind at p` one by the wider edition, `judgeMetadata anyItem at p` metadata of any format, and `judgeMetadata hintItem at p` branch hints; `judgeOlder at p` judges hints of the older edition. Of what was read, `rewriteNames` and `rewriteMetadata` are the bytes of the canonical rewriting, and of older hints `writeOlder (sortedFrom nil es)`.
 use Rattle.format.specs.Reading.{Judged, accepted, refused, judge}
 use Rattle.format.specs.Walk.{walk as judgeModule, customPayload}
 use Rattle.format.specs.Names.{knownKind, widerKind, judgeNames}
 use Rattle.format.specs.Metadata.{anyItem, hintItem, judgeMetadata}
-use Rattle.format.specs.Through.{itemOf}
 use Rattle.format.specs.Canonical.{rewriteNames, rewriteMetadata}
 use Rattle.format.specs.Older.{judgeOlder, sortedFrom, writeOlder}
 -- WHAT THE RULES ACCEPT. The sources' grammar, written down in the crate `grammar` line by line, apart from the library's readers: `NamePayload SourceIds p m`, in the wider edition `NamePayload WiderIds p m`, `CodeMetadata Unknown p m`, `CodeMetadata BranchHint p m`, `OlderHints p m` and `Module p m` say that the bytes p are a name payload, code metadata, branch hints, hints of the older edition or a module, and mean m. `U32 bs n`: the bytes bs are the number n in LEB128. `Subsections SourceIds bs m`: the bytes bs are subsections of a name payload, one after another; `Entries Name n bs t`: they are n entries of a name map, each an index and a name. `Grammar A` are the grammars with meanings in A.
@@ -73,9 +80,8 @@ use Rattle.sharing.specs.Table.{blank, blocks}
 use Rattle.sharing.specs.declared.Table.{Table as SharedTable}
 -- EXAMPLES are written as their bytes: `hex "07 01 00"`.
 use Rattle.format.specs.Examples.{hex}
--- LISTS. `Indices is`: each number in the list is below 4,294,967,296. `sum ns`: the numbers added up. `Text x characters`: the bytes x are the UTF-8 encoding of the characters. `Lists k x indices lengths text`: k is listed, and x is its own stretch of the text. `Lists k x (k ∷ is) (n ∷ ns) text` from `take n text ≡ x`, and `Lists k x (i ∷ is) (n ∷ ns) text` from `Lists k x is ns (drop n text)`.
-use Rattle.format.specs.Lists.{Indices, sum}
-use Rattle.grammar.specs.Texts.{Text}
+-- LISTS. `Indices is`: each number in the list is below 4,294,967,296. `Lists k x indices lengths text`: k is listed, and x is its own stretch of the text. `Lists k x (k ∷ is) (n ∷ ns) text` from `take n text ≡ x`, and `Lists k x (i ∷ is) (n ∷ ns) text` from `Lists k x is ns (drop n text)`.
+use Rattle.format.specs.Lists.{Indices}
 use Rattle.format.specs.Holding.{Lists}
 -- WHAT CAN BE ASKED of a name payload: one question for each call. An index is a record of one number, `k .0`. `AllowedBy knownKind q`: the first edition asks q, each index in q is below 4,294,967,296, and an id below 256; `AllowedBy widerKind q`: the wider edition does.
 use Rattle.format.specs.Questions.{AllowedBy, asPlace}
@@ -131,7 +137,28 @@ pub data HintReply : WmAnswer → Type 0 where
   hintLikely : HintReply (record { kind = 4; code = 0; offset = 0; length = 0 })
   hintRefused : (number offset : ℕ) → HintReply (wmRefused number offset)
 
--- The numbers that the calls refuse with, but for those on the shared table, which K12 lists. 16 is the listing program's alone
+-- The numbers that the calls refuse with, but for those on the shared table, which K12 lists; 16 is the listing program's alone. Each with its row of the table, and what says it: a fault by its file in crates/grammar/specs/Faults, or a statement below
+-- 1 | preamble missing or different | 0: `noPreamble` in Modules
+-- 2 | a number, name or sized part runs past its enclosing part | first byte of the number (for a name or sized part, of its length): `cutOff` in Numbers, `runsPast` in Parts; a zero byte that is `missing` in Older
+-- 3 | fifth byte of a number above 0x0F | first byte of the number: `tooLarge` in Numbers
+-- 4 | text not UTF-8 | first byte of the text: `notText` in Parts; of lists `notText` in Writing
+-- 5 | section id above 12, by K1 above 13 | id byte: `unknownId` in Modules
+-- 6 | section repeated or out of order | id byte: `outOfOrder` in Modules
+-- 7 | second `name` or `metadata.code.branch_hint`, by K2 `branchHints` | its id byte: `secondOfItsName` in Modules
+-- 8 | data after `name`; hints after code | id byte of the later section: `dataAfterName` and `hintsAfterCode` in Modules
+-- 9 | subsection id not above the one before | id byte: `idNotAbove` in Names
+-- 10 | bytes left over in a subsection or a metadata payload | first of them: `leftOver` in Parts
+-- 11 | index or offset not above the one before | that number (in lists: its position): `notAbove` in Lists, and in Writing
+-- 12 | hint of size other than 1, or data above 1 | the size number: `otherSize` and `dataAbove` in Metadata; by K2 a kind above 1, at the kind: `kindAbove` in Older
+-- 13 | output shorter than needed | the needed length: `tooShort` and `outputTooShort`; `olderTooShort` of K2, `joinTooShort` of K3, `fewIndices` and `fewOffsets` of K8
+-- 14 | lists disagree: unequal counts, or lengths that don't add up to the text | 0: `listsDisagree` in Writing
+-- 15 | subsection would exceed 4,294,967,295 bytes | 0: `subsectionTooLarge` in Writing; `olderTooLong` of K2, `joinTooLarge` of K3, `payloadTooLong` of K8
+-- 17 | the byte behind a function of the older hints is not zero | that byte: `notZero` in Older
+-- 18 | a part or a finish after the finish | 0: `part-late` and `finish-late` of K5
+-- 19, 20, 21 | no body for a hinted function | the function index; not readable before a hinted place, else not on a branch | the hint's offset number: `HintRefused` in crates/branches/specs/Rule.antt
+-- 22 | markers that are none | the shorter list's length, the lists' length, or the first such position: `Follows` in crates/format/specs/MarkerRule.antt
+-- 28 | a part that takes the total above 18,446,744,073,709,551,615 bytes | 0: `too-large` of K5
+-- 29 | an import kind above 3, or a limits flag above 1 | that byte: `imports-numbered` of K6
 abbrev pub numbers : List ℕ
 numbers = 1 ∷ 2 ∷ 3 ∷ 4 ∷ 5 ∷ 6 ∷ 7 ∷ 8 ∷ 9 ∷ 10 ∷ 11 ∷ 12 ∷ 13 ∷ 14 ∷ 15 ∷ 17 ∷ 18 ∷ 19 ∷ 20 ∷ 21 ∷ 22 ∷ 28 ∷ 29 ∷ []
 
@@ -148,69 +175,29 @@ pub record Answers (Forms : WmAnswer → Type 0) (Refused : (number offset : ℕ
   -- and its number is one of the list
   pub numbered : (number offset : ℕ) → a ≡ wmRefused number offset → isAmong numbers number ≡ true
 
--- Which input is refused, and how: as the rules judge it
-abbrev pub RefusedBy : {A : Type 0} → Judged A → (number offset : ℕ) → Type 0
-RefusedBy judged number offset = judged ≡ refused number offset
+-- Through a module the walk comes first. Then the payload of the section, if wm_custom finds one, has a fault where it lies, and offsets count from the module's start
+pub data RefusedThrough (section : List ℕ) (Fault : Faults) (m : List ℕ) : (number offset : ℕ) → Type 0 where
+  byTheWalk : {number offset : ℕ} → ModuleFault m number offset → RefusedThrough section Fault m number offset
+  byItsPayload : {number place : ℕ} (c : WmAnswer) → wm-custom section m c → c .kind ≡ 1 → Fault (take (c .length) (drop (c .offset) m)) number place → RefusedThrough section Fault m number (c .offset + place)
 
--- Through a module the walk comes first. Then the payload of the section, if wm_custom finds one, is judged where it lies, and its offsets count from the module's start
-pub data RefusedThrough {A : Type 0} (section : List ℕ) (judgement : (start : ℕ) → List ℕ → Judged A) (m : List ℕ) : (number offset : ℕ) → Type 0 where
-  byTheWalk : {number offset : ℕ} → judgeModule m ≡ refused number offset → RefusedThrough section judgement m number offset
-  byItsPayload : {number offset : ℕ} (c : WmAnswer) → wm-custom section m c → c .kind ≡ 1 → judgement (c .offset) (take (c .length) (drop (c .offset) m)) ≡ refused number offset → RefusedThrough section judgement m number offset
+-- metadata of a format: for branch_hint the rules of hints hold
+pub data FormatFault (format : List ℕ) : List ℕ → (number place : ℕ) → Type 0 where
+  ofHints : {p : List ℕ} {number place : ℕ} → format ≡ branchHint → MetadataFault BranchHint HintFault p number place → FormatFault format p number place
+  ofAnyOther : {p : List ℕ} {number place : ℕ} → format ≢ branchHint → MetadataFault Unknown AnyItemFault p number place → FormatFault format p number place
 
--- A call that writes: what is lent is judged first, and 13 comes last, exactly where the output is shorter than needed. Its offset is the needed length
-pub data RefusedOrShort {A : Type 0} (judged : Judged A) (needed : A → ℕ) (room : ℕ) : (number offset : ℕ) → Type 0 where
-  asJudged : {number offset : ℕ} → judged ≡ refused number offset → RefusedOrShort judged needed room number offset
-  tooShort : {v : A} → judged ≡ accepted v → room < needed v → RefusedOrShort judged needed room 13 (needed v)
+-- A call that writes: what is lent may have a fault, and 13 comes last, exactly where the output is shorter than needed. Its offset is the needed length
+pub data RefusedOrShort {A : Type 0} (Fault : (number offset : ℕ) → Type 0) (judged : Judged A) (needed : A → ℕ) (room : ℕ) : (number offset : ℕ) → Type 0 where
+  byAFault : {number offset : ℕ} → Fault number offset → RefusedOrShort Fault judged needed room number offset
+  tooShort : {v : A} → judged ≡ accepted v → room < needed v → RefusedOrShort Fault judged needed room 13 (needed v)
 
--- Lists that agree: as many lengths as indices, and lengths that add up to the text
-abbrev pub Agree : (indices lengths text : List ℕ) → Type 0
-Agree indices lengths text = (length indices ≡ length lengths) × (sum lengths ≡ length text)
-
--- indices each above the one before
-abbrev pub Rise : List ℕ → Type 0
-Rise indices = (i j a b : ℕ) → i < j → getElem? indices i ≡ some a → getElem? indices j ≡ some b → a < b
-
--- and names that are text, each its own stretch of the joined text
-abbrev pub AreText : (indices lengths text : List ℕ) → Type 0
-AreText indices lengths text = (k : ℕ) (x : List ℕ) → Lists k x indices lengths text → (characters : List ℕ) × Text x characters
-
--- Lists are fine where all three hold
-pub record FineLists (indices lengths text : List ℕ) : Type 0 where
-  pub agree : Agree indices lengths text
-  pub rise : Rise indices
-  pub are-text : AreText indices lengths text
-
--- How long the payload of the lists is. A number takes one byte for each seven bits, and five at most
-abbrev pub bytesFor : ℕ → ℕ
-bytesFor n = cond (ltb n 128) 1 (cond (ltb n 16_384) 2 (cond (ltb n 2_097_152) 3 (cond (ltb n 268_435_456) 4 5)))
-
--- each name its index, its length and its text
-abbrev pub entriesLength : (indices lengths : List ℕ) → ℕ
-entriesLength [] ns = 0
-entriesLength (i ∷ is) [] = 0
-entriesLength (i ∷ is) (n ∷ ns) = bytesFor i + bytesFor n + n + entriesLength is ns
-
--- the contents of the subsection: the count of names, and the names
-abbrev pub contentsLength : (indices lengths : List ℕ) → ℕ
-contentsLength is ns = bytesFor (length is) + entriesLength is ns
-
--- the payload: nothing for no names, else the subsection's id, the size of its contents, and these
+-- The payload that is written from lists: nothing for no names, else the subsection's id, the size of its contents, and these
 abbrev pub payloadLength : (indices lengths : List ℕ) → ℕ
 payloadLength [] ns = 0
 payloadLength (i ∷ is) ns = 1 + bytesFor (contentsLength (i ∷ is) ns) + contentsLength (i ∷ is) ns
 
--- The first fault is at k: without what stands there all is well, and with it no more
-abbrev pub FirstFault : (Fine : ℕ → Type 0) → ℕ → Type 0
-FirstFault Fine k = Fine k × (Fine (suc k) → ⊥)
-
--- Which lists are refused, and how. The order is 14, all of 11, all of 4, 15, 13: each is given only where none before it is
+-- Which lists are refused, and how: at their fault, in the order 14, all of 11, all of 4, 15; and 13 behind them
 pub data ListsRefused (indices lengths text : List ℕ) (room : ℕ) : (number offset : ℕ) → Type 0 where
-  listsDisagree : (Agree indices lengths text → ⊥) → ListsRefused indices lengths text room 14 0
-  -- the offset is the position of the first index that is not above the one before
-  notAbove : (k : ℕ) → Agree indices lengths text → FirstFault (λ n. Rise (take n indices)) k → ListsRefused indices lengths text room 11 k
-  -- the offset is where the first name that is not text starts in the joined text
-  notText : (k : ℕ) → Agree indices lengths text → Rise indices → FirstFault (λ n. AreText (take n indices) (take n lengths) text) k → ListsRefused indices lengths text room 4 (sum (take k lengths))
-  subsectionTooLarge : FineLists indices lengths text → 4_294_967_295 < contentsLength indices lengths → ListsRefused indices lengths text room 15 0
+  listsFault : {number offset : ℕ} → ListsFault indices lengths text number offset → ListsRefused indices lengths text room number offset
   outputTooShort : FineLists indices lengths text → contentsLength indices lengths ≤ 4_294_967_295 → room < payloadLength indices lengths → ListsRefused indices lengths text room 13 (payloadLength indices lengths)
 
 -- What an output holds after a call that writes
@@ -233,23 +220,34 @@ pub record Writing (Refused : (room number offset : ℕ) → Type 0) (writing : 
   pub leaves : (old new : List ℕ) (a : WmAnswer) → writing old new a → Leaves old new a
   pub needs-room : NeedsRoom writing
 
+-- The judgements that the requests below speak of refuse exactly what has a fault, with its number and at its place, wherever the bytes begin in what was lent; and of no bytes are there two answers
+pub record Faulty : Type 0 where
+  pub modules : Refuses 0 judgeModule Module ModuleFault
+  pub names : (at : ℕ) → Refuses at (judgeNames knownKind at) (NamePayload SourceIds) (NamePayloadFault SourceIds)
+  pub wide-names : (at : ℕ) → Refuses at (judgeNames widerKind at) (NamePayload WiderIds) (NamePayloadFault WiderIds)
+  pub metadata : (at : ℕ) → Refuses at (judgeMetadata anyItem at) (CodeMetadata Unknown) (MetadataFault Unknown AnyItemFault)
+  pub hints : (at : ℕ) → Refuses at (judgeMetadata hintItem at) (CodeMetadata BranchHint) (MetadataFault BranchHint HintFault)
+  pub older-hints : (at : ℕ) → Refuses at (judgeOlder at) OlderHints OlderFault
+  pub lists : RefusesLists
+
 pub record Demand1 : Type 0 where
-  pub walk : (bytes : List ℕ) (a : WmAnswer) → wm-walk bytes a → Answers Verdict (RefusedBy (judgeModule bytes)) a
-  pub section : (position : ℕ) (bytes : List ℕ) (a : WmAnswer) → wm-section position bytes a → Answers SectionReply (RefusedBy (judgeModule bytes)) a
-  pub custom : (name bytes : List ℕ) (a : WmAnswer) → wm-custom name bytes a → Answers Reply (RefusedBy (judgeModule bytes)) a
-  pub names-judge : (payload : List ℕ) (a : WmAnswer) → wm-names-judge payload a → Answers Verdict (RefusedBy (judgeNames knownKind 0 payload)) a
-  pub name : (q : Question) (payload : List ℕ) (a : WmAnswer) → wm-name q payload a → Answers Reply (RefusedBy (judgeNames knownKind 0 payload)) a
-  pub metadata-judge : (payload : List ℕ) (a : WmAnswer) → wm-metadata-judge payload a → Answers Verdict (RefusedBy (judgeMetadata anyItem 0 payload)) a
-  pub metadata : (function offset : ℕ) (payload : List ℕ) (a : WmAnswer) → wm-metadata function offset payload a → Answers Reply (RefusedBy (judgeMetadata anyItem 0 payload)) a
-  pub hints-judge : (payload : List ℕ) (a : WmAnswer) → wm-hints-judge payload a → Answers Verdict (RefusedBy (judgeMetadata hintItem 0 payload)) a
-  pub hint : (function offset : ℕ) (payload : List ℕ) (a : WmAnswer) → wm-hint function offset payload a → Answers HintReply (RefusedBy (judgeMetadata hintItem 0 payload)) a
-  pub name-in : (q : Question) (bytes : List ℕ) (a : WmAnswer) → wm-name-in q bytes a → Answers Reply (RefusedThrough nameSection (judgeNames knownKind) bytes) a
-  pub metadata-in : (format : List ℕ) (function offset : ℕ) (bytes : List ℕ) (a : WmAnswer) → wm-metadata-in format function offset bytes a → Answers Reply (RefusedThrough (metadataSection format) (judgeMetadata (itemOf format)) bytes) a
-  pub hint-in : (function offset : ℕ) (bytes : List ℕ) (a : WmAnswer) → wm-hint-in function offset bytes a → Answers HintReply (RefusedThrough hintSection (judgeMetadata hintItem) bytes) a
-  pub names-canonical : (payload : List ℕ) → Writing (RefusedOrShort (judgeNames knownKind 0 payload) (λ t. length (rewriteNames t))) (wm-names-canonical payload)
-  pub metadata-canonical : (payload : List ℕ) → Writing (RefusedOrShort (judgeMetadata anyItem 0 payload) (λ t. length (rewriteMetadata t))) (wm-metadata-canonical payload)
-  pub hints-canonical : (payload : List ℕ) → Writing (RefusedOrShort (judgeMetadata hintItem 0 payload) (λ t. length (rewriteMetadata t))) (wm-hints-canonical payload)
+  pub walk : (bytes : List ℕ) (a : WmAnswer) → Bytes bytes → wm-walk bytes a → Answers Verdict (ModuleFault bytes) a
+  pub section : (position : ℕ) (bytes : List ℕ) (a : WmAnswer) → Bytes bytes → wm-section position bytes a → Answers SectionReply (ModuleFault bytes) a
+  pub custom : (name bytes : List ℕ) (a : WmAnswer) → Bytes bytes → wm-custom name bytes a → Answers Reply (ModuleFault bytes) a
+  pub names-judge : (payload : List ℕ) (a : WmAnswer) → Bytes payload → wm-names-judge payload a → Answers Verdict (NamePayloadFault SourceIds payload) a
+  pub name : (q : Question) (payload : List ℕ) (a : WmAnswer) → Bytes payload → wm-name q payload a → Answers Reply (NamePayloadFault SourceIds payload) a
+  pub metadata-judge : (payload : List ℕ) (a : WmAnswer) → Bytes payload → wm-metadata-judge payload a → Answers Verdict (MetadataFault Unknown AnyItemFault payload) a
+  pub metadata : (function offset : ℕ) (payload : List ℕ) (a : WmAnswer) → Bytes payload → wm-metadata function offset payload a → Answers Reply (MetadataFault Unknown AnyItemFault payload) a
+  pub hints-judge : (payload : List ℕ) (a : WmAnswer) → Bytes payload → wm-hints-judge payload a → Answers Verdict (MetadataFault BranchHint HintFault payload) a
+  pub hint : (function offset : ℕ) (payload : List ℕ) (a : WmAnswer) → Bytes payload → wm-hint function offset payload a → Answers HintReply (MetadataFault BranchHint HintFault payload) a
+  pub name-in : (q : Question) (bytes : List ℕ) (a : WmAnswer) → Bytes bytes → wm-name-in q bytes a → Answers Reply (RefusedThrough nameSection (NamePayloadFault SourceIds) bytes) a
+  pub metadata-in : (format : List ℕ) (function offset : ℕ) (bytes : List ℕ) (a : WmAnswer) → Bytes bytes → wm-metadata-in format function offset bytes a → Answers Reply (RefusedThrough (metadataSection format) (FormatFault format) bytes) a
+  pub hint-in : (function offset : ℕ) (bytes : List ℕ) (a : WmAnswer) → Bytes bytes → wm-hint-in function offset bytes a → Answers HintReply (RefusedThrough hintSection (MetadataFault BranchHint HintFault) bytes) a
+  pub names-canonical : (payload : List ℕ) → Bytes payload → Writing (RefusedOrShort (NamePayloadFault SourceIds payload) (judgeNames knownKind 0 payload) (λ t. length (rewriteNames t))) (wm-names-canonical payload)
+  pub metadata-canonical : (payload : List ℕ) → Bytes payload → Writing (RefusedOrShort (MetadataFault Unknown AnyItemFault payload) (judgeMetadata anyItem 0 payload) (λ t. length (rewriteMetadata t))) (wm-metadata-canonical payload)
+  pub hints-canonical : (payload : List ℕ) → Bytes payload → Writing (RefusedOrShort (MetadataFault BranchHint HintFault payload) (judgeMetadata hintItem 0 payload) (λ t. length (rewriteMetadata t))) (wm-hints-canonical payload)
   pub function-names-write : (indices lengths text : List ℕ) → Writing (ListsRefused indices lengths text) (wm-function-names-write indices lengths text)
+  pub faults : Faulty
 
 -- DEMAND 2. "Exactly what the rules accept is accepted. A lookup gives the mapped name as the very bytes of the section, or none exactly when the index has no name. Walk, hints and kept parts are what the rules make them. Names written from lists read back as those lists." Proved as `demand-2` in Proved.antt.
 
@@ -469,10 +467,10 @@ pub data InBoth : Question → Type 0 where
 
 pub record K9 : Type 0 where
   -- demand 1 of the wider edition
-  pub names-judge : (payload : List ℕ) (a : WmAnswer) → wm-wide-names-judge payload a → Answers Verdict (RefusedBy (judgeNames widerKind 0 payload)) a
-  pub name : (q : Question) (payload : List ℕ) (a : WmAnswer) → wm-wide-name q payload a → Answers Reply (RefusedBy (judgeNames widerKind 0 payload)) a
-  pub name-in : (q : Question) (bytes : List ℕ) (a : WmAnswer) → wm-wide-name-in q bytes a → Answers Reply (RefusedThrough nameSection (judgeNames widerKind) bytes) a
-  pub names-canonical : (payload : List ℕ) → Writing (RefusedOrShort (judgeNames widerKind 0 payload) (λ t. length (rewriteNames t))) (wm-wide-names-canonical payload)
+  pub names-judge : (payload : List ℕ) (a : WmAnswer) → Bytes payload → wm-wide-names-judge payload a → Answers Verdict (NamePayloadFault WiderIds payload) a
+  pub name : (q : Question) (payload : List ℕ) (a : WmAnswer) → Bytes payload → wm-wide-name q payload a → Answers Reply (NamePayloadFault WiderIds payload) a
+  pub name-in : (q : Question) (bytes : List ℕ) (a : WmAnswer) → Bytes bytes → wm-wide-name-in q bytes a → Answers Reply (RefusedThrough nameSection (NamePayloadFault WiderIds) bytes) a
+  pub names-canonical : (payload : List ℕ) → Bytes payload → Writing (RefusedOrShort (NamePayloadFault WiderIds payload) (judgeNames widerKind 0 payload) (λ t. length (rewriteNames t))) (wm-wide-names-canonical payload)
   -- demand 2
   pub names-judged : JudgesExactly wm-wide-names-judge (NamePayload WiderIds)
   pub names-whole : (p : List ℕ) (a : WmAnswer) → wm-wide-names-judge p a → a .kind ≡ 1 → a ≡ wmFound 0 0 (length p)
@@ -495,11 +493,11 @@ pub record K9 : Type 0 where
 abbrev pub olderNumbers : List ℕ
 olderNumbers = 2 ∷ 3 ∷ 10 ∷ 12 ∷ 17 ∷ []
 
--- Which payload the rewriting refuses, and how: as it is judged; then 15, exactly where what would be written is above 4,294,967,295 bytes; then 13
-pub data OlderRefused (payload : List ℕ) (room : ℕ) : (number offset : ℕ) → Type 0 where
-  olderJudged : {number offset : ℕ} → judgeOlder 0 payload ≡ refused number offset → OlderRefused payload room number offset
-  olderTooLong : {es : List OlderEntry} → judgeOlder 0 payload ≡ accepted es → 4_294_967_295 < length (writeOlder (sortedFrom nil es)) → OlderRefused payload room 15 0
-  olderTooShort : {es : List OlderEntry} → judgeOlder 0 payload ≡ accepted es → length (writeOlder (sortedFrom nil es)) ≤ 4_294_967_295 → room < length (writeOlder (sortedFrom nil es)) → OlderRefused payload room 13 (length (writeOlder (sortedFrom nil es)))
+-- Which payload the rewriting refuses, and how: at its fault; then 15, exactly where what would be written is above 4,294,967,295 bytes; then 13
+pub data OlderRefused (Fault : (number offset : ℕ) → Type 0) (payload : List ℕ) (room : ℕ) : (number offset : ℕ) → Type 0 where
+  olderFault : {number offset : ℕ} → Fault number offset → OlderRefused Fault payload room number offset
+  olderTooLong : {es : List OlderEntry} → judgeOlder 0 payload ≡ accepted es → 4_294_967_295 < length (writeOlder (sortedFrom nil es)) → OlderRefused Fault payload room 15 0
+  olderTooShort : {es : List OlderEntry} → judgeOlder 0 payload ≡ accepted es → length (writeOlder (sortedFrom nil es)) ≤ 4_294_967_295 → room < length (writeOlder (sortedFrom nil es)) → OlderRefused Fault payload room 13 (length (writeOlder (sortedFrom nil es)))
 
 -- All hints of a meaning in file order, each with its function and its offset
 abbrev pub ofFunction : (function : ℕ) → List OlderHint → List (ℕ × ℕ × Hint)
@@ -534,11 +532,11 @@ InOrder m = Rise (functionsOf m) × ((i : ℕ) (e : OlderEntry) → getElem? m i
 
 pub record K2 : Type 0 where
   -- demand 1 of the older edition
-  pub judge : (payload : List ℕ) (a : WmAnswer) → wm-old-hints-judge payload a → Answers Verdict (RefusedBy (judgeOlder 0 payload)) a
+  pub judge : (payload : List ℕ) (a : WmAnswer) → Bytes payload → wm-old-hints-judge payload a → Answers Verdict (OlderFault payload) a
   pub numbered : (payload : List ℕ) (a : WmAnswer) → wm-old-hints-judge payload a → (number offset : ℕ) → a ≡ wmRefused number offset → isAmong olderNumbers number ≡ true
-  pub hint : (function offset : ℕ) (payload : List ℕ) (a : WmAnswer) → wm-old-hint function offset payload a → Answers HintReply (RefusedBy (judgeOlder 0 payload)) a
-  pub hint-in : (function offset : ℕ) (bytes : List ℕ) (a : WmAnswer) → wm-old-hint-in function offset bytes a → Answers HintReply (RefusedThrough olderHintSection judgeOlder bytes) a
-  pub canonical : (payload : List ℕ) → Writing (OlderRefused payload) (wm-old-hints-canonical payload)
+  pub hint : (function offset : ℕ) (payload : List ℕ) (a : WmAnswer) → Bytes payload → wm-old-hint function offset payload a → Answers HintReply (OlderFault payload) a
+  pub hint-in : (function offset : ℕ) (bytes : List ℕ) (a : WmAnswer) → Bytes bytes → wm-old-hint-in function offset bytes a → Answers HintReply (RefusedThrough olderHintSection OlderFault bytes) a
+  pub canonical : (payload : List ℕ) → Bytes payload → Writing (OlderRefused (OlderFault payload) payload) (wm-old-hints-canonical payload)
   -- demand 2. "a list of (function index, one zero byte, list of (kind, offset)), kind and offset both numbers"
   pub judged : JudgesExactly wm-old-hints-judge OlderHints
   pub whole : (p : List ℕ) (a : WmAnswer) → wm-old-hints-judge p a → a .kind ≡ 1 → a ≡ wmFound 0 0 (length p)
@@ -609,7 +607,7 @@ abbrev pub bodyNumbers : List ℕ
 bodyNumbers = 2 ∷ 3 ∷ 10 ∷ []
 
 pub record K6 : Type 0 where
-  pub judge : (m : List ℕ) (a : WmAnswer) → wm-hints-on-branches m a → Answers Verdict (RefusedBy (hintsOnBranches m)) a
+  pub judge : (m : List ℕ) (a : WmAnswer) → Bytes m → wm-hints-on-branches m a → Answers Verdict (ModuleRefused m) a
   pub accepts : (m : List ℕ) (a : WmAnswer) → wm-hints-on-branches m a → (a ≡ wmFound 0 0 (length m)) ↔ (hintsOnBranches m ≡ accepted tt)
   pub without-hints : (m : List ℕ) → customPayload hintSection m ≡ accepted none → hintsOnBranches m ≡ accepted tt
   -- "accept when every hint's offset begins one of those two"

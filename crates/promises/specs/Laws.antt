@@ -9,6 +9,7 @@ pub mod Listing
 pub mod Lists
 pub mod ListsRefused
 pub mod Exactly
+pub mod Faults
 pub mod Walking
 pub mod Moving
 pub mod Through

@@ -30,8 +30,9 @@ use Rattle.format.specs.Older.{firstIn, judgeOlder, askOlder, canonicalOlder}
 use Rattle.format.specs.Options.{mapSome}
 use Rattle.format.specs.Reading.{mapJudged, verdict}
 use Rattle.format.specs.Telling.{isItsRewriting, namesAreCanonical, itemsAreCanonical, olderIsCanonical}
-use Rattle.format.specs.Through.{askThrough, askMetadataThrough, askHintThrough, askOlderThrough}
-use Rattle.format.specs.Walk.{nameSection, sectionCount, sectionAt, customPayload}
+use Rattle.format.specs.Bytes.{Bytes}
+use Rattle.format.specs.Through.{metadataSection, askThrough, askMetadataThrough, askHintThrough, askOlderThrough}
+use Rattle.format.specs.Walk.{nameSection, hintSection, olderHintSection, sectionCount, sectionAt, customPayload}
 use Rattle.wakemiono.specs.Boundary.{wmCount, wmSection, wmPlace, wmJudged, wmHint, wmYes, WmWrites}
 use Rattle.walk.specs.Surveys.{sectionPlace}
 use Rattle.format.specs.Theorems.{Rewrites as AnyRewrites, questions-answered, hints-answered as all-hints-answered, any-metadata-answered, edition-rewritten, any-metadata-rewritten, hints-rewritten, older-rewritten, edition-shortest, any-metadata-shortest, hints-shortest, older-shortest, functions-why, locals-why}
@@ -46,6 +47,11 @@ use Rattle.format.specs.declared.Hint.{Hint}
 use Rattle.format.specs.declared.Hint.the-variants.{Unlikely, Likely}
 use Rattle.format.specs.Questions.{idOf, queryOf}
 use Rattle.format.specs.Tables.{mapTable}
+use Rattle.grammar.specs.Faults.Names.{NamePayloadFault}
+use Rattle.grammar.specs.Faults.Metadata.{AnyItemFault, HintFault, MetadataFault}
+use Rattle.grammar.specs.Faults.Modules.{ModuleFault}
+use Rattle.grammar.specs.Faults.Writing.{listsDisagree, notAbove, notText, subsectionTooLarge}
+use Rattle.grammar.specs.Refusing.{ids-refused, names-refused, wider-names-refused, metadata-refused, hints-refused, older-refused as older-hints-refused, modules-refused, lists-refused as all-lists-refused}
 use Rattle.grammar.specs.Forgetting.{bareSections}
 use Rattle.grammar.specs.Grammar.{Accepts, ids-exact, metadata-exact, hints-exact, older-exact, modules-exact}
 use Rattle.grammar.specs.Laws.Metadata.{any-exact, metadata-complete}
@@ -57,8 +63,9 @@ use Rattle.promises.specs.Laws.Lists.{lists-fine, fine-written}
 use Rattle.promises.specs.Laws.Lookups.{tells-as, asked-tells, asked-refused, likely-held, unlikely-held, no-hint-held, hint-refused, name-held, contents-held, entry-held, inner-held, within-held}
 use Rattle.promises.specs.Laws.Outputs.{wrote-leaves, wrote-short, wrote-again}
 use Rattle.promises.specs.Laws.Editions.{none-kept, within-one-edition, accepted-by-both, answered-alike}
-use Rattle.promises.specs.Laws.Exactly.{name-in-exactly, metadata-in-exactly, hint-in-exactly, older-in-exactly, written-exactly, rewritten-exactly}
+use Rattle.promises.specs.Laws.Exactly.{RefusedBy, JudgedThrough, walkRefused, payloadRefused, JudgedOrShort, name-in-exactly, metadata-in-exactly, hint-in-exactly, older-in-exactly, written-exactly, rewritten-exactly}
 use Rattle.promises.specs.Laws.ListsRefused.{lists-refused}
+use Rattle.promises.specs.Laws.Faults.{answers-otherwise, writes-otherwise, faults, or-short, older-or-short, through-faults, format-faults}
 use Rattle.promises.specs.Laws.Older.{older-likely, older-unlikely, older-none, older-hint-refused, older-refused, older-never-15, older-ordered, sections-apart, never-empty}
 use Rattle.promises.specs.Laws.Refusing.{Numbered, FairlyJudged, names-fair, any-fair, hint-fair, item-of-fair, items-fair, older-fair, older-fair-by, walk-fair}
 use Rattle.promises.specs.Laws.Rewriting.{WhereWritten, always-written, Asked, names-asked, metadata-asked, hints-asked, older-asked, names-written, metadata-written, hints-written, names-first-judged, metadata-first-judged, hints-first-judged, rewritten-same, rewritten-accepted, rewritten-alike, rewritten-shorter, rewritten-rests, rewritten-fits, rewriting-refused, names-refuse, metadata-refuse, hints-refuse, older-refuse, older-written}
@@ -76,7 +83,7 @@ use Rattle.promises.specs.Laws.Pairs.{asks-pairs, hands-back}
 use Rattle.promises.specs.Laws.Joins.{joins-pairs}
 use Rattle.promises.specs.Laws.Walking.{walked, walk-counts, section-found, section-first, section-none, section-refused, custom-tells, custom-refused}
 use Rattle.wakemiono.specs.Calls.{wm-walk, wm-metadata-judge, wm-hints-judge, wm-metadata-canonical, wm-hints-canonical, wm-function-names-write, wm-old-hints-judge, wm-old-hints-canonical, wm-hints-on-branches}
-use Rattle.promises.specs.Demands.{Verdict, Reply, SectionReply, HintReply, Answers, RefusedBy, RefusedThrough, RefusedOrShort, ListsRefused, NeedsRoom, Writing, Demand1, HoldsName, HoldsData, JudgesExactly, AnswersNames, AnswersMetadata, AnswersHints, Walks, Demand2, SameAnswer, Rewritten, Rewrites, Demand3, yes, no, replyNone, replyFound, replyRefused, sectionNone, sectionFound, sectionRefused, hintNone, hintUnlikely, hintLikely, hintRefused, byTheWalk, byItsPayload, asJudged, tooShort, listsDisagree, notAbove, notText, subsectionTooLarge, outputTooShort, TellsCanonical, K10, K9, OlderRefused, AnswersOlder, K2, olderJudged, olderTooLong, olderTooShort, K11, K7, K8, K3, Leaves, K5, K6, K12, K13}
+use Rattle.promises.specs.Demands.{Verdict, Reply, SectionReply, HintReply, Answers, RefusedThrough, RefusedOrShort, ListsRefused, NeedsRoom, Writing, Demand1, HoldsName, HoldsData, JudgesExactly, AnswersNames, AnswersMetadata, AnswersHints, Walks, Demand2, SameAnswer, Rewritten, Rewrites, Demand3, yes, no, replyNone, replyFound, replyRefused, sectionNone, sectionFound, sectionRefused, hintNone, hintUnlikely, hintLikely, hintRefused, byAFault, tooShort, Faulty, listsFault, outputTooShort, TellsCanonical, K10, K9, OlderRefused, AnswersOlder, K2, olderFault, olderTooLong, olderTooShort, K11, K7, K8, K3, Leaves, K5, K6, K12, K13}
 use Rattle.branches.specs.Branches.{hintsOnBranches}
 use Rattle.branches.specs.Theorems.{module-exactly, module-refused-exactly, without-hints}
 use Rattle.promises.specs.Answers.{saysVerdict, verdict-said}
@@ -116,22 +123,22 @@ alike : {A : Type 0} {a j : WmAnswer} {judged : Judged A} → Says j judged → 
 alike says same n at = Iff·trans (same n at) (says .refusal n at)
 
 module _ {A : Type 0} {section : List ℕ} {judgement : ℕ → List ℕ → Judged A} (fair : (at : ℕ) (p : List ℕ) → FairlyJudged (judgement at p)) {m : List ℕ} where
-  through-numbered : {n at : ℕ} → RefusedThrough section judgement m n at → Numbered n
-  through-numbered {n} {at} (byTheWalk e) = walk-fair m .numbered n at e
-  through-numbered {n} {at} (byItsPayload c found k e) = fair (c .offset) (take (c .length) (drop (c .offset) m)) .numbered n at e
+  through-numbered : {n at : ℕ} → JudgedThrough section judgement m n at → Numbered n
+  through-numbered {n} {at} (walkRefused e) = walk-fair m .numbered n at e
+  through-numbered {n} {at} (payloadRefused c found k e) = fair (c .offset) (take (c .length) (drop (c .offset) m)) .numbered n at e
 
-  answers-through : {Forms : WmAnswer → Type 0} {a : WmAnswer} → Forms a → ((n at : ℕ) → (a ≡ wmRefused n at) ↔ RefusedThrough section judgement m n at) → Answers Forms (RefusedThrough section judgement m) a
+  answers-through : {Forms : WmAnswer → Type 0} {a : WmAnswer} → Forms a → ((n at : ℕ) → (a ≡ wmRefused n at) ↔ JudgedThrough section judgement m n at) → Answers Forms (JudgedThrough section judgement m) a
   answers-through forms exactly = record { answers = forms; refuses = exactly; numbered = λ n at e. through-numbered (exactly n at .0 e) }
 
-short-numbered : {A : Type 0} {j : Judged A} {needed : A → ℕ} {room n at : ℕ} → FairlyJudged j → RefusedOrShort j needed room n at → Numbered n
-short-numbered {n = n} {at = at} fair (asJudged e) = fair .numbered n at e
+short-numbered : {A : Type 0} {j : Judged A} {needed : A → ℕ} {room n at : ℕ} → FairlyJudged j → JudgedOrShort j needed room n at → Numbered n
+short-numbered {n = n} {at = at} fair (byAFault e) = fair .numbered n at e
 short-numbered fair (tooShort e short) = refl
 
 lists-numbered : {is ns text : List ℕ} {room n at : ℕ} → ListsRefused is ns text room n at → Numbered n
-lists-numbered (listsDisagree _) = refl
-lists-numbered (notAbove k _ _) = refl
-lists-numbered (notText k _ _ _) = refl
-lists-numbered (subsectionTooLarge _ _) = refl
+lists-numbered (listsFault (listsDisagree _)) = refl
+lists-numbered (listsFault (notAbove k _ _)) = refl
+lists-numbered (listsFault (notText k _ _ _)) = refl
+lists-numbered (listsFault (subsectionTooLarge _ _)) = refl
 lists-numbered (outputTooShort _ _ _) = refl
 
 written-verdict : (wanted : Judged (List ℕ)) (old new : List ℕ) (a : WmAnswer) → WmWrites wanted old new a → Verdict a
@@ -140,7 +147,7 @@ written-verdict wanted old new a w = rw (w .says) (count-verdict (writeAnswer (l
 needs-room : (wanted : Judged (List ℕ)) → NeedsRoom (λ old new a. WmWrites wanted old new a)
 needs-room wanted old new old′ new′ a b v w k = (wrote-short v w k, wrote-again v w k)
 
-writes-as : {A : Type 0} (f : A → List ℕ) (j : Judged A) → FairlyJudged j → Writing (RefusedOrShort j (λ v. length (f v))) (λ old new a. WmWrites (mapJudged f j) old new a)
+writes-as : {A : Type 0} (f : A → List ℕ) (j : Judged A) → FairlyJudged j → Writing (JudgedOrShort j (λ v. length (f v))) (λ old new a. WmWrites (mapJudged f j) old new a)
 writes-as f j fair = record {
   answers = λ old new a w. record {
     answers = written-verdict (mapJudged f j) old new a w;
@@ -152,27 +159,39 @@ writes-as f j fair = record {
 }
 
 -- names, over any table of ids
-module _ (kindOf : ℕ → Kind) where
-  judges-names : (p : List ℕ) (a : WmAnswer) → a ≡ wmJudged (length p) (verdict (judgeNames kindOf 0 p)) → Answers Verdict (RefusedBy (judgeNames kindOf 0 p)) a
-  judges-names p a e = answers-as (names-fair kindOf 0 p) (rw e (judged-verdict (length p) (verdict (judgeNames kindOf 0 p)))) (judged-said (length p) (judgeNames kindOf 0 p) e .refusal)
+module _ {Ids : ℕ → Kind → Type 0} {kindOf : ℕ → Kind} (ids : SameIds Ids kindOf) where
+  names-faults : (p : List ℕ) → Bytes p → (n at : ℕ) → RefusedBy (judgeNames kindOf 0 p) n at ↔ NamePayloadFault Ids p n at
+  names-faults p h = faults (ids-refused ids 0) p h
 
-  asks-names : (q : Question) (p : List ℕ) (a : WmAnswer) → a ≡ wmPlace (asPlace (ask kindOf q p)) → Answers Reply (RefusedBy (judgeNames kindOf 0 p)) a
-  asks-names q p a e = answers-as (names-fair kindOf 0 p) (rw e (place-reply (ask kindOf q p))) (rw e (λ n at. Iff·trans (refused-said (ask kindOf q p) n at) (questions-answered kindOf .refuses q p n at)))
+  judges-names : (p : List ℕ) (a : WmAnswer) → Bytes p → a ≡ wmJudged (length p) (verdict (judgeNames kindOf 0 p)) → Answers Verdict (NamePayloadFault Ids p) a
+  judges-names p a h e = answers-otherwise (answers-as (names-fair kindOf 0 p) (rw e (judged-verdict (length p) (verdict (judgeNames kindOf 0 p)))) (judged-said (length p) (judgeNames kindOf 0 p) e .refusal)) (names-faults p h)
 
-  asks-names-in : (q : Question) (m : List ℕ) (a : WmAnswer) → a ≡ wmPlace (asPlace (askThrough kindOf q m)) → Answers Reply (RefusedThrough nameSection (judgeNames kindOf) m) a
-  asks-names-in q m a e = answers-through (names-fair kindOf) (rw e (place-reply (askThrough kindOf q m))) (name-in-exactly kindOf q m a e)
+  asks-names : (q : Question) (p : List ℕ) (a : WmAnswer) → Bytes p → a ≡ wmPlace (asPlace (ask kindOf q p)) → Answers Reply (NamePayloadFault Ids p) a
+  asks-names q p a h e = answers-otherwise (answers-as (names-fair kindOf 0 p) (rw e (place-reply (ask kindOf q p))) (rw e (λ n at. Iff·trans (refused-said (ask kindOf q p) n at) (questions-answered kindOf .refuses q p n at)))) (names-faults p h)
 
-  writes-names : (p : List ℕ) → Writing (RefusedOrShort (judgeNames kindOf 0 p) (λ t. length (rewriteNames t))) (λ old new a. WmWrites (canonicalNames kindOf p) old new a)
+  asks-names-in : (q : Question) (m : List ℕ) (a : WmAnswer) → Bytes m → a ≡ wmPlace (asPlace (askThrough kindOf q m)) → Answers Reply (RefusedThrough nameSection (NamePayloadFault Ids) m) a
+  asks-names-in q m a h e = answers-otherwise (answers-through (names-fair kindOf) (rw e (place-reply (askThrough kindOf q m))) (name-in-exactly kindOf q m a e)) (through-faults (λ at. ids-refused ids at .refused-exactly) nameSection m h)
+
+  writes-names : (p : List ℕ) → Bytes p → Writing (RefusedOrShort (NamePayloadFault Ids p) (judgeNames kindOf 0 p) (λ t. length (rewriteNames t))) (λ old new a. WmWrites (canonicalNames kindOf p) old new a)
   unfolding canonicalNames
-  writes-names p = writes-as rewriteNames (judgeNames kindOf 0 p) (names-fair kindOf 0 p)
+  writes-names p h = writes-otherwise (writes-as rewriteNames (judgeNames kindOf 0 p) (names-fair kindOf 0 p)) (or-short (judgeNames kindOf 0 p) (λ t. length (rewriteNames t)) (names-faults p h))
 
-writes-metadata : (p : List ℕ) → Writing (RefusedOrShort (judgeMetadata anyItem 0 p) (λ t. length (rewriteMetadata t))) (wm-metadata-canonical p)
+module-faults : (m : List ℕ) → Bytes m → (n at : ℕ) → RefusedBy (walk m) n at ↔ ModuleFault m n at
+module-faults m h = faults modules-refused m h
+
+any-faults : (p : List ℕ) → Bytes p → (n at : ℕ) → RefusedBy (judgeMetadata anyItem 0 p) n at ↔ MetadataFault Unknown AnyItemFault p n at
+any-faults p h = faults (metadata-refused 0) p h
+
+hint-faults : (p : List ℕ) → Bytes p → (n at : ℕ) → RefusedBy (judgeMetadata hintItem 0 p) n at ↔ MetadataFault BranchHint HintFault p n at
+hint-faults p h = faults (hints-refused 0) p h
+
+writes-metadata : (p : List ℕ) → Bytes p → Writing (RefusedOrShort (MetadataFault Unknown AnyItemFault p) (judgeMetadata anyItem 0 p) (λ t. length (rewriteMetadata t))) (wm-metadata-canonical p)
 unfolding canonicalMetadata canonicalOf
-writes-metadata p = writes-as rewriteMetadata (judgeMetadata anyItem 0 p) (items-fair any-fair 0 p)
+writes-metadata p h = writes-otherwise (writes-as rewriteMetadata (judgeMetadata anyItem 0 p) (items-fair any-fair 0 p)) (or-short (judgeMetadata anyItem 0 p) (λ t. length (rewriteMetadata t)) (any-faults p h))
 
-writes-hints : (p : List ℕ) → Writing (RefusedOrShort (judgeMetadata hintItem 0 p) (λ t. length (rewriteMetadata t))) (wm-hints-canonical p)
+writes-hints : (p : List ℕ) → Bytes p → Writing (RefusedOrShort (MetadataFault BranchHint HintFault p) (judgeMetadata hintItem 0 p) (λ t. length (rewriteMetadata t))) (wm-hints-canonical p)
 unfolding canonicalHints canonicalOf
-writes-hints p = writes-as rewriteMetadata (judgeMetadata hintItem 0 p) (items-fair hint-fair 0 p)
+writes-hints p h = writes-otherwise (writes-as rewriteMetadata (judgeMetadata hintItem 0 p) (items-fair hint-fair 0 p)) (or-short (judgeMetadata hintItem 0 p) (λ t. length (rewriteMetadata t)) (hint-faults p h))
 
 writes-lists : (is ns text : List ℕ) → Writing (ListsRefused is ns text) (wm-function-names-write is ns text)
 writes-lists is ns text = record {
@@ -188,24 +207,36 @@ writes-lists is ns text = record {
     exactly : {old new : List ℕ} {a : WmAnswer} → WmWrites (functionNames is ns text) old new a → (n at : ℕ) → (a ≡ wmRefused n at) ↔ ListsRefused is ns text (length old) n at
     exactly {old} w n at = Iff·trans (written-exactly (functionNames is ns text) w n at) (lists-refused is ns text (length old) n at)
 
+faulty : Faulty
+faulty = record {
+  modules = modules-refused;
+  names = names-refused;
+  wide-names = wider-names-refused;
+  metadata = metadata-refused;
+  hints = hints-refused;
+  older-hints = older-hints-refused;
+  lists = all-lists-refused;
+}
+
 pub demand-1 : Demand1
 demand-1 = record {
-  walk = λ m a e. answers-as (walk-fair m) (rw e (count-verdict (sectionCount m))) (walked m e .refusal);
-  section = λ i m a e. answers-as (walk-fair m) (rw e (section-reply (sectionAt i m))) (alike (walked m refl) (section-refused i m a (wmCount (sectionCount m)) e refl));
-  custom = λ x m a e. answers-as (walk-fair m) (rw e (place-reply (customPayload x m))) (alike (walked m refl) (custom-refused x m a (wmCount (sectionCount m)) e refl));
-  names-judge = judges-names knownKind;
-  name = asks-names knownKind;
-  metadata-judge = λ p a e. answers-as (items-fair any-fair 0 p) (rw e (judged-verdict (length p) (verdict (judgeMetadata anyItem 0 p)))) (judged-said (length p) (judgeMetadata anyItem 0 p) e .refusal);
-  metadata = λ f o p a e. answers-as (items-fair any-fair 0 p) (rw e (place-reply (askMetadata anyItem (record { 0 = f }) (record { 0 = o }) 0 p))) (rw e (λ n at. Iff·trans (refused-said (askMetadata anyItem (record { 0 = f }) (record { 0 = o }) 0 p) n at) (any-metadata-answered .refuses (record { 0 = f }, record { 0 = o }) p n at)));
-  hints-judge = λ p a e. answers-as (items-fair hint-fair 0 p) (rw e (judged-verdict (length p) (verdict (judgeMetadata hintItem 0 p)))) (judged-said (length p) (judgeMetadata hintItem 0 p) e .refusal);
-  hint = λ f o p a e. answers-as (items-fair hint-fair 0 p) (rw e (hint-reply (askHint (record { 0 = f }) (record { 0 = o }) 0 p))) (rw e (λ n at. Iff·trans (hint-refused-said (askHint (record { 0 = f }) (record { 0 = o }) 0 p) n at) (all-hints-answered .refuses (record { 0 = f }) (record { 0 = o }) p n at)));
-  name-in = asks-names-in knownKind;
-  metadata-in = λ x f o m a e. answers-through (items-fair (item-of-fair x)) (rw e (place-reply (askMetadataThrough x (record { 0 = f }) (record { 0 = o }) m))) (metadata-in-exactly x (record { 0 = f }) (record { 0 = o }) m a e);
-  hint-in = λ f o m a e. answers-through (items-fair hint-fair) (rw e (hint-reply (askHintThrough (record { 0 = f }) (record { 0 = o }) m))) (hint-in-exactly (record { 0 = f }) (record { 0 = o }) m a e);
-  names-canonical = writes-names knownKind;
+  walk = λ m a h e. answers-otherwise (answers-as (walk-fair m) (rw e (count-verdict (sectionCount m))) (walked m e .refusal)) (module-faults m h);
+  section = λ i m a h e. answers-otherwise (answers-as (walk-fair m) (rw e (section-reply (sectionAt i m))) (alike (walked m refl) (section-refused i m a (wmCount (sectionCount m)) e refl))) (module-faults m h);
+  custom = λ x m a h e. answers-otherwise (answers-as (walk-fair m) (rw e (place-reply (customPayload x m))) (alike (walked m refl) (custom-refused x m a (wmCount (sectionCount m)) e refl))) (module-faults m h);
+  names-judge = judges-names source-ids;
+  name = asks-names source-ids;
+  metadata-judge = λ p a h e. answers-otherwise (answers-as (items-fair any-fair 0 p) (rw e (judged-verdict (length p) (verdict (judgeMetadata anyItem 0 p)))) (judged-said (length p) (judgeMetadata anyItem 0 p) e .refusal)) (any-faults p h);
+  metadata = λ f o p a h e. answers-otherwise (answers-as (items-fair any-fair 0 p) (rw e (place-reply (askMetadata anyItem (record { 0 = f }) (record { 0 = o }) 0 p))) (rw e (λ n at. Iff·trans (refused-said (askMetadata anyItem (record { 0 = f }) (record { 0 = o }) 0 p) n at) (any-metadata-answered .refuses (record { 0 = f }, record { 0 = o }) p n at)))) (any-faults p h);
+  hints-judge = λ p a h e. answers-otherwise (answers-as (items-fair hint-fair 0 p) (rw e (judged-verdict (length p) (verdict (judgeMetadata hintItem 0 p)))) (judged-said (length p) (judgeMetadata hintItem 0 p) e .refusal)) (hint-faults p h);
+  hint = λ f o p a h e. answers-otherwise (answers-as (items-fair hint-fair 0 p) (rw e (hint-reply (askHint (record { 0 = f }) (record { 0 = o }) 0 p))) (rw e (λ n at. Iff·trans (hint-refused-said (askHint (record { 0 = f }) (record { 0 = o }) 0 p) n at) (all-hints-answered .refuses (record { 0 = f }) (record { 0 = o }) p n at)))) (hint-faults p h);
+  name-in = asks-names-in source-ids;
+  metadata-in = λ x f o m a h e. answers-otherwise (answers-through (items-fair (item-of-fair x)) (rw e (place-reply (askMetadataThrough x (record { 0 = f }) (record { 0 = o }) m))) (metadata-in-exactly x (record { 0 = f }) (record { 0 = o }) m a e)) (through-faults (format-faults x) (metadataSection x) m h);
+  hint-in = λ f o m a h e. answers-otherwise (answers-through (items-fair hint-fair) (rw e (hint-reply (askHintThrough (record { 0 = f }) (record { 0 = o }) m))) (hint-in-exactly (record { 0 = f }) (record { 0 = o }) m a e)) (through-faults (λ at. hints-refused at .refused-exactly) hintSection m h);
+  names-canonical = writes-names source-ids;
   metadata-canonical = writes-metadata;
   hints-canonical = writes-hints;
   function-names-write = writes-lists;
+  faults = faulty;
 }
 
 -- Demand 2
@@ -351,10 +382,10 @@ k10 = record {
 
 pub k9 : K9
 k9 = record {
-  names-judge = judges-names widerKind;
-  name = asks-names widerKind;
-  name-in = asks-names-in widerKind;
-  names-canonical = writes-names widerKind;
+  names-judge = judges-names wider-ids;
+  name = asks-names wider-ids;
+  name-in = asks-names-in wider-ids;
+  names-canonical = writes-names wider-ids;
   names-judged = names-judged wider-ids;
   names-whole = λ p a. judged-whole (length p) (verdict (judgeNames widerKind 0 p));
   names = names-answered wider-ids;
@@ -368,12 +399,12 @@ k9 = record {
 }
 
 -- K2
-older-refused-numbered : {p : List ℕ} {room n at : ℕ} → OlderRefused p room n at → Numbered n
-older-refused-numbered {p} {n = n} {at = at} (olderJudged e) = older-fair 0 p .numbered n at e
+older-refused-numbered : {p : List ℕ} {room n at : ℕ} → OlderRefused (RefusedBy (judgeOlder 0 p)) p room n at → Numbered n
+older-refused-numbered {p} {n = n} {at = at} (olderFault e) = older-fair 0 p .numbered n at e
 older-refused-numbered (olderTooLong e long) = refl
 older-refused-numbered (olderTooShort e small short) = refl
 
-writes-older : (p : List ℕ) → Writing (OlderRefused p) (wm-old-hints-canonical p)
+writes-older : (p : List ℕ) → Writing (OlderRefused (RefusedBy (judgeOlder 0 p)) p) (wm-old-hints-canonical p)
 writes-older p = record {
   answers = λ old new a w. record {
     answers = written-verdict (canonicalOlder p) old new a w;
@@ -384,7 +415,7 @@ writes-older p = record {
   needs-room = needs-room (canonicalOlder p);
 }
   where
-    exactly : {old new : List ℕ} {a : WmAnswer} → WmWrites (canonicalOlder p) old new a → (n at : ℕ) → (a ≡ wmRefused n at) ↔ OlderRefused p (length old) n at
+    exactly : {old new : List ℕ} {a : WmAnswer} → WmWrites (canonicalOlder p) old new a → (n at : ℕ) → (a ≡ wmRefused n at) ↔ OlderRefused (RefusedBy (judgeOlder 0 p)) p (length old) n at
     exactly {old} w n at = Iff·trans (written-exactly (canonicalOlder p) w n at) (older-refused p (length old) n at)
 
 older-answered : AnswersOlder
@@ -398,11 +429,11 @@ older-answered = record {
 pub k2 : K2
 unfolding askOlder olderIsCanonical
 k2 = record {
-  judge = λ p a e. answers-as (older-fair 0 p) (rw e (judged-verdict (length p) (verdict (judgeOlder 0 p)))) (judged-said (length p) (judgeOlder 0 p) e .refusal);
+  judge = λ p a h e. answers-otherwise (answers-as (older-fair 0 p) (rw e (judged-verdict (length p) (verdict (judgeOlder 0 p)))) (judged-said (length p) (judgeOlder 0 p) e .refusal)) (faults (older-hints-refused 0) p h);
   numbered = λ p a e n at is. older-fair-by 0 p .numbered n at (judged-said (length p) (judgeOlder 0 p) e .refusal n at .0 is);
-  hint = λ f o p a e. answers-as (older-fair 0 p) (rw e (hint-reply (askOlder (record { 0 = f }) (record { 0 = o }) 0 p))) (rw e (λ n at. Iff·trans (hint-refused-said (askOlder (record { 0 = f }) (record { 0 = o }) 0 p) n at) (refused-exactly (firstIn f o) (judgeOlder 0 p))));
-  hint-in = λ f o m a e. answers-through older-fair (rw e (hint-reply (askOlderThrough (record { 0 = f }) (record { 0 = o }) m))) (older-in-exactly (record { 0 = f }) (record { 0 = o }) m a e);
-  canonical = writes-older;
+  hint = λ f o p a h e. answers-otherwise (answers-as (older-fair 0 p) (rw e (hint-reply (askOlder (record { 0 = f }) (record { 0 = o }) 0 p))) (rw e (λ n at. Iff·trans (hint-refused-said (askOlder (record { 0 = f }) (record { 0 = o }) 0 p) n at) (refused-exactly (firstIn f o) (judgeOlder 0 p))))) (faults (older-hints-refused 0) p h);
+  hint-in = λ f o m a h e. answers-otherwise (answers-through older-fair (rw e (hint-reply (askOlderThrough (record { 0 = f }) (record { 0 = o }) m))) (older-in-exactly (record { 0 = f }) (record { 0 = o }) m a e)) (through-faults (λ at. older-hints-refused at .refused-exactly) olderHintSection m h);
+  canonical = λ p h. writes-otherwise (writes-older p) (older-or-short p (faults (older-hints-refused 0) p h));
   judged = judges (judgeOlder 0) (λ es. es) wm-old-hints-judge (older-exact 0) (λ p a e. judged-said (length p) (judgeOlder 0 p) e);
   whole = λ p a. judged-whole (length p) (verdict (judgeOlder 0 p));
   hints = older-answered;
@@ -436,7 +467,7 @@ branches-said m a e j = (λ is. sym (verdict-said (length m) (hintsOnBranches m)
 
 pub k6 : K6
 k6 = record {
-  judge = λ m a e. answers-as (branches-fair m) (rw e (judged-verdict (length m) (hintsOnBranches m))) (λ n at. branches-said m a e (refused n at));
+  judge = λ m a h e. answers-otherwise (answers-as (branches-fair m) (rw e (judged-verdict (length m) (hintsOnBranches m))) (λ n at. branches-said m a e (refused n at))) (module-refused-exactly m h);
   accepts = λ m a e. branches-said m a e (accepted tt);
   without-hints = without-hints;
   exactly = λ m b first parts fs. module-exactly m b;

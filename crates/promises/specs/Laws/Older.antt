@@ -30,9 +30,9 @@ use Rattle.grammar.specs.Laws.Older.{older-complete}
 use Rattle.grammar.specs.Older.{OlderHints}
 use Rattle.wakemiono.specs.Boundary.{wmRefused, wmHint, WmWrites}
 use Rattle.wakemiono.specs.declared.WmAnswer.{WmAnswer}
-use Rattle.promises.specs.Demands.{ofFunction, inFile, FirstHint, functionsOf, offsetsOf, InOrder, RefusedOrShort, asJudged, tooShort, OlderRefused, olderJudged, olderTooLong, olderTooShort}
-use Rattle.promises.specs.Laws.Exactly.{as-refused, as-short, written-exactly}
-use Rattle.promises.specs.Laws.Lists.{rising-of}
+use Rattle.promises.specs.Demands.{ofFunction, inFile, FirstHint, functionsOf, offsetsOf, InOrder, byAFault, tooShort, OlderRefused, olderFault, olderTooLong, olderTooShort}
+use Rattle.promises.specs.Laws.Exactly.{RefusedBy, JudgedOrShort, as-refused, as-short, written-exactly}
+use Rattle.grammar.specs.Laws.Faults.Writing.{rising-of}
 use Rattle.promises.specs.Laws.Outputs.{wrote, wrote-first}
 use Rattle.promises.specs.Laws.Refusing.{older-not-15}
 use Rattle.promises.specs.Laws.Saying.{Verdict, unlikely-said, likely-said, no-hint-said, hint-refused-said}
@@ -140,27 +140,27 @@ sections-apart e = let long : _≡_ {A = ℕ} 11 25 = ap length e in omega (arit
 
 -- THE REWRITING is refused as the payload is judged, then by 15, then by 13
 module _ (p : List ℕ) (room : ℕ) where
-  from-older : (j : Judged (List OlderEntry)) → judgeOlder 0 p ≡ j → (n at : ℕ) → RefusedOrShort (judgedThen j (λ es. notTooLong (writeOlder (sortedFrom nil es)))) length room n at → OlderRefused p room n at
+  from-older : (j : Judged (List OlderEntry)) → judgeOlder 0 p ≡ j → (n at : ℕ) → JudgedOrShort (judgedThen j (λ es. notTooLong (writeOlder (sortedFrom nil es)))) length room n at → OlderRefused (RefusedBy (judgeOlder 0 p)) p room n at
   unfolding notTooLong
   from-older (accepted es) is n at r =
       byTest (leb (length (writeOlder (sortedFrom nil es))) 4_294_967_295)
-      (λ t. as-short refl (rw t at r) (λ n at. OlderRefused p room n at) (λ short. olderTooShort is (leb-true (length (writeOlder (sortedFrom nil es))) 4_294_967_295 t) short))
-      (λ t. as-refused refl (rw t at r) (λ n at. OlderRefused p room n at) (olderTooLong is (leb-false (length (writeOlder (sortedFrom nil es))) 4_294_967_295 t)))
-  from-older (refused m o) is n at r = as-refused refl r (λ n at. OlderRefused p room n at) (olderJudged is)
+      (λ t. as-short refl (rw t at r) (λ n at. OlderRefused (RefusedBy (judgeOlder 0 p)) p room n at) (λ short. olderTooShort is (leb-true (length (writeOlder (sortedFrom nil es))) 4_294_967_295 t) short))
+      (λ t. as-refused refl (rw t at r) (λ n at. OlderRefused (RefusedBy (judgeOlder 0 p)) p room n at) (olderTooLong is (leb-false (length (writeOlder (sortedFrom nil es))) 4_294_967_295 t)))
+  from-older (refused m o) is n at r = as-refused refl r (λ n at. OlderRefused (RefusedBy (judgeOlder 0 p)) p room n at) (olderFault is)
 
-  to-older : {n at : ℕ} → OlderRefused p room n at → RefusedOrShort (canonicalOlder p) length room n at
+  to-older : {n at : ℕ} → OlderRefused (RefusedBy (judgeOlder 0 p)) p room n at → JudgedOrShort (canonicalOlder p) length room n at
   unfolding canonicalOlder notTooLong
-  to-older (olderJudged {number} {offset} e) = asJudged {number = number} {offset = offset} (rw e)
-  to-older (olderTooLong {es} e long) = asJudged {number = 15} {offset = 0} (rw (e, lt-leb (length (writeOlder (sortedFrom nil es))) 4_294_967_295 long))
+  to-older (olderFault {number} {offset} e) = byAFault {number = number} {offset = offset} (rw e)
+  to-older (olderTooLong {es} e long) = byAFault {number = 15} {offset = 0} (rw (e, lt-leb (length (writeOlder (sortedFrom nil es))) 4_294_967_295 long))
   to-older (olderTooShort {es} e small short) = tooShort {v = writeOlder (sortedFrom nil es)} (rw (e, le-leb (length (writeOlder (sortedFrom nil es))) 4_294_967_295 small)) short
 
-  pub older-refused : (n at : ℕ) → RefusedOrShort (canonicalOlder p) length room n at ↔ OlderRefused p room n at
+  pub older-refused : (n at : ℕ) → JudgedOrShort (canonicalOlder p) length room n at ↔ OlderRefused (RefusedBy (judgeOlder 0 p)) p room n at
   unfolding canonicalOlder
   older-refused n at = (from-older (judgeOlder 0 p) refl n at, λ r. to-older r)
 
 -- 15 is no number of the judgement or of the output, and what is written is no longer than the payload
-not-15 : {p : List ℕ} {room n at : ℕ} → length p < 4_294_967_296 → OlderRefused p room n at → n ≡ 15 → ⊥
-not-15 {p} {at = at} small (olderJudged e) is = older-not-15 0 p (rw is at e)
+not-15 : {p : List ℕ} {room n at : ℕ} → length p < 4_294_967_296 → OlderRefused (RefusedBy (judgeOlder 0 p)) p room n at → n ≡ 15 → ⊥
+not-15 {p} {at = at} small (olderFault e) is = older-not-15 0 p (rw is at e)
 not-15 {p} small (olderTooLong {es} e long) is = omega (arith, order-shorter (record { value = es; judged = e }), long, small)
 not-15 small (olderTooShort e fits short) is = omega (arith, is)
 
