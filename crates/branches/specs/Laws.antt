@@ -4,3 +4,4 @@ pub mod Exactly
 pub mod Seats
 pub mod Deciding
 pub mod Hints
+pub mod Faults

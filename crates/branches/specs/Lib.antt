@@ -10,6 +10,7 @@ pub mod Seats
 pub mod Sitting
 pub mod Functions
 pub mod Grammar
+pub mod Faults
 pub mod Rule
 pub mod Laws
 pub mod Theorems

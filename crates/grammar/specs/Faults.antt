@@ -1,6 +1,7 @@
 pub mod Numbers
 pub mod Parts
 pub mod Lists
+pub mod Sequences
 pub mod Names
 pub mod Metadata
 pub mod Older

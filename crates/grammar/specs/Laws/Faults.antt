@@ -2,6 +2,7 @@ pub mod Stops
 pub mod Numbers
 pub mod Parts
 pub mod Lists
+pub mod Sequences
 pub mod Names
 pub mod Metadata
 pub mod Older

@@ -1,7 +1,7 @@
 -- K2: the reader of the older edition of hints is exact.
 use Prim.Native.Nat.{ℕ, zero, suc, _+_}
 use mathlib.Core.Bool.{true}
-use mathlib.Core.List.{List, [], _∷_, _++_, append-assoc}
+use mathlib.Core.List.{List, [], _∷_, _++_, map, append-assoc}
 use mathlib.Core.Path.{_≡_, refl, sym, ap, ap₂, _∙_}
 use native.Mathlib.Omega.{arith}
 use borrow.Author.Tests.{eqb-true, leb-true}
@@ -21,8 +21,8 @@ use Rattle.grammar.specs.Laws.Exact.{Stretch, left-bytes, Accepts, Exact
 use Rattle.grammar.specs.Laws.Numbers.{number-sound, number-complete}
 
 -- a list in any order
-module _ {A : Type 0} {read : Reader A} {grammar : Grammar A} (exact : Exact read (λ x. x) grammar) where
-  times-sound : (n o : ℕ) (bs : List ℕ) {vs : List A} {o′ : ℕ} {rest : List ℕ} → Bytes bs → times read n o bs ≡ got vs o′ rest → Stretch (Times grammar n) vs rest bs
+module _ {A B : Type 0} {read : Reader A} {plain : A → B} {grammar : Grammar B} (exact : Exact read plain grammar) where
+  times-sound : (n o : ℕ) (bs : List ℕ) {vs : List A} {o′ : ℕ} {rest : List ℕ} → Bytes bs → times read n o bs ≡ got vs o′ rest → Stretch (Times grammar n) (map plain vs) rest bs
   unfolding times
   times-sound zero o bs h e = rw (← got-value e, ← got-rest e) (record { front = []; is = refl; means = noMore })
   times-sound (suc n) o bs h e =
@@ -35,7 +35,7 @@ module _ {A : Type 0} {read : Reader A} {grammar : Grammar A} (exact : Exact rea
         means = oneMore (one .means) (more .means);
       })
 
-  times-complete : {n : ℕ} {bs : List ℕ} {vs : List A} → Times grammar n bs vs → (o : ℕ) (rest : List ℕ) → Accepts (times read n) (λ x. x) bs vs o rest
+  times-complete : {n : ℕ} {bs : List ℕ} {vs : List B} → Times grammar n bs vs → (o : ℕ) (rest : List ℕ) → Accepts (times read n) (map plain) bs vs o rest
   unfolding times
   times-complete noMore o rest = record { value = []; next = o; reads = refl; same = refl }
   times-complete (oneMore {first = a} {others = b} g m) o rest =
@@ -48,9 +48,9 @@ module _ {A : Type 0} {read : Reader A} {grammar : Grammar A} (exact : Exact rea
         same = ap₂ _∷_ (one .same) (more .same);
       }
 
-  pub vector-exact : Exact (vector read) (λ x. x) (Vector grammar)
+  pub vectors-exact : Exact (vector read) (map plain) (Vector grammar)
   unfolding vector
-  vector-exact = record {
+  vectors-exact = record {
     sound = λ o bs h e. inTurn (number o bs) _ e λ n o₁ r₁ e₁ e₂.
         let count = number-sound o bs h e₁ in
         let more = times-sound n o₁ r₁ (left-bytes count h) e₂ in
@@ -62,10 +62,21 @@ module _ {A : Type 0} {read : Reader A} {grammar : Grammar A} (exact : Exact rea
     complete = up;
   }
     where
-      up : {bs : List ℕ} {vs : List A} → Vector grammar bs vs → (o : ℕ) (rest : List ℕ) → Accepts (vector read) (λ x. x) bs vs o rest
+      up : {bs : List ℕ} {vs : List B} → Vector grammar bs vs → (o : ℕ) (rest : List ℕ) → Accepts (vector read) (map plain) bs vs o rest
       up (aVector {count = a} {entries = b} u m) o rest =
           let more = times-complete m (o + length a) rest in
           record { value = more .value; next = more .next; reads = rw (append-assoc a b rest, number-complete u o (b ++ rest), more .reads); same = more .same }
+
+-- whose values are what they mean
+map-same : {A : Type 0} (vs : List A) → map (λ x. x) vs ≡ vs
+map-same [] = refl
+map-same (v ∷ vs) = ap (λ x. v ∷ x) (map-same vs)
+
+pub vector-exact : {A : Type 0} {read : Reader A} {grammar : Grammar A} → Exact read (λ x. x) grammar → Exact (vector read) (λ x. x) (Vector grammar)
+vector-exact exact = record {
+  sound = λ o bs {v} {o′} {rest} h e. let s = vectors-exact exact .sound o bs h e in record { front = s .front; is = s .is; means = rw (map-same v) at (s .means) };
+  complete = λ g o rest. let a = vectors-exact exact .complete g o rest in record { value = a .value; next = a .next; reads = a .reads; same = sym (map-same (a .value)) ∙ a .same };
+}
 
 -- a kind
 kind-means : (k : ℕ) {rest bs : List ℕ} → leb k 1 ≡ true → Stretch U32 k rest bs → Stretch OlderKind (kindNumbered k) rest bs

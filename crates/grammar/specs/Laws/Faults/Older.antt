@@ -1,6 +1,6 @@
 -- K2: the reader of the older edition of hints stops exactly at their faults.
 use Prim.Native.Nat.{ℕ, zero, suc, _+_}
-use mathlib.Core.List.{List, [], _∷_, _++_, append-nil}
+use mathlib.Core.List.{List, [], _∷_, _++_, map, append-nil}
 use mathlib.Core.Path.{_≡_, refl, sym, ap, _∙_}
 use native.Mathlib.Omega.{arith}
 use borrow.Author.Tests.{leb-false, lt-leb, eqb-false, ne-eqb}
@@ -18,13 +18,13 @@ use Rattle.grammar.specs.Numbers.{Grammar}
 use Rattle.grammar.specs.Older.{Vector, OlderKind, OlderBranchHint, FunctionBranchHints}
 use Rattle.grammar.specs.Faults.Numbers.{Faults}
 use Rattle.grammar.specs.Faults.Older.{TimesFault, inTheNext, furtherOn, VectorFault, inTheCount, inTheEntries, OlderKindFault, inTheNumber, kindAbove, OlderHintFault, inTheKind, inTheOffset, OlderFunctionFault, inTheFunction, missing, notZero, inTheHints, OlderFault}
-use Rattle.grammar.specs.Laws.Older.{vector-exact, kind-exact, hint-exact, entry-exact, zero-read}
+use Rattle.grammar.specs.Laws.Older.{vectors-exact, vector-exact, kind-exact, hint-exact, entry-exact, zero-read}
 use Rattle.grammar.specs.Laws.Faults.Stops.{stop-number, stop-place, stopsIn, stopsFirst, stopsAtCheck, Found, Stops, Reads, went, goes}
 use Rattle.grammar.specs.Laws.Faults.Numbers.{number-reads}
 use Rattle.grammar.specs.Laws.Faults.Parts.{filling-faults}
 
 -- a list in any order
-module _ {A : Type 0} {read : Reader A} {grammar : Grammar A} {F : Faults} (r : Reads read (λ x. x) grammar F) where
+module _ {A B : Type 0} {read : Reader A} {plain : A → B} {grammar : Grammar B} {F : Faults} (r : Reads read plain grammar F) where
   times-passes : (end n : ℕ) → Passes (Reaches end) (times read n)
   unfolding times
   times-passes end zero o bs v o′ rest h e = rw (← got-next e, ← got-rest e) h
@@ -68,13 +68,16 @@ module _ {A : Type 0} {read : Reader A} {grammar : Grammar A} {F : Faults} (r : 
       let a = goes number-reads u o rest in
       rw (a .reads, a .same, times-stop f (o + length count)) (ap (stop m) (omega arith))
 
-  pub vector-reads : Reads (vector read) (λ x. x) (Vector grammar) (VectorFault grammar F)
+  vector-passes : (end : ℕ) → Passes (Reaches end) (vector read)
   unfolding vector
-  vector-reads = record {
-    exact = vector-exact (r .exact);
-    passes = λ end o bs v o′ rest h e. inTurn (number o bs) _ e λ n o₁ r₁ e₁ e₂. times-passes end n o₁ r₁ v o′ rest (number-reads .passes end o bs n o₁ r₁ h e₁) e₂;
-    faults = record { found = vector-stopped; stops = vector-stops };
-  }
+  vector-passes end o bs v o′ rest h e = inTurn (number o bs) _ e λ n o₁ r₁ e₁ e₂. times-passes end n o₁ r₁ v o′ rest (number-reads .passes end o bs n o₁ r₁ h e₁) e₂
+
+  pub vectors-read : Reads (vector read) (map plain) (Vector grammar) (VectorFault grammar F)
+  vectors-read = record { exact = vectors-exact (r .exact); passes = vector-passes; faults = record { found = vector-stopped; stops = vector-stops } }
+
+-- whose values are what they mean
+pub vector-reads : {A : Type 0} {read : Reader A} {grammar : Grammar A} {F : Faults} → Reads read (λ x. x) grammar F → Reads (vector read) (λ x. x) (Vector grammar) (VectorFault grammar F)
+vector-reads r = let all = vectors-read r in record { exact = vector-exact (r .exact); passes = all .passes; faults = all .faults }
 
 -- a kind
 kind-stopped : (o : ℕ) (bs : List ℕ) {m k : ℕ} → Bytes bs → olderKind o bs ≡ stop m k → Found OlderKindFault bs o m k
