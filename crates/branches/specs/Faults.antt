@@ -1,6 +1,5 @@
 -- K6. The import list and the list of bodies (core specification 1.0, 5.5.5 Import Section and 5.5.13 Code Section), by their grammar, and their faults: "faults in the import list, then in the list of sized bodies, as 2, 3, 4 and 10, with 29 for an import kind above 3 or a limits flag above 1, at that byte (a missing byte is 2 at its place; other type bytes go unchecked)". Assumes nothing.
 use Prim.Native.Nat.{ℕ, zero, suc}
-use mathlib.Core.List.{List}
 use Rattle.grammar.specs.Numbers.{Grammar, U32}
 use Rattle.grammar.specs.Lists.{Sized}
 use Rattle.grammar.specs.Names.{Name}

@@ -1,17 +1,21 @@
 -- K6. The rule of hints on branches once more, by the grammar and without a step: what is true of a place in a body, which hint is refused, and how. Assumes nothing.
-use Prim.Native.Nat.{ℕ, _<_}
+use Prim.Native.Nat.{ℕ, _+_, _<_}
 use mathlib.Core.Bool.{true, false}
 use mathlib.Core.List.{List, _∷_, _++_}
 use mathlib.Core.Option.{none, some}
 use mathlib.Core.Path.{_≡_}
 use Rattle.format.specs.Metadata.{hintItem, judgeMetadata}
 use Rattle.format.specs.Parts.{Part}
-use Rattle.format.specs.Reading.{accepted, refused, judge}
+use Rattle.format.specs.Reading.{accepted, judge}
 use Rattle.format.specs.Tables.{Table}
-use Rattle.format.specs.Walk.{hintSection, customPayload, walk}
+use Rattle.format.specs.Walk.{hintSection, customPayload}
+use Rattle.grammar.specs.Metadata.{BranchHint}
 use Rattle.grammar.specs.Modules.{Among}
+use Rattle.grammar.specs.Faults.Metadata.{HintFault, MetadataFault}
+use Rattle.grammar.specs.Faults.Modules.{ModuleFault}
 use Rattle.branches.specs.Bodies.{bodyOf, isBranch}
-use Rattle.branches.specs.Branches.{importedFunctions, functionBodies}
+use Rattle.branches.specs.Branches.{contentsOf, importedFunctions, functionBodies}
+use Rattle.branches.specs.Faults.{ImportsFault, BodiesFault}
 use Rattle.branches.specs.Grammar.{Instruction, Locals, Begins}
 use Rattle.branches.specs.Hints.{Placed, Hints, allHints}
 
@@ -80,10 +84,10 @@ pub record Hinted (m : List ℕ) (first : ℕ) (parts : List Part) (fs : List (P
   pub listed : functionBodies m ≡ accepted parts
   pub placed : judge (allHints (has-hints .payload .at) (has-hints .payload .bytes)) ≡ accepted fs
 
--- "Refusals, after all of document 01's for module and payload: faults in the import list, then in the list of sized bodies ..; then per hint"
-pub data ModuleRefused (m : List ℕ) (number offset : ℕ) : Type 0 where
-  byTheWalk : walk m ≡ refused number offset → ModuleRefused m number offset
-  byThePayload : {p : Part} → customPayload hintSection m ≡ accepted (some p) → judgeMetadata hintItem (p .at) (p .bytes) ≡ refused number offset → ModuleRefused m number offset
-  byTheImports : HasHints m → importedFunctions m ≡ refused number offset → ModuleRefused m number offset
-  byTheBodies : {first : ℕ} → HasHints m → importedFunctions m ≡ accepted first → functionBodies m ≡ refused number offset → ModuleRefused m number offset
-  byAHint : {first : ℕ} {parts : List Part} {fs : List (Placed Hints)} → Hinted m first parts fs → FirstOfAll first parts fs number offset → ModuleRefused m number offset
+-- The module's faults, and those of the payload, of the import section and of the code section where they lie. "Refusals, after all of document 01's for module and payload: faults in the import list, then in the list of sized bodies ..; then per hint"
+pub data ModuleRefused (m : List ℕ) : (number offset : ℕ) → Type 0 where
+  byTheWalk : {number offset : ℕ} → ModuleFault m number offset → ModuleRefused m number offset
+  byThePayload : {p : Part} {number place : ℕ} → customPayload hintSection m ≡ accepted (some p) → MetadataFault BranchHint HintFault (p .bytes) number place → ModuleRefused m number (p .at + place)
+  byTheImports : {p : Part} {number place : ℕ} → HasHints m → contentsOf 2 m ≡ accepted (some p) → ImportsFault (p .bytes) number place → ModuleRefused m number (p .at + place)
+  byTheBodies : {first : ℕ} {p : Part} {number place : ℕ} → HasHints m → importedFunctions m ≡ accepted first → contentsOf 10 m ≡ accepted (some p) → BodiesFault (p .bytes) number place → ModuleRefused m number (p .at + place)
+  byAHint : {first : ℕ} {parts : List Part} {fs : List (Placed Hints)} {number offset : ℕ} → Hinted m first parts fs → FirstOfAll first parts fs number offset → ModuleRefused m number offset

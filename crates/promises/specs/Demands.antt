@@ -155,10 +155,12 @@ pub data HintReply : WmAnswer → Type 0 where
 -- 15 | subsection would exceed 4,294,967,295 bytes | 0: `subsectionTooLarge` in Writing; `olderTooLong` of K2, `joinTooLarge` of K3, `payloadTooLong` of K8
 -- 17 | the byte behind a function of the older hints is not zero | that byte: `notZero` in Older
 -- 18 | a part or a finish after the finish | 0: `part-late` and `finish-late` of K5
--- 19, 20, 21 | no body for a hinted function | the function index; not readable before a hinted place, else not on a branch | the hint's offset number: `HintRefused` in crates/branches/specs/Rule.antt
+-- 19 | no body for a hinted function | the function index: `noBody` in crates/branches/specs/Rule.antt
+-- 20 | locals, or an instruction before a hinted place, not readable by version 1.0 | the hint's offset number: `cannotBeRead` there
+-- 21 | a hint not on a branch | the hint's offset number: `notOnABranch` there
 -- 22 | markers that are none | the shorter list's length, the lists' length, or the first such position: `Follows` in crates/format/specs/MarkerRule.antt
 -- 28 | a part that takes the total above 18,446,744,073,709,551,615 bytes | 0: `too-large` of K5
--- 29 | an import kind above 3, or a limits flag above 1 | that byte: `imports-numbered` of K6
+-- 29 | an import kind above 3, or a limits flag above 1 | that byte: `ImportKindFault` and `LimitsFault` in crates/branches/specs/Faults.antt
 abbrev pub numbers : List ℕ
 numbers = 1 ∷ 2 ∷ 3 ∷ 4 ∷ 5 ∷ 6 ∷ 7 ∷ 8 ∷ 9 ∷ 10 ∷ 11 ∷ 12 ∷ 13 ∷ 14 ∷ 15 ∷ 17 ∷ 18 ∷ 19 ∷ 20 ∷ 21 ∷ 22 ∷ 28 ∷ 29 ∷ []
 

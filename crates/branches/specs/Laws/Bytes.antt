@@ -10,8 +10,8 @@ use Rattle.format.specs.Numbers.{number}
 use Rattle.format.specs.Older.{times, vector}
 use Rattle.format.specs.Parts.{Part, sized}
 use Rattle.format.specs.Reading.{got, accepted}
-use Rattle.format.specs.Walk.{Section, walk}
-use Rattle.format.specs.Laws.Found.{SectionIn, Each, noMore, oneMore, walk-in}
+use Rattle.format.specs.Walk.{Section, walk, customPayload}
+use Rattle.format.specs.Laws.Found.{SectionIn, Each, noMore, oneMore, walk-in, payload-lies}
 use Rattle.format.specs.Laws.Options.{not-some, some-is}
 use Rattle.format.specs.Laws.Outcomes.{got-value, accepted-is, byTest, inTurn, ended, judged, mapped, followed}
 use Rattle.format.specs.Laws.Passing.{number-passes}
@@ -58,3 +58,11 @@ body-bytes m {parts} first h e f body is =
     byTest (ltb f first)
     (λ t. absurd (not-some (rw t at is)))
     (λ t. lies-bytes (at-position all (f - first) (rw t at is)) h)
+
+-- the contents of a section, and a payload
+pub contents-bytes : (m : List ℕ) (id : ℕ) {p : Part} → Bytes m → contentsOf id m ≡ accepted (some p) → Bytes (p .bytes)
+unfolding contentsOf
+contents-bytes m id h e = mapped (contentsIn id) (walk m) e λ ss e₁ e₂. lies-bytes (contents-in id (walk-in m e₁) e₂) h
+
+pub payload-bytes : (x m : List ℕ) {p : Part} → Bytes m → customPayload x m ≡ accepted (some p) → Bytes (p .bytes)
+payload-bytes x m h e = lies-bytes (payload-lies x m e) h

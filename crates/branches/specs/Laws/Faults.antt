@@ -1,24 +1,21 @@
 -- K6. The readers of the import list and of the list of bodies stop exactly at their faults.
 use Prim.Native.Nat.{ℕ, zero, suc, _+_}
-use mathlib.Core.Bool.{true, false}
-use mathlib.Core.List.{List, [], _∷_, _++_}
+use mathlib.Core.List.{List, [], _∷_}
 use mathlib.Core.Logic.{_↔_}
-use mathlib.Core.Path.{_≡_, refl, sym, ap, _∙_}
+use mathlib.Core.Path.{_≡_, refl, sym, ap}
 use native.Mathlib.Omega.{arith}
 use borrow.Author.Tests.{leb-true, leb-false, le-leb, lt-leb}
 use lib.Dec.{leb}
-use lib.ListN.{length}
 use Rattle.format.specs.Bytes.{Bytes}
 use Rattle.format.specs.Reading.{Outcome, got, stop, Reader, andThen, _>>_, return, checked, atEnd, filling, judge, refused}
 use Rattle.format.specs.Numbers.{number}
 use Rattle.format.specs.Older.{times, vector}
-use Rattle.format.specs.Parts.{name, sized}
 use Rattle.format.specs.Laws.Outcomes.{not-got, got-value, got-next, got-rest, byTest, byOutcome}
 use Rattle.format.specs.Laws.Passing.{Passes, Reaches}
 use Rattle.format.specs.declared.Reason.the-variants.{NotImport}
 use Rattle.grammar.specs.Numbers.{U32}
 use Rattle.grammar.specs.Names.{Name}
-use Rattle.grammar.specs.Faults.Numbers.{Faults, NumberFault}
+use Rattle.grammar.specs.Faults.Numbers.{NumberFault}
 use Rattle.grammar.specs.Faults.Parts.{NameFault}
 use Rattle.grammar.specs.Faults.Sequences.{Then, ThenFault, AnyByte, aByte, ByteFault, noByte, ByteUpTo, upTo, UpToFault, noByteUpTo, above}
 use Rattle.grammar.specs.Laws.Exact.{Stretch, Accepts}
@@ -27,7 +24,7 @@ use Rattle.grammar.specs.Laws.Faults.Numbers.{number-reads}
 use Rattle.grammar.specs.Laws.Faults.Parts.{sized-reads, name-reads, filling-faults}
 use Rattle.grammar.specs.Laws.Faults.Older.{vectors-read, vector-reads}
 use Rattle.grammar.specs.Laws.Faults.Sequences.{then-reads, reads-as}
-use Rattle.grammar.specs.Laws.Faults.Judgements.{Judges, judged-by, refuses-exactly}
+use Rattle.grammar.specs.Laws.Faults.Judgements.{judged-by, refuses-exactly}
 use Rattle.branches.specs.Bodies.{bodies}
 use Rattle.branches.specs.Faults.{Bounds, BoundsFault, Limits, LimitsFault, Description, DescriptionFault, ImportKind, ImportKindFault, Import, ImportFault, ImportsFault, BodiesFault}
 use Rattle.branches.specs.Imports.{byte, bounds, limits, tableType, globalType, description, kindByte, importKind, importEntry, functionsIn, importEntries, importList, imports}

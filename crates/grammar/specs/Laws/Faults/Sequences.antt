@@ -1,17 +1,17 @@
 -- Readers one behind the other, by their grammars and their faults.
 use Prim.Native.Nat.{ℕ, _+_}
-use mathlib.Core.List.{List, [], _∷_, _++_, append-assoc}
-use mathlib.Core.Path.{_≡_, refl, sym, ap, _∙_}
+use mathlib.Core.List.{List, _++_, append-assoc}
+use mathlib.Core.Path.{_≡_, sym, ap, _∙_}
 use native.Mathlib.Omega.{arith}
 use lib.ListN.{length}
 use Rattle.format.specs.Bytes.{Bytes}
-use Rattle.format.specs.Reading.{got, stop, Reader, andThen, return}
-use Rattle.format.specs.Laws.Outcomes.{got-value, got-next, got-rest, inTurn}
+use Rattle.format.specs.Reading.{got, stop, Reader, andThen}
+use Rattle.format.specs.Laws.Outcomes.{inTurn}
 use Rattle.grammar.specs.Numbers.{Grammar}
 use Rattle.grammar.specs.Faults.Numbers.{Faults}
 use Rattle.grammar.specs.Faults.Sequences.{Then, then, ThenFault, inTheFirst, behindIt}
-use Rattle.grammar.specs.Laws.Exact.{Stretch, left-bytes, Accepts, Exact}
-use Rattle.grammar.specs.Laws.Faults.Stops.{stopsIn, stopsFirst, Found, Reads, went, goes}
+use Rattle.grammar.specs.Laws.Exact.{Stretch, left-bytes, Accepts}
+use Rattle.grammar.specs.Laws.Faults.Stops.{stopsIn, Found, Reads, went, goes}
 
 module _ {A₁ A₂ B₁ B₂ : Type 0} {first : Reader A₁} {plain₁ : A₁ → B₁} {G₁ : Grammar B₁} {F₁ : Faults} (r₁ : Reads first plain₁ G₁ F₁)
     {next : A₁ → Reader A₂} {plain₂ : A₂ → B₂} (G₂ : B₁ → Grammar B₂) (F₂ : B₁ → Faults) (r₂ : (v : A₁) → Reads (next v) plain₂ (G₂ (plain₁ v)) (F₂ (plain₁ v))) where
