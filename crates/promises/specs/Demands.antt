@@ -684,9 +684,9 @@ pub data MarkersReply : WmAnswer → Type 0 where
   markersMade : (end markers : ℕ) → MarkersReply (wmFound 0 end markers)
   markersRefused : (number offset : ℕ) → MarkersReply (wmRefused number offset)
 
--- Which payload it refuses, and how, into lists of so many numbers: as it is judged; then 15; then 13, with the number of markers, where one of the lists is shorter than that
+-- Which payload it refuses, and how, into lists of so many numbers: at its fault; then 15; then 13, with the number of markers, where one of the lists is shorter than that
 pub data MarkersRefused (p : List ℕ) (indices offsets : ℕ) : (number offset : ℕ) → Type 0 where
-  payloadRefused : {number offset : ℕ} → judgeNames knownKind 0 p ≡ refused number offset → MarkersRefused p indices offsets number offset
+  payloadRefused : {number offset : ℕ} → NamePayloadFault SourceIds p number offset → MarkersRefused p indices offsets number offset
   payloadTooLong : {entries : List ℕ} {n first end : ℕ} → FunctionNames p entries n first end → 4_294_967_295 < length p → MarkersRefused p indices offsets 15 0
   fewIndices : {entries : List ℕ} {n first end : ℕ} → FunctionNames p entries n first end → length p ≤ 4_294_967_295 → indices < sixteenths n → MarkersRefused p indices offsets 13 (sixteenths n)
   fewOffsets : {entries : List ℕ} {n first end : ℕ} → FunctionNames p entries n first end → length p ≤ 4_294_967_295 → offsets < sixteenths n → MarkersRefused p indices offsets 13 (sixteenths n)

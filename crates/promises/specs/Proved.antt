@@ -486,7 +486,7 @@ pub k8 : K8
 k8 = record {
   markers = λ p is os is′ os′ a b w.
       let exactly = markers-refused p is os b (w .says) in
-      record { answers = rw (w .says) (made-reply (made p is os)); refuses = exactly; numbered = λ n at e. markers-numbered (exactly n at .0 e) };
+      record { answers = rw (w .says) (made-reply (made p is os)); refuses = exactly; numbered = λ n at e. markers-numbered b (exactly n at .0 e) };
   quick = λ p is os end f a e. rw e (record {
     answers = place-reply (quick p is os end (record { 0 = f }));
     refuses = quick-refused p is os end f;

@@ -26,6 +26,8 @@ use Rattle.format.specs.declared.Question.the-variants.{FunctionName}
 use Rattle.grammar.specs.Laws.Names.{source-ids, names-sound}
 use Rattle.wakemiono.specs.Boundary.{wmFound, wmRefused, wmPlace, WmMakes}
 use Rattle.wakemiono.specs.declared.WmAnswer.{WmAnswer}
+use Rattle.grammar.specs.Refusing.{names-refused}
+use Rattle.promises.specs.Laws.Faults.{faults}
 use Rattle.promises.specs.Demands.{Leaves, FunctionNames, sixteenths, Marked, MarkersReply, markersMade, markersRefused, MarkersRefused, payloadRefused, payloadTooLong, fewIndices, fewOffsets}
 use Rattle.promises.specs.Laws.FunctionNames.{MarksOf, function-markers, function-names}
 use Rattle.promises.specs.Laws.Refusing.{Numbered, names-fair}
@@ -50,9 +52,9 @@ marks-many : {p entries : List ℕ} {n begin end : ℕ} (w : MarksOf p entries n
 marks-many w = markers-count (w .all) ∙ ap sixteenths (w .count)
 
 -- WHICH INPUT IS REFUSED
-module _ (p is os : List ℕ) where
+module _ (p is os : List ℕ) (bytes : Bytes p) where
   from-refused : {n at : ℕ} → MarkersRefused p (length is) (length os) n at → made p is os ≡ refused n at
-  from-refused (payloadRefused e) = made-refused p is os e
+  from-refused {n} {at} (payloadRefused f) = made-refused p is os (faults (names-refused 0) p bytes n at .1 f)
   from-refused (payloadTooLong f long) = made-long p is os (function-markers f .own) long
   from-refused (fewIndices f short few) =
       let w = function-markers f in
@@ -73,8 +75,8 @@ module _ (p is os : List ℕ) where
       refused-place : {n at m o : ℕ} → _≡_ {A = Judged Markers} (refused m o) (refused n at) → o ≡ at
       refused-place e = cc
 
-  to-refused : Bytes p → {n at : ℕ} → made p is os ≡ refused n at → MarkersRefused p (length is) (length os) n at
-  to-refused bytes e =
+  to-refused : {n at : ℕ} → made p is os ≡ refused n at → MarkersRefused p (length is) (length os) n at
+  to-refused e =
       byJudged (judgeNames knownKind 0 p)
       (λ t judged.
       let (entries, n, begin, end, f) = function-names p _ (names-sound source-ids 0 p t bytes judged) in
@@ -87,16 +89,16 @@ module _ (p is os : List ℕ) where
       (λ c. same-refused e (fewOffsets f (omega arith) (ltb-true (length os) (sixteenths n) c)))
       (λ c. absurd (not-accepted (sym e ∙ made-fits p is os (w .own) short (rw many (ltb-false (length is) (sixteenths n) b)) (rw many (ltb-false (length os) (sixteenths n) c)))))))
       (λ a. same-refused e (payloadTooLong f (ltb-false (length p) limit32 a))))
-      (λ n at judged. same-refused e (payloadRefused judged))
+      (λ n at judged. same-refused e (payloadRefused (faults (names-refused 0) p bytes n at .0 judged)))
 
-  pub markers-refused : {a : WmAnswer} → Bytes p → a ≡ wmPlace (mapJudged madeAs (made p is os)) → (n at : ℕ) → (a ≡ wmRefused n at) ↔ MarkersRefused p (length is) (length os) n at
-  markers-refused bytes e n at = rw e (Iff·trans (made-said (made p is os) n at) (to-refused bytes, from-refused))
+  pub markers-refused : {a : WmAnswer} → a ≡ wmPlace (mapJudged madeAs (made p is os)) → (n at : ℕ) → (a ≡ wmRefused n at) ↔ MarkersRefused p (length is) (length os) n at
+  markers-refused e n at = rw e (Iff·trans (made-said (made p is os) n at) (to-refused, from-refused))
 
-pub markers-numbered : {p : List ℕ} {indices offsets n at : ℕ} → MarkersRefused p indices offsets n at → Numbered n
-markers-numbered {p} {n = n} {at = at} (payloadRefused e) = names-fair knownKind 0 p .numbered n at e
-markers-numbered (payloadTooLong f long) = refl
-markers-numbered (fewIndices f short few) = refl
-markers-numbered (fewOffsets f short few) = refl
+pub markers-numbered : {p : List ℕ} {indices offsets n at : ℕ} → Bytes p → MarkersRefused p indices offsets n at → Numbered n
+markers-numbered {p} {n = n} {at = at} bytes (payloadRefused f) = names-fair knownKind 0 p .numbered n at (faults (names-refused 0) p bytes n at .1 f)
+markers-numbered bytes (payloadTooLong f long) = refl
+markers-numbered bytes (fewIndices f short few) = refl
+markers-numbered bytes (fewOffsets f short few) = refl
 
 -- WHAT A LIST HOLDS AFTERWARDS: the markers first, and then what it held
 put-first : (xs old : List ℕ) {new : List ℕ} {a : WmAnswer} (end : ℕ) → length xs ≤ length old → new ≡ xs ++ drop (length xs) old → a ≡ wmFound 0 end (length xs) → Leaves old new a
