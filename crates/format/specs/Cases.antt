@@ -89,6 +89,15 @@ payloads =
     namesAre "01 06 02 03 01 62 03 85" gives refusal 11 6 ∷
     namesAre "02 01 00 01 FF" gives refusal 9 3 ∷
     namesAre "01 02 00 00 01 FF" gives refusal 10 3 ∷
+    -- a padded number's faults stand at its first byte: a part too long, an index not above; 4 behind a padded length, 12 at a padded size
+    namesAre "01 89 00 00" gives refusal 2 1 ∷
+    namesAre "01 08 02 03 01 62 83 00 01 61" gives refusal 11 6 ∷
+    nameIs "81 00 FF" gives refusal 4 2 ∷
+    hintIs 2 5 "01 02 01 05 81 00 02" gives refusal 12 4 ∷
+    hintIs 2 5 "01 02 01 05 80 00" gives refusal 12 4 ∷
+    -- of several bytes left over 10 gives the first
+    namesAre "01 03 00 00 00" gives refusal 10 3 ∷
+    metadataIs 0 0 "00 00 00" gives refusal 10 1 ∷
     -- an empty name lies where its text would start; tag names stand under 11
     answerIs (function 7) "01 03 01 07 00" gives found 5 0 ∷
     answerIs (tag 7) "0B 03 01 07 00" gives found 5 0 ∷
@@ -124,6 +133,11 @@ payloads =
     writtenIs (3 ∷ 3 ∷ []) (1 ∷ 1 ∷ []) "FF 61" gives refusal 11 1 ∷
     writtenIs (0 ∷ 1 ∷ []) (1 ∷ 1 ∷ []) "C3 A9" gives refusal 4 0 ∷
     writtenIs (0 ∷ 1 ∷ []) (1 ∷ 1 ∷ []) "61 A9" gives refusal 4 1 ∷
+    -- 14 before 11, and before 4; of two indices that are not above 11 gives the first; 4 gives a place in the text, and no position
+    writtenIs (3 ∷ 3 ∷ []) (1 ∷ []) "61" gives refusal 14 0 ∷
+    writtenIs (0 ∷ []) (1 ∷ []) "FF FF" gives refusal 14 0 ∷
+    writtenIs (5 ∷ 4 ∷ 3 ∷ []) (0 ∷ 0 ∷ 0 ∷ []) "" gives refusal 11 1 ∷
+    writtenIs (0 ∷ 1 ∷ []) (2 ∷ 1 ∷ []) "61 61 A9" gives refusal 4 2 ∷
     []
 
 pub payloads-hold : map computed payloads ≡ map stated payloads
@@ -214,6 +228,8 @@ modules =
     -- every custom name is judged; a second `metadata.code.x` is an ordinary custom section
     walkIs (0 ∷ 2 ∷ 1 ∷ 0xFF ∷ []) gives refusal 4 11 ∷
     walkIs (customSection "metadata.code.x" "" ++ customSection "metadata.code.x" "") gives value 2 0 ∷
+    -- a custom section without a name is 2 where the name would start
+    walkIs (0 ∷ 0 ∷ []) gives refusal 2 10 ∷
     -- a section's name may have a padded length; the first of a name answers; none past the last
     payloadIs "x" (0 ∷ 5 ∷ 0x81 ∷ 0 ∷ 0x78 ∷ 7 ∷ 7 ∷ []) gives found 13 2 ∷
     payloadIs "x" (customSection "x" "01" ++ customSection "x" "02 03") gives found 12 1 ∷
@@ -450,6 +466,9 @@ older =
     olderAre "01 00 80 00 00" gives refusal 17 2 ∷
     olderAre "01 00 01" gives refusal 17 2 ∷
     olderAre "01 00" gives refusal 2 2 ∷
+    -- and so behind a padded function
+    olderAre "01 80 00 01" gives refusal 17 3 ∷
+    olderAre "01 80 00" gives refusal 2 3 ∷
     -- the count, a function, a list that runs out; a byte behind the list
     olderAre "" gives refusal 2 0 ∷
     olderAre "01" gives refusal 2 1 ∷
@@ -557,6 +576,8 @@ listings =
     listingOf (ordinary 13 "00 00") gives bytes (ascii "sections 1\n13 8 2\nname none\nhints none\n") ∷
     listingOf (ordinary 14 "") gives bytes (ascii "refused 5 8\n") ∷
     bytes (listing []) gives bytes (ascii "refused 1 0\n") ∷
+    -- a preamble that is cut off is refused at the front
+    bytes (listing (hex "00 61 73 6D")) gives bytes (ascii "refused 1 0\n") ∷
     bytes (listing (replicate 65_537 0)) gives bytes (ascii "refused 16 65536\n") ∷
     bytes (listing (replicate 65_536 0)) gives bytes (ascii "refused 1 0\n") ∷
     []
