@@ -1,23 +1,23 @@
 -- K13: what the parts of the step give, one law for each way through them.
-use Prim.Native.Nat.{ℕ, zero, suc, pred, max, _+_, _-_, _*_, _/_, _%_, _≤_, _<_}
+use Prim.Native.Nat.{ℕ, suc, pred, max, _+_, _-_, _*_, _/_, _%_, _≤_, _<_}
 use mathlib.Core.Bool.{Bool, true, false}
 use mathlib.Core.List.{List, [], _∷_, _++_, map, map-append, append-nil, append-assoc}
 use mathlib.Core.Path.{_≡_, refl, sym, ap, ap₂, _∙_}
 use native.Mathlib.Numerals.{add-one}
 use native.Mathlib.Omega.{arith}
 use borrow.Author.Needs.{needs}
-use borrow.Author.Tests.{lt-ltb, le-ltb, leb-true, leb-false}
+use borrow.Author.Tests.{leb-true, leb-false}
 use lib.Dec.{ltb, leb}
 use lib.ListN.{length, take, drop, set, getD, replicate, length-set, length-map, length-replicate, length-append, length-take, length-drop, take-append-drop, drop-of-length-le, List·getD-eq-default}
 use lib.Seq.{append-snoc, drop-at, drop-cons, drop-drop, getD-drop, getD-set-other, getD-set-same, getD-take, length-take-le, set-at, take-all, take-suc, take-suc-set}
 use Rattle.format.specs.Laws.Outcomes.{byTest}
-use Rattle.sharing.specs.Arrays.{marksFrom, tableOf}
+use Rattle.sharing.specs.Arrays.{marksFrom}
 use Rattle.sharing.specs.Blocks.{join}
 use Rattle.sharing.specs.Laws.Arrays.{set-mark, get-mark, marks-length, marks-cons}
 use Rattle.sharing.specs.Laws.Blocks.{Whole}
 use Rattle.sharing.specs.Laws.Bytes.{blocks-cons, blocks-end, blocks-length}
 use Rattle.sharing.specs.Laws.Histories.{join-cut, whole-cut}
-use Rattle.sharing.specs.Laws.Packing.{rank-none, rank-more, rank-same, rank-inside, rank-few, had-inside, packedTo, clearedTo, packed-none, packed-length, packed-ahead, packed-same, packed-more, packed-blocks, cleared-none, cleared-same, cleared-more, cleared-marks, block-over, whole-moved}
+use Rattle.sharing.specs.Laws.Packing.{rank-none, rank-more, rank-same, rank-few, packedTo, clearedTo, packed-none, packed-length, packed-ahead, packed-same, packed-more, packed-blocks, cleared-none, cleared-same, cleared-more, cleared-marks, block-over, whole-moved}
 use Rattle.sharing.specs.Marks.{Walkable}
 use Rattle.sharing.specs.Packing.{UsedBlocks, Before, Used, Packable, PacksBlocks, PacksRows, LeadsFrom, Led, LeadsHolds, TidiesTable}
 use Rattle.sharing.specs.Table.{Mark, mark, blank, Table, table, blocks, reach, taken}

@@ -1,9 +1,8 @@
 // K13: the used blocks to the front, in their order, and the table with them.
 ghost use mathlib.Core.Path.{_≡_};
-ghost use Prim.Native.Nat.{_≤_, _+_, _*_};
+ghost use Prim.Native.Nat.{_+_, _*_};
 ghost use mathlib.Core.Bool.{false};
 ghost use lib.ListN.{length, getD, take, drop};
-ghost use Rattle.sharing.specs.Arrays.{tableOf};
 ghost use Rattle.sharing.specs.Marks.{Walkable};
 ghost use Rattle.sharing.specs.Packing.{UsedBlocks, Before, Packable, PacksBlocks, Used, PacksRows, LeadsFrom, Led, LeadsHolds, TidiesTable};
 ghost use Rattle.writing.specs.Wrote.{Wrote};

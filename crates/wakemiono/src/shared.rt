@@ -72,8 +72,8 @@ fn compact_in(t: Table, store: &mut [u8]) -> Shared
     ensures { λ r. ⌜ WmShares t (now (store .entry)) tidying (r .table) (now (store .exit)) [] (r .answer) ⌝ }
 {
     let packed = compact(t, store);
-    let verdict = packed.verdict;
-    let answer = of_verdict(verdict, 0);
+    let granted = packed.verdict;
+    let answer = of_verdict(granted, 0);
     let table = packed.table;
     Shared { table, answer }
 }

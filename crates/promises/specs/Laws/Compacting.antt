@@ -1,17 +1,17 @@
 -- K13: what the promise of the step comes to, after a history and of any table.
-use Prim.Native.Nat.{ℕ, suc, _+_, _*_, _%_, _/_, _≤_, _<_}
-use mathlib.Core.Bool.{true, false}
+use Prim.Native.Nat.{ℕ, _+_, _*_, _%_, _≤_, _<_}
+use mathlib.Core.Bool.{true}
 use mathlib.Core.List.{List, [], _∷_}
 use mathlib.Core.Logic.{_↔_}
 use mathlib.Core.Path.{_≡_, refl, sym, ap, subst, _∙_}
 use native.Mathlib.Omega.{arith}
 use lib.Dec.{eqb, ltb, leb}
 use lib.ListN.{length, getD, drop}
-use borrow.Author.Tests.{eqb-true, eqb-false, ltb-false, leb-true, leb-false}
+use borrow.Author.Tests.{eqb-false, ltb-false, leb-true, leb-false}
 use Rattle.format.specs.Canonical.{canonicalNames, rewriteNames}
 use Rattle.format.specs.Laws.Outcomes.{byTest}
 use Rattle.format.specs.Names.{knownKind, judgeNames}
-use Rattle.format.specs.Reading.{Judged, accepted, refused, mapJudged}
+use Rattle.format.specs.Reading.{accepted, refused, mapJudged}
 use Rattle.sharing.specs.Arrays.{tableOf}
 use Rattle.sharing.specs.Blocks.{need, extra}
 use Rattle.sharing.specs.Events as events

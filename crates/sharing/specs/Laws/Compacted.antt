@@ -1,16 +1,16 @@
 -- K13: what the step does to what stands in the store, and that every customer is answered as before.
-use Prim.Native.Nat.{ℕ, zero, suc, _+_, _-_, _*_, _/_, _≤_, _<_}
-use mathlib.Core.Bool.{Bool, true, false, _&&_}
+use Prim.Native.Nat.{ℕ, zero, suc, _+_, _-_, _*_, _≤_, _<_}
+use mathlib.Core.Bool.{Bool, true, false}
 use mathlib.Core.List.{List, [], _∷_, _++_, map}
 use mathlib.Core.Option.{Option, none, some}
 use mathlib.Core.Path.{_≡_, refl, sym, ap, ap₂, subst, _∙_}
 use native.Mathlib.Omega.{arith}
 use lib.Dec.{eqb, leb}
-use lib.ListN.{length, getD, drop, length-append}
+use lib.ListN.{length, getD, drop}
 use lib.Seq.{take-all}
-use borrow.Author.Tests.{eqb-true, eqb-false, eq-eqb, ne-eqb, leb-true, leb-false}
+use borrow.Author.Tests.{eqb-false, ne-eqb, leb-true, leb-false}
 use Rattle.format.specs.Bytes.{same}
-use Rattle.format.specs.Laws.Outcomes.{byTest, onBoth}
+use Rattle.format.specs.Laws.Outcomes.{byTest}
 use Rattle.sharing.specs.Blocks.{need, extra, words, littleEndian, check, right, allRight, join}
 use Rattle.sharing.specs.Events.{Stored, FreeRun, Damage, UsedBefore, none-before, one-used, one-free}
 use Rattle.sharing.specs.Laws.Blocks.{no-true, no-false}
@@ -22,7 +22,7 @@ use Rattle.sharing.specs.Laws.Histories.{refines}
 use Rattle.sharing.specs.Laws.Holds.{leads-desk, leads-vacant}
 use Rattle.sharing.specs.Laws.Moving.{had-is, tidy-stands, goes-there, came}
 use Rattle.sharing.specs.Laws.Packing.{rank-none, rank-more, rank-same, pack-ranked}
-use Rattle.sharing.specs.Laws.Room.{opened-is, stored, new-granted, new-refused, stored-after, granted-after, refused-after, freeBlocks}
+use Rattle.sharing.specs.Laws.Room.{stored, new-granted, new-refused, stored-after, granted-after, refused-after, freeBlocks}
 use Rattle.sharing.specs.Laws.Shelf.{gap, row, Shelf, size, spread, takenOf, blocksOf, marksOf, size-append, At, here, past, at-below}
 use Rattle.sharing.specs.Laws.Standing.{Stands, blocks-are, fits-is, store-length}
 use Rattle.sharing.specs.Laws.Stored.{blocks-size, stored-at, at-stored}

@@ -8,10 +8,10 @@ use native.Mathlib.Omega.{arith}
 use lib.Dec.{eqb, ltb, leb}
 use lib.ListN.{length, getD, set, drop, replicate, length-append, length-replicate}
 use lib.Seq.{drop-at}
-use borrow.Author.Tests.{eqb-false, ne-eqb, ltb-true, ltb-false, lt-ltb, leb-true, leb-false, not-true}
+use borrow.Author.Tests.{eqb-false, ne-eqb, ltb-true, ltb-false, lt-ltb, leb-true, leb-false}
 use Rattle.format.specs.Bytes.{same}
 use Rattle.format.specs.Laws.Outcomes.{byTest, onBoth}
-use Rattle.sharing.specs.Blocks.{need, extra, gather, scatter, join}
+use Rattle.sharing.specs.Blocks.{need, extra, gather}
 use Rattle.sharing.specs.Events.{Event, event, Past, begun, called, FreeRun, UsedBefore, SinceStep, just-now, and-asked, and-opened}
 use Rattle.sharing.specs.Laws.Blocks.{no-true, no-false}
 use Rattle.sharing.specs.Laws.Compacted.{shelf-taken, used-rank, nextTable, nextStore, step-is}
@@ -19,15 +19,14 @@ use Rattle.sharing.specs.Laws.FirstRun.{run-free, free-run, taken-size}
 use Rattle.sharing.specs.Laws.Histories.{refines, starts, nobody}
 use Rattle.sharing.specs.Laws.Isolation.{not-some}
 use Rattle.sharing.specs.Laws.Moving.{had-is, tidy-stands}
-use Rattle.sharing.specs.Laws.Packing.{rank-none}
 use Rattle.sharing.specs.Laws.Room.{starts-enough, run-enough, later-not, taken-tidy, freeBlocks}
 use Rattle.sharing.specs.Laws.Runs.{run-ends}
-use Rattle.sharing.specs.Laws.Shelf.{size, spread, takenOf}
+use Rattle.sharing.specs.Laws.Shelf.{size}
 use Rattle.sharing.specs.Laws.Standing.{Stands, fits-is}
 use Rattle.sharing.specs.Laws.Stored.{blocks-size}
 use Rattle.sharing.specs.Laws.Tidying.{onlyRows}
 use Rattle.sharing.specs.Laws.Walks.{later, later-some, run-past}
-use Rattle.sharing.specs.Model.{Payloads, Call, opening, asking, closing, tidying, Answer, Model, desk, firstTrue, Front, stop, go, front, customer, changed, acting}
+use Rattle.sharing.specs.Model.{Payloads, Call, opening, asking, tidying, Answer, Model, desk, firstTrue, Front, stop, go, front, customer, changed, acting}
 use Rattle.sharing.specs.Step.{After, leaves, unused, joined, leading, newly, placed, openedIn, fitting, step}
 use Rattle.sharing.specs.Table.{Mark, mark, blank, Table, blocks, rowsRight, find, reach, taken, startsFree, firstRun}
 use Rattle.sharing.specs.Tidy.{rank}

@@ -1,11 +1,11 @@
 -- K13, for code, which moves one thing after another: a list whose first b places are passed.
-use Prim.Native.Nat.{ℕ, zero, suc, _+_, _-_, _*_, _/_, _≤_, _<_}
-use mathlib.Core.Path.{_≡_, refl, sym, ap, ap₂, _∙_}
+use Prim.Native.Nat.{ℕ, zero, suc, _+_, _-_, _*_, _≤_, _<_}
+use mathlib.Core.Path.{_≡_, refl, sym, ap, _∙_}
 use mathlib.Core.Bool.{Bool, true, false}
 use mathlib.Core.List.{List, [], _∷_, _++_, append-assoc}
 use native.Mathlib.Omega.{arith}
-use lib.ListN.{length, getD, set, take, drop, replicate, length-append, length-drop, length-replicate, length-set}
-use lib.Seq.{append-snoc, drop-cons, getD-append-add, getD-drop, length-take-le, set-append-left, set-at, set-split, take-all, take-at, take-nil}
+use lib.ListN.{length, getD, set, take, drop, replicate, length-append, length-drop, length-replicate}
+use lib.Seq.{append-snoc, drop-cons, getD-append-add, getD-drop, set-at, set-split, take-all, take-at, take-nil}
 use Rattle.sharing.specs.Blocks.{join}
 use Rattle.sharing.specs.Laws.Blocks.{no-true, no-false, Whole, none, more}
 use Rattle.sharing.specs.Laws.Bytes.{join-append, join-take, join-drop}
