@@ -12,6 +12,9 @@ use crate::input::STANDARD_STREAM;
 use crate::options::{self, Given, Takes};
 use crate::question::{Kind, Question};
 
+/// The word that asks for help, as the option `--help` does.
+const HELP: &str = "help";
+
 /// The option that names a file of names beside a module.
 const BESIDE: &str = "--beside";
 
@@ -141,6 +144,9 @@ pub fn parse(words: impl IntoIterator<Item = OsString>) -> Result<Invocation, St
     if is_help(first) {
         return Ok(Invocation::Help(None));
     }
+    if first == HELP {
+        return help(rest);
+    }
     if first == "--version" || first == "-V" {
         return Ok(Invocation::Version);
     }
@@ -152,6 +158,20 @@ pub fn parse(words: impl IntoIterator<Item = OsString>) -> Result<Invocation, St
         let word = topic.word();
         format!("{wrong}; see `wakemiono {word} --help`.")
     })
+}
+
+/// What the word `help` asks for: all, or the command that follows it.
+fn help(words: &[OsString]) -> Result<Invocation, String> {
+    match words {
+        [] => Ok(Invocation::Help(None)),
+        [word] if is_help(word) => Ok(Invocation::Help(None)),
+        [word] => Ok(Invocation::Help(Some(topic(word)?))),
+        [_, second, ..] => Err(format!(
+            "one command is explained at a time, and {} is a second word: leave it out; \
+             see `wakemiono --help`.",
+            escape::quoted(second)
+        )),
+    }
 }
 
 fn is_help(word: &OsString) -> bool {
@@ -357,6 +377,9 @@ mod tests {
         let of_names = Ok(Invocation::Help(Some(Topic::Names)));
         assert_eq!(parsed("names --help"), of_names);
         assert_eq!(parsed("names --nonsense f -h"), of_names);
+        assert_eq!(parsed("help names"), of_names);
+        assert_eq!(parsed("help"), Ok(Invocation::Help(None)));
+        assert_eq!(parsed("help --help"), Ok(Invocation::Help(None)));
         assert!(matches!(
             parsed("names -- --help"),
             Ok(Invocation::Run { .. })

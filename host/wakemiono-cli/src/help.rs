@@ -2,38 +2,31 @@
 
 use crate::arguments::Topic;
 
+/// Short enough for one screen of 24 lines and 80 columns, as a test holds it: the rest is said of each
+/// command.
 const OVERALL: &str = "\
-wakemiono asks the metadata of a WebAssembly module: its sections, names and branch hints.
+wakemiono asks the metadata of a WebAssembly module: sections, names and hints.
 
-Usage: wakemiono COMMAND FILE [OPTIONS]
+Usage: wakemiono COMMAND FILE [OPTIONS]        FILE may be - for standard input
 
   list FILE         the sections, and where names and branch hints lie
   names FILE        all names
   name FILE         one name
   why FILE          why a function or a local has no name
   hints FILE        all branch hints, of both editions
-  canon FILE        the canonical form of the name payload, or of hints of the older edition
-  join FILE NAMES   names that came apart from a module and its own, in one canonical payload
+  canon FILE        the canonical form of the names, or of older hints
+  join FILE NAMES   names that came apart from a module and its own, in one
   same A B          whether two modules have the same names
-  judge FILE        whether the module, its names and its hints are accepted, and canonical, and
-                    whether its hints stand on branches
+  judge FILE        whether all is accepted, canonical, and hints on branches
+  help COMMAND      more of one command, with examples: COMMAND --help
 
-FILE may be - for standard input. `wakemiono COMMAND --help` says more of one command; --version
-says the version.
+  --json            one JSON value on one line, for programs: with each command
+  --wide            twelve kinds of names, not six: with each that reads names
+  --beside NAMES    names that came apart from a module: with names and name
+  --version         the version, in place of a command
 
-Names are asked in their first edition. With --wide the commands names, name, why, canon, join, same
-and judge ask the wider one, which also has the names of labels, tables, memories, globals, element
-segments and data segments.
-
-Names may travel beside a stripped module: names and name take them by --beside NAMES, and join makes
-one payload of them and the module's own.
-
-The exit status is 0 where there is an answer, even none; 1 for a refusal, or where two modules
-are not the same; 2 where the program cannot do what it is asked, and says why on standard error.
-
-Each command takes --json, for one JSON value on one line where the status is 0 or 1, and nothing
-on standard output where it is 2. The README.md beside its source has the shape of the values.
-
+The exit status is 0 where there is an answer, even none; 1 for a refusal, or
+where two modules are not the same; 2 for what cannot be done, and it says why.
 Example: wakemiono list app.wasm
 ";
 

@@ -31,8 +31,29 @@ fn help_has_every_command_and_an_example() {
         );
         assert!(help.out().contains("--json"), "{command}");
         assert_eq!(run(&[command, "-h"]).out(), help.out());
+        run(&["help", command]).prints(help.out());
     }
     assert_eq!(run(&["-h"]).out(), overall.out());
+    run(&["help"]).prints(overall.out());
+}
+
+#[test]
+fn the_overview_fits_one_screen() {
+    let overall = run(&["help"]);
+    let lines: Vec<&str> = overall.out().lines().collect();
+    assert!(lines.len() <= 24, "{} lines", lines.len());
+    for line in lines {
+        assert!(line.chars().count() <= 80, "{line}");
+    }
+}
+
+#[test]
+fn help_for_what_is_no_command() {
+    run(&["help", "lst"]).is_misuse(&format!("there is no command 'lst': {LIST_OF_COMMANDS}"));
+    run(&["help", "list", "names"]).is_misuse(
+        "one command is explained at a time, and 'names' is a second word: leave it out; \
+         see `wakemiono --help`.",
+    );
 }
 
 #[test]
