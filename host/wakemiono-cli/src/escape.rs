@@ -7,8 +7,8 @@ use wakemiono::Name;
 /// What is printed where there is no name.
 pub const NONE: &str = "none";
 
-/// Bytes on one line: a backslash and what is not printable are escaped, bytes that are not UTF-8
-/// are shown as `\xFF`, and different bytes are shown differently.
+/// Bytes on one line: a backslash and what is not printable or drawn as nothing are escaped, bytes
+/// that are not UTF-8 are shown as `\xFF`, and different bytes are shown differently.
 pub fn escaped(bytes: &[u8]) -> String {
     Name::from(bytes).to_string()
 }
@@ -44,6 +44,12 @@ mod tests {
     fn what_is_not_printable_is_escaped() {
         assert_eq!(escaped(b"a\tb\\c\xFFd"), r"a\tb\\c\xFFd");
         assert_eq!(escaped("größe\u{202E}".as_bytes()), r"größe\u{202e}");
+    }
+
+    #[test]
+    fn what_is_drawn_as_nothing_is_escaped() {
+        assert_eq!(escaped("a\u{3164}b".as_bytes()), r"a\u{3164}b");
+        assert_eq!(escaped("\u{2800}".as_bytes()), r"\u{2800}");
     }
 
     #[test]

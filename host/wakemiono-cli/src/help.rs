@@ -56,7 +56,8 @@ Usage: wakemiono names FILE [--kind KIND] [--beside NAMES] [--wide] [--json]
 
 Each line is `KIND INDICES OFFSET NAME`, in the order of the name section: no index for module; one
 for function, type, tag and kept; two for local (its function first) and field (its type first).
-The offset counts from the start of the module. What is not printable in a name is escaped.
+The offset counts from the start of the module. What is not printable in a name, or is drawn as
+nothing, is escaped.
 
 Where the first edition has kept 3 and 5 to 9, the wider one has names: label with two indices (its
 function first), and table, memory, global, element and data with one.
@@ -108,9 +109,9 @@ With --wide, which asks the wider edition of names, also:
   --element N               the name of element segment N
   --data N                  the name of data segment N
 
-Numbers are decimal, or hexadecimal behind 0x. What is not printable in a name is escaped; a name
-that is itself none is shown as \\u{6e}one, so that `none` always means that there is no name. With
---json no name is null.
+Numbers are decimal, or hexadecimal behind 0x. What is not printable in a name, or is drawn as
+nothing, is escaped; a name that is itself none is shown as \\u{6e}one, so that `none` always means
+that there is no name. With --json no name is null.
 
 With --beside NAMES names that came apart from the module are asked first, as `wakemiono names --help`
 has it, and the line is `separate NAME`, `own NAME` or `none`.

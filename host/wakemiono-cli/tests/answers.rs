@@ -66,6 +66,16 @@ fn names_have_the_offsets_of_the_module_and_not_of_its_rewriting() {
     fed(&["names", "-"], &padded).prints("function 0 22 a\n");
 }
 
+/// A name that nobody can see is told from an empty one, and from another.
+#[test]
+fn names_that_are_drawn_as_nothing_are_escaped() {
+    for (name, escaped) in [("\u{3164}", r"\u{3164}"), ("\u{2800}", r"\u{2800}")] {
+        let module = named(&[b"\x00\x04\x03", name.as_bytes()].concat());
+        fed(&["names", "-"], &module).prints(&format!("module 18 {escaped}\n"));
+        fed(&["name", "-", "--module"], &module).prints(&format!("{escaped}\n"));
+    }
+}
+
 #[test]
 fn names_that_are_not_there() {
     let none = fed(&["names", "-"], BARE);

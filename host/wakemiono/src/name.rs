@@ -127,6 +127,21 @@ impl AsRef<[u8]> for Name<'_> {
 
 const QUOTES: [char; 2] = ['"', '\''];
 
+/// Letters and symbols that are drawn as nothing: the fillers of Hangul and the empty pattern of
+/// Braille. The standard library takes them for printable, as they are neither spaces nor controls.
+const BLANK: [char; 5] = ['\u{115F}', '\u{1160}', '\u{2800}', '\u{3164}', '\u{FFA0}'];
+
+/// The same text with blank letters and symbols escaped.
+fn visible(text: &str) -> String {
+    let mut visible = String::new();
+    for run in text.split_inclusive(BLANK) {
+        let drawn = run.strip_suffix(BLANK).unwrap_or(run);
+        visible.push_str(drawn);
+        visible.extend(run[drawn.len()..].chars().flat_map(char::escape_unicode));
+    }
+    visible
+}
+
 impl Name<'_> {
     /// The name on one line: text as it is spelled, and bytes that are not UTF-8 as `\xFF`.
     fn shown(&self, spell: impl Fn(&mut String, &str)) -> String {
@@ -137,12 +152,13 @@ impl Name<'_> {
                 shown.push_str(&format!("\\x{byte:02X}"));
             }
         }
-        shown
+        visible(&shown)
     }
 }
 
-/// The name on one line, for people: a backslash and what is not printable are escaped, and bytes
-/// that are not UTF-8 are shown as `\xFF`. Different names are shown differently.
+/// The name on one line, for people: a backslash, what is not printable and letters that are drawn as
+/// nothing are escaped, and bytes that are not UTF-8 are shown as `\xFF`. Different names are shown
+/// differently.
 ///
 /// ```
 /// use wakemiono::Name;

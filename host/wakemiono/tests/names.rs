@@ -82,6 +82,17 @@ fn what_is_not_printable_is_escaped() {
     }
 }
 
+/// Fillers of Hangul and the empty pattern of Braille are letters and symbols that nobody sees.
+#[test]
+fn what_is_drawn_as_nothing_is_escaped() {
+    for blank in ['\u{115F}', '\u{1160}', '\u{2800}', '\u{3164}', '\u{FFA0}'] {
+        let escaped = format!("a{0}{0}b", blank.escape_unicode());
+        let (display, debug) = shown(format!("a{blank}{blank}b").as_bytes());
+        assert_eq!(display, escaped);
+        assert_eq!(debug, format!("Name(\"{escaped}\")"));
+    }
+}
+
 #[test]
 fn columns_are_as_wide_as_what_is_shown() {
     let name = Name::from(&b"a\n\xFF"[..]);
