@@ -9,7 +9,7 @@ use wakemiono::{Place, Refusal, Section, Stream, Walked};
 
 use crate::edition::Edition;
 use crate::excerpt::Excerpt;
-use crate::heads::{Head, CODE, CUSTOM, IMPORT};
+use crate::heads::{Head, ShownName, CODE, CUSTOM, FRONT_WITH_NAME, IMPORT};
 use crate::input::Source;
 use crate::json::Json;
 use crate::payloads::HINTS;
@@ -24,7 +24,8 @@ const PART: usize = 1 << 16;
 const PREAMBLE_LENGTH: u64 = 8;
 
 /// How many bytes of contents that are left out are kept at each end. All that a refusal shows lies as
-/// near to a head or a payload: three rows of a dump, and what a head has.
+/// near to a head or a payload: three rows of a dump, and what a head has. At the front of custom contents
+/// more are kept, for the name.
 const NEAR: u64 = 64;
 
 /// A module has no more sections than this that are not custom, since each id occurs once.
@@ -95,14 +96,36 @@ impl<E: Edition> Arrived<E> {
         self.kept.get(place.offset..end).ok_or(Failure::Misfit)
     }
 
+    /// The sections of an accepted module, each with the place of its contents, which are the last of it.
+    pub fn with_contents(&self) -> impl Iterator<Item = (&Section, Range<u64>)> {
+        let starts = self.sections.iter().map(|section| section.offset);
+        let ends = starts.skip(1).chain([self.length]);
+        let sections = self.sections.iter().zip(ends);
+        sections.map(|(section, end)| (section, end - section.length..end))
+    }
+
+    /// The name of a section of an accepted module by the place of its contents, as far as it is shown;
+    /// none of a section that is not custom.
+    pub fn shown_name(
+        &self,
+        id: u8,
+        contents: &Range<u64>,
+    ) -> Result<Option<ShownName<'_>>, Failure> {
+        if id != CUSTOM {
+            return Ok(None);
+        }
+        let end = contents.end.min(contents.start + FRONT_WITH_NAME as u64);
+        let front = self.kept.get(contents.start..end);
+        let name = front.and_then(ShownName::of).ok_or(Failure::Misfit)?;
+        Ok(Some(name))
+    }
+
     /// The sections that say whether hints stand on branches: imports, the hints, which lie at a place
     /// that the library has found, and code. They are among what is kept.
     pub fn of_branches(&self, hints: Place) -> Result<Excerpt, Failure> {
         let preamble = self.kept.get(0..PREAMBLE_LENGTH).ok_or(Failure::Misfit)?;
         let mut excerpt = Excerpt::new(preamble);
-        let starts = self.sections.iter().map(|section| section.offset);
-        let ends = starts.skip(1).chain([self.length]);
-        for (section, end) in self.sections.iter().zip(ends) {
+        for (section, Range { end, .. }) in self.with_contents() {
             let has_hints = section.offset < hints.offset && hints.offset <= end;
             if has_hints || [IMPORT, CODE].contains(&section.id) {
                 let bytes = self.kept.get(section.offset..end);
@@ -157,13 +180,15 @@ enum Step {
 struct Contents {
     place: Range<u64>,
     whole: bool,
+    /// How many bytes are kept at the front of what is not kept whole.
+    front: u64,
 }
 
 impl Contents {
     /// Whether the byte at an offset is kept, and up to where this is so of all bytes.
     fn is_kept(&self, at: u64) -> (bool, u64) {
         let Range { start, end } = self.place;
-        let (left_out, again) = (start.saturating_add(NEAR), end.saturating_sub(NEAR));
+        let (left_out, again) = (start.saturating_add(self.front), end.saturating_sub(NEAR));
         if self.whole || left_out >= again || at >= again {
             (true, end)
         } else if at < left_out {
@@ -192,6 +217,7 @@ impl Arriving {
             step: Step::Contents(Contents {
                 place: 0..PREAMBLE_LENGTH,
                 whole: true,
+                front: NEAR,
             }),
         }
     }
@@ -265,7 +291,15 @@ impl Arriving {
 
     fn begin_contents(&mut self, section: Section, start: u64, whole: bool) {
         let place = start..start.saturating_add(section.length);
-        self.step = Step::Contents(Contents { place, whole });
+        let front = match section.id {
+            CUSTOM => FRONT_WITH_NAME as u64,
+            _ => NEAR,
+        };
+        self.step = Step::Contents(Contents {
+            place,
+            whole,
+            front,
+        });
         self.not_custom += usize::from(section.id != CUSTOM);
         self.sections.push(section);
     }
@@ -275,6 +309,7 @@ impl Arriving {
         self.step = Step::Contents(Contents {
             place: self.at..u64::MAX,
             whole: false,
+            front: NEAR,
         });
     }
 }

@@ -18,6 +18,43 @@ pub const CODE: u8 = 10;
 /// No name that is looked for is longer.
 const LONGEST_NAME: usize = payloads::HINTS.len();
 
+/// How many bytes of a section's name are shown. A name may be as long as its section, and a module
+/// that is read as it arrives is not held.
+pub const LONGEST_SHOWN_NAME: usize = 128;
+
+/// How many bytes at the front of custom contents have as much of the name as is shown.
+pub const FRONT_WITH_NAME: usize = LONGEST_NUMBER + LONGEST_SHOWN_NAME;
+
+/// The name of a custom section, as far as it is shown.
+#[derive(Clone, Copy, Debug, PartialEq, Eq)]
+pub struct ShownName<'a> {
+    /// The name, or its beginning.
+    pub text: &'a str,
+    /// How many bytes the name has.
+    pub length: u32,
+}
+
+impl<'a> ShownName<'a> {
+    /// The name at the front of the contents of a custom section that is accepted, so that it is text;
+    /// none where the bytes are too few.
+    pub fn of(front: &'a [u8]) -> Option<ShownName<'a>> {
+        let mut reader = Reader(front);
+        let length = reader.number()?;
+        let shown = LONGEST_SHOWN_NAME.min(length as usize);
+        // A character that is cut is not shown.
+        let text = reader.0.get(..shown)?.utf8_chunks().next();
+        Some(ShownName {
+            text: text.map_or("", |chunk| chunk.valid()),
+            length,
+        })
+    }
+
+    /// Whether it is only the beginning.
+    pub const fn is_cut(&self) -> bool {
+        self.text.len() < self.length as usize
+    }
+}
+
 /// What the bytes from a section's id on say.
 #[derive(Clone, Copy, Debug, PartialEq, Eq)]
 pub enum Head<'a> {
@@ -114,6 +151,28 @@ mod tests {
         let too_large = [10, 0xFF, 0xFF, 0xFF, 0xFF, 0x10];
         assert_eq!(Head::of(&too_large), Head::Unacceptable);
         assert_eq!(Head::of(&too_large[..5]), Head::Cut);
+    }
+
+    #[track_caller]
+    fn is_shown(name: &str, text: &str) {
+        let length = name.len();
+        let number = [length as u8 | 0x80, (length >> 7) as u8];
+        let contents = [&number, name.as_bytes(), b"\xFF"].concat();
+        let front = &contents[..contents.len().min(FRONT_WITH_NAME)];
+        let length = length as u32;
+        assert_eq!(ShownName::of(front), Some(ShownName { text, length }));
+    }
+
+    #[test]
+    fn of_names_that_are_shown() {
+        is_shown("", "");
+        is_shown("größe", "größe");
+        let longest = "x".repeat(LONGEST_SHOWN_NAME);
+        is_shown(&longest, &longest);
+        is_shown(&format!("{longest}x"), &longest);
+        // The last character would end behind what is shown.
+        is_shown(&format!("{}é", &longest[1..]), &longest[1..]);
+        assert_eq!(ShownName::of(b"\x02x"), None);
     }
 
     #[test]

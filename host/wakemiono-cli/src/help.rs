@@ -35,16 +35,20 @@ Lists the sections of a module in the order of the file.
 
 Usage: wakemiono list FILE [--json]
 
-The first line is `sections N`. A line `ID OFFSET LENGTH` follows for each section, with the offset
-of its id byte and the length of its contents; then `name OFFSET LENGTH` and `hints OFFSET LENGTH`
-say where the payloads lie, or `name none` and `hints none`. The payloads are not judged here. For
-a module that is refused the line is `refused NUMBER OFFSET`; the words are on standard error.
+The first line is `sections N`. A line `ID OFFSET LENGTH CONTENTS` follows for each section, with the
+offset of its id byte, the length of its contents and the offset where these begin; of a custom
+section, whose id is 0, the line ends with its NAME. Then `name OFFSET LENGTH` and
+`hints OFFSET LENGTH` say where the payloads lie, or `name none` and `hints none`. The payloads are
+not judged here. For a module that is refused the line is `refused NUMBER OFFSET`; the words are on
+standard error.
 
-The module is read as it arrives and is not held, so that one of any size can come through a pipe.
+What is not printable in a name, or is drawn as nothing, is escaped. The module is read as it arrives
+and is not held, so that one of any size can come through a pipe: of a name that has more than 128
+bytes the beginning is shown, and \\... behind it.
 
 Example: wakemiono list app.wasm
   sections 1
-  0 8 26
+  0 8 26 10 name
   name 15 21
   hints none
 ";

@@ -5,31 +5,74 @@ mod common;
 use std::fs;
 
 use common::{
-    fed, file, hinted, hinted_code, joined, long_named, named, old_hinted, path, run, BARE,
+    custom, fed, file, hinted, hinted_code, joined, long_named, named, old_hinted, path, run, BARE,
     EVERY_KIND, MODULE,
 };
 
 #[test]
 fn list_prints_the_listing_of_the_documents() {
     let module = file("list.wasm", MODULE);
-    let listing = "sections 1\n0 8 26\nname 15 21\nhints none\n";
+    let listing = "sections 1\n0 8 26 10 name\nname 15 21\nhints none\n";
     run(&["list", &module]).prints(listing);
     fed(&["list", "-"], MODULE).prints(listing);
     fed(&["list", "-"], BARE).prints("sections 0\nname none\nhints none\n");
-    fed(&["list", "-"], &hinted(b"\x00")).prints("sections 1\n0 8 27\nname none\nhints 36 1\n");
+    fed(&["list", "-"], &hinted(b"\x00"))
+        .prints("sections 1\n0 8 27 10 metadata.code.branch_hint\nname none\nhints 36 1\n");
 }
 
 #[test]
 fn list_does_not_judge_payloads() {
     let damaged = named(b"\x01\x00");
-    fed(&["list", "-"], &damaged).prints("sections 1\n0 8 7\nname 15 2\nhints none\n");
+    fed(&["list", "-"], &damaged).prints("sections 1\n0 8 7 10 name\nname 15 2\nhints none\n");
+}
+
+#[test]
+fn list_escapes_the_names_of_custom_sections() {
+    let listed = |name: &str, shown: &str| {
+        let (contents, length) = (10, 1 + name.len());
+        fed(&["list", "-"], &custom(name, b"")).prints(&format!(
+            "sections 1\n0 8 {length} {contents} {shown}\nname none\nhints none\n"
+        ));
+    };
+    listed("", "");
+    listed("two words", "two words");
+    listed("größe", "größe");
+    listed("a\n\\...\u{202E}\u{3164}", r"a\n\\...\u{202e}\u{3164}");
+    fed(&["list", "-", "--json"], &custom("a\n\"", b"")).is_json(
+        0,
+        "{\"file\":\"-\",\"sections\":[{\"id\":0,\"offset\":8,\"length\":4,\"contents\":10,\
+         \"name\":\"a\\u000A\\\"\",\"name_length\":3}],\"name\":null,\"hints\":null}",
+    );
+}
+
+/// Behind a size that is padded to five bytes the contents begin later.
+#[test]
+fn list_says_where_contents_begin() {
+    let module = joined(&long_named(b""), &[BARE, &[1, 0x81, 0x00, 0]].concat());
+    fed(&["list", "-"], &module)
+        .prints("sections 2\n0 8 5 14 name\n1 19 1 22\nname 19 0\nhints none\n");
+}
+
+#[test]
+fn list_cuts_the_longest_names() {
+    let shown = "x".repeat(128);
+    let name = format!("{shown}y");
+    let contents = [&[0x81, 0x01][..], name.as_bytes()].concat();
+    let module = [BARE, &[0, 0x83, 0x01], &contents].concat();
+    fed(&["list", "-"], &module).prints(&format!(
+        "sections 1\n0 8 131 11 {shown}\\...\nname none\nhints none\n"
+    ));
+    let json = fed(&["list", "-", "--json"], &module);
+    let members = format!("\"name\":\"{shown}\",\"name_length\":129}}");
+    assert!(json.out().contains(&members), "{}", json.out());
 }
 
 #[test]
 fn list_in_json() {
     fed(&["list", "--json", "-"], MODULE).is_json(
         0,
-        "{\"file\":\"-\",\"sections\":[{\"id\":0,\"offset\":8,\"length\":26}],\
+        "{\"file\":\"-\",\"sections\":[{\"id\":0,\"offset\":8,\"length\":26,\"contents\":10,\
+         \"name\":\"name\",\"name_length\":4}],\
          \"name\":{\"offset\":15,\"length\":21},\"hints\":null}",
     );
 }

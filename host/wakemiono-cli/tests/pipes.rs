@@ -81,7 +81,24 @@ const NAMES: &[u8] = MODULE.split_at(8).1;
 #[test]
 fn four_gigabytes_are_listed_in_a_few_megabytes() {
     let listed = piped(&["list", "-"], &begun(CUSTOM, ZEROS + 1), ZEROS, NAMES);
-    listed.prints("sections 2\n0 8 4000000001\n0 4000000015 26\nname 4000000022 21\nhints none\n");
+    listed.prints(
+        "sections 2\n0 8 4000000001 14 \n0 4000000015 26 4000000017 name\n\
+         name 4000000022 21\nhints none\n",
+    );
+}
+
+/// A name may be as long as its section, and is not held either.
+#[test]
+fn a_long_name_of_a_section_is_not_held() {
+    const ZEROS: usize = 100_000_000;
+    let size_and_length = [0x84, 0xC2, 0xD7, 0x2F, 0x80, 0xC2, 0xD7, 0x2F];
+    let beginning = [BARE, &[CUSTOM], &size_and_length].concat();
+    let listed = piped(&["list", "-"], &beginning, ZEROS, NAMES);
+    let shown = r"\0".repeat(128);
+    listed.prints(&format!(
+        "sections 2\n0 8 100000004 13 {shown}\\...\n0 100000017 26 100000019 name\n\
+         name 100000024 21\nhints none\n"
+    ));
 }
 
 #[test]
@@ -133,6 +150,54 @@ fn fixtures() -> Vec<PathBuf> {
         .collect()
 }
 
+/// The lines of sections: four numbers, and the name of a custom one.
+fn section_lines(listed: &Run) -> impl Iterator<Item = Vec<&str>> {
+    let lines = listed.out().lines();
+    let lines = lines.filter(|line| line.starts_with(|c: char| c.is_ascii_digit()));
+    lines.map(|line| line.splitn(5, ' ').collect())
+}
+
+/// What is printed, with the first three numbers of each section alone, as the documents list it.
+fn without_contents(listed: &Run) -> String {
+    let mut sections = section_lines(listed);
+    let line = |line: &str| {
+        if line.starts_with(|c: char| c.is_ascii_digit()) {
+            sections.next().expect("a section")[..3].join(" ") + "\n"
+        } else {
+            format!("{line}\n")
+        }
+    };
+    listed.out().lines().map(line).collect()
+}
+
+/// The contents end where the next section begins, and those of a custom one begin with its name.
+#[test]
+fn contents_of_fixtures_lie_where_it_is_said() {
+    let mut named = 0;
+    for path in fixtures() {
+        let module = fs::read(&path).unwrap();
+        let listed = fed(&["list", "-"], &module);
+        let mut next = 8;
+        for words in section_lines(&listed) {
+            let numbers: Vec<usize> = words[..4].iter().map(|it| it.parse().unwrap()).collect();
+            let [id, offset, length, contents] = numbers[..] else {
+                panic!("{words:?}");
+            };
+            assert_eq!(offset, next, "{}", path.display());
+            next = contents + length;
+            assert_eq!(id == 0, words.len() == 5, "{}", path.display());
+            let front = &module[contents..next];
+            if let Some(name) = words.get(4).filter(|name| !name.contains('\\')) {
+                let is_there = |at: usize| front[at..].starts_with(name.as_bytes());
+                assert!((1..=5).any(is_there), "{}: {name}", path.display());
+                named += 1;
+            }
+        }
+        assert!(next == module.len() || listed.status != 0);
+    }
+    assert!(named >= 100, "{named}");
+}
+
 /// Fixtures are listed as a third reading of the rules has them; and a refusal is shown as by a command
 /// that holds the module.
 #[test]
@@ -142,9 +207,9 @@ fn fixtures_are_listed_through_a_pipe() {
         let module = fs::read(&path).unwrap();
         let listing = fs::read_to_string(path.with_extension("listing")).unwrap();
         let listed = fed(&["list", "-"], &module);
-        assert_eq!(listed.out(), listing, "{}", path.display());
+        assert_eq!(without_contents(&listed), listing, "{}", path.display());
         let from_file = common::run(&["list", path.to_str().unwrap()]);
-        assert_eq!(from_file.out(), listing, "{}", path.display());
+        assert_eq!(from_file.out(), listed.out(), "{}", path.display());
         if listed.status != 0 {
             let held = fed(&["canon", "-"], &module);
             assert_eq!(listed.said, held.said, "{}", path.display());
