@@ -61,7 +61,8 @@ Usage: wakemiono names FILE [--kind KIND] [--beside NAMES] [--wide] [--json]
 Each line is `KIND INDICES OFFSET NAME`, in the order of the name section: no index for module; one
 for function, type, tag and kept; two for local (its function first) and field (its type first).
 The offset counts from the start of the module. What is not printable in a name, or is drawn as
-nothing, is escaped.
+nothing, is escaped. `kept ID` is no name: it is a subsection of the name section whose id the edition
+does not know, shown as it is.
 
 Where the first edition has kept 3 and 5 to 9, the wider one has names: label with two indices (its
 function first), and table, memory, global, element and data with one.
@@ -102,7 +103,8 @@ Usage: wakemiono name FILE QUESTION [--beside NAMES] [--wide] [--json]
   --type N                  the name of type N
   --type N --field M        the name of field M in type N
   --tag N                   the name of tag N
-  --kept ID                 the contents of the kept subsection ID of the name section
+  --kept ID                 the contents of subsection ID of the name section, which the edition
+                            does not know and keeps as they are
 
 With --wide, which asks the wider edition of names, also:
 

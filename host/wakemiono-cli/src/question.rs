@@ -80,6 +80,11 @@ impl Kind {
     }
 }
 
+/// What `kept` means, for a person who sees it in a listing.
+pub const KEPT_MEANS: &str =
+    "wakemiono: `kept ID` is a subsection of the name section whose id this \
+     edition of names does not know: it is shown, and kept, as it is.\n";
+
 /// A question to a module's names.
 #[derive(Clone, Copy, Debug, PartialEq, Eq)]
 pub enum Question {

@@ -72,7 +72,7 @@ impl Refused {
             words.push('\n');
         }
         words.push_str("  what to do: ");
-        words.push_str(refusal.reason().advice());
+        words.push_str(refusal.advice());
         words.push('\n');
         words
     }
@@ -92,7 +92,7 @@ impl Refused {
             ("offset", Json::Number(offset)),
             ("offset_hex", Json::text(format!("{offset:#X}"))),
             ("sentence", Json::text(self.refusal.to_string())),
-            ("advice", Json::text(self.refusal.reason().advice())),
+            ("advice", Json::text(self.refusal.advice())),
             ("bytes_from", Json::Number(self.bytes_from)),
             ("bytes", Json::bytes(&self.bytes)),
         ])

@@ -5,8 +5,8 @@ mod common;
 use std::fs;
 
 use common::{
-    custom, fed, file, hinted, hinted_code, joined, long_named, named, old_hinted, path, run, BARE,
-    EVERY_KIND, MODULE,
+    custom, fed, file, hinted, hinted_code, joined, long_named, meaning, named, old_hinted, path,
+    run, BARE, EVERY_KIND, MODULE,
 };
 
 #[test]
@@ -101,6 +101,24 @@ fn names_of_every_kind() {
     for (kind, row) in rows {
         run(&["names", &module, &format!("--kind={kind}")]).prints(row);
     }
+}
+
+/// Who sees a kept subsection is told what that is, and nobody else; programs are not.
+#[test]
+fn what_kept_means_is_said_where_it_is_printed() {
+    let module = file("kept.wasm", &named(EVERY_KIND));
+    let kept = run(&["names", &module, "--kind", "kept"]);
+    assert!(kept
+        .said
+        .starts_with("wakemiono: `kept ID` is a subsection "));
+    assert_eq!(run(&["names", &module, "--kind", "tag"]).said, "");
+    assert_eq!(run(&["names", &module, "--json"]).said, "");
+    let compared = fed(&["same", &module, "-"], &named(&EVERY_KIND[..18]));
+    compared.ends(
+        1,
+        &format!("not the same\nkept 3\n{module}: \\xFF\nstandard input: none\n"),
+    );
+    assert_eq!(compared.said, kept.said);
 }
 
 #[test]
@@ -381,7 +399,8 @@ fn same_without_a_name_section_is_same_as_no_names() {
 fn told_apart(name: &str, a: &[u8], b: &[u8]) -> String {
     let file = file(name, &named(a));
     let compared = fed(&["same", &file, "-"], &named(b));
-    assert_eq!((compared.status, compared.said.as_str()), (1, ""));
+    assert_eq!(compared.status, 1);
+    assert_eq!(compared.said, meaning(compared.out()));
     compared
         .out()
         .replace(&file, "a")

@@ -2,6 +2,9 @@
 
 mod common;
 
+use std::fs;
+use std::path::Path;
+
 use common::{
     fed, file, hinted, hinted_code, joined, named, old_hinted, BARE, MODULE, NO_SUCH_SECTION,
 };
@@ -26,6 +29,31 @@ fn in_words_with_the_bytes_around_the_fault() {
         refused.ends(1, "");
         assert_eq!(refused.said, NO_SUCH_SECTION_WORDS);
     }
+}
+
+/// What is read is a file, and nobody has lent lists or an output: no refusal advises about these.
+#[test]
+fn with_advice_for_a_file_alone() {
+    let not_text = fed(&["names", "-"], &named(b"\x00\x02\x01\xFF"));
+    let advice = "what to do: a name was written in another encoding: a fault of the producer\n";
+    assert!(not_text.said.ends_with(advice), "{}", not_text.said);
+    let folder = Path::new(env!("CARGO_MANIFEST_DIR")).join("../fixtures");
+    let mut refused = 0;
+    for entry in fs::read_dir(folder).expect("host/fixtures can be read") {
+        let path = entry.unwrap().path();
+        if path.extension().is_none_or(|kind| kind != "wasm") {
+            continue;
+        }
+        let judged = fed(&["judge", "-", "--wide"], &fs::read(&path).unwrap());
+        let lines = judged.out().lines();
+        for advice in lines.filter_map(|line| line.strip_prefix("  what to do: ")) {
+            for of_calls in ["lists", "buffer", "call again", "lend"] {
+                assert!(!advice.contains(of_calls), "{}: {advice}", path.display());
+            }
+            refused += 1;
+        }
+    }
+    assert!(refused >= 50, "{refused}");
 }
 
 #[test]
@@ -68,8 +96,7 @@ fn with_offsets_from_the_start_of_the_module() {
          \x20 00000000  00 61 73 6D 01 00 00 00 00 0E 04 6E 61 6D 65 01  |.asm.......name.|\n\
          \x20 00000010  07 02 03 01 62 03 01 61                          |....b..a|\n\
          \x20                          ^^\n\
-         \x20 what to do: a map is not sorted or names an index twice; from lists, sort them and \
-         name each index once\n"
+         \x20 what to do: a map is not sorted or names an index twice: a fault of the producer\n"
     );
     let why = fed(&["why", "-", "--function", "3"], &damaged);
     why.ends(1, "");

@@ -5,7 +5,7 @@ mod common;
 use std::fs;
 
 use common::{
-    fed, file, named, path, run, ASK_NAMES, BARE, COMMANDS, EVERY_WIDE_KIND, MODULE, WIDE,
+    fed, file, meaning, named, path, run, ASK_NAMES, BARE, COMMANDS, EVERY_WIDE_KIND, MODULE, WIDE,
 };
 
 /// An empty map of globals, which the wider edition drops and the first keeps.
@@ -116,7 +116,8 @@ fn told_apart(name: &str, options: &[&str], a: &[u8], b: &[u8]) -> String {
         &[&["same", file.as_str(), "-"], options].concat(),
         &named(b),
     );
-    assert_eq!((compared.status, compared.said.as_str()), (1, ""));
+    assert_eq!(compared.status, 1);
+    assert_eq!(compared.said, meaning(compared.out()));
     compared
         .out()
         .replace(&file, "a")

@@ -400,6 +400,33 @@ impl Refusal {
         self.reason
     }
 
+    /// What to do about this very refusal: as [`Reason::advice`], which speaks of both bytes and lists
+    /// where either may have been lent, but only of what was.
+    ///
+    /// ```
+    /// use wakemiono::NamePayload;
+    ///
+    /// let refusal = NamePayload::new(&[0x00, 0x02, 0x01, 0xFF]).judge().unwrap_err();
+    /// let advice = "a name was written in another encoding: a fault of the producer";
+    /// assert_eq!(refusal.advice(), advice);
+    /// ```
+    #[must_use]
+    pub const fn advice(&self) -> &'static str {
+        match (self.reason, self.lent) {
+            (Reason::NotText, Lent::Bytes) => {
+                "a name was written in another encoding: a fault of the producer"
+            }
+            (Reason::NotText, Lent::Lists) => {
+                "a name is written in another encoding: mend the name that starts there"
+            }
+            (Reason::NotRising, Lent::Bytes) => {
+                "a map is not sorted or names an index twice: a fault of the producer"
+            }
+            (Reason::NotRising, Lent::Lists) => "sort the lists, and name each index once",
+            (reason, _) => reason.advice(),
+        }
+    }
+
     /// The refusal of a payload that lies in a module, as it is counted from the module's start: what
     /// a question put through the module gives. It is for a payload that was taken out of a module
     /// which a [`Stream`](crate::Stream) has walked over.

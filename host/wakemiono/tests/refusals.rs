@@ -363,6 +363,26 @@ fn their_numbers_are_1_to_15_and_17_to_30() {
     }
 }
 
+/// A refusal of bytes does not advise about lists, nor one of lists about a producer.
+#[test]
+fn advice_is_about_what_was_lent() {
+    for payload in [&[0x00, 0x02, 0x01, 0xFF][..], &[1, 5, 2, 0, 0, 0, 0]] {
+        let refusal = NamePayload::new(payload).judge().unwrap_err();
+        assert!(!refusal.advice().contains("lists"), "{refusal}");
+        assert!(
+            refusal.reason().advice().contains("from lists"),
+            "{refusal}"
+        );
+    }
+    for names in [[(0, &b"\xFF"[..]), (1, b"b")], [(0, b"a"), (0, b"b")]] {
+        let names = names.map(|(index, name)| (FunctionIndex(index), name));
+        let refusal = function_names(names).unwrap_err();
+        assert!(!refusal.advice().contains("producer"), "{refusal}");
+    }
+    let refusal = Module::new(&[]).section_count().unwrap_err();
+    assert_eq!(refusal.advice(), refusal.reason().advice());
+}
+
 #[test]
 fn the_readme_gives_the_same_advice() {
     let readme = Path::new(env!("CARGO_MANIFEST_DIR")).join("../../README.md");

@@ -10,7 +10,7 @@ use crate::input::Input;
 use crate::json::Json;
 use crate::parallel;
 use crate::payloads;
-use crate::question::{Answer, Kind, Question};
+use crate::question::{Answer, Kind, Question, KEPT_MEANS};
 use crate::report::{Failure, Report, Status};
 
 /// A name in the listing.
@@ -85,7 +85,7 @@ fn rows<'a, E: Edition>(
     asked.into_iter().collect()
 }
 
-/// The rows in JSON or as lines, and a sentence for a person who sees none of these.
+/// The rows in JSON or as lines, and a sentence for a person who sees none of these, or sees kept ones.
 fn reported(
     members: Vec<(&'static str, Json)>,
     rows: &[Row<'_>],
@@ -97,7 +97,12 @@ fn reported(
         let document = Json::Object([members, names].concat());
         return Report::json(Status::Good, &document);
     }
-    let said = if rows.is_empty() { none } else { "" };
+    let has_kept = rows.iter().any(|row| row.question.kind() == Kind::Kept);
+    let said = match rows {
+        [] => none,
+        _ if has_kept => KEPT_MEANS,
+        _ => "",
+    };
     Report::good(rows.iter().map(line).collect::<String>()).saying(said)
 }
 

@@ -5,7 +5,7 @@ use crate::edition::Edition;
 use crate::input::Input;
 use crate::json::Json;
 use crate::payloads;
-use crate::question::{self, Answer, Question};
+use crate::question::{self, Answer, Kind, Question, KEPT_MEANS};
 use crate::report::{Failure, Report, Status};
 
 /// Compares the names of two modules, within one edition.
@@ -18,11 +18,15 @@ pub fn run<E: Edition>(a: &Input<E>, b: &Input<E>, json: bool) -> Result<Report,
         Some(Difference::asked(question, a, b)?)
     };
     let status = Status::good_if(difference.is_none());
-    Ok(if json {
-        Report::json(status, &document(a, b, difference.as_ref()))
-    } else {
-        Report::ending(status, lines(a, b, difference.as_ref()))
-    })
+    if json {
+        return Ok(Report::json(status, &document(a, b, difference.as_ref())));
+    }
+    let is_kept = |it: &Difference<'_>| it.question.kind() == Kind::Kept;
+    let said = match &difference {
+        Some(difference) if is_kept(difference) => KEPT_MEANS,
+        _ => "",
+    };
+    Ok(Report::ending(status, lines(a, b, difference.as_ref())).saying(said))
 }
 
 fn canonical_of<E: Edition>(input: &Input<E>) -> Result<Vec<u8>, Failure> {

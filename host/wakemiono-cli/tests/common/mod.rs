@@ -118,11 +118,11 @@ impl Run {
         std::str::from_utf8(&self.bytes).expect("it prints text")
     }
 
-    /// It printed this, had nothing else to say and ended well.
+    /// It printed this, had nothing else to say than what that means and ended well.
     #[track_caller]
     pub fn prints(&self, out: &str) {
         self.ends(0, out);
-        assert_eq!(self.said, "");
+        assert_eq!(self.said, meaning(out));
     }
 
     /// It printed this and ended so.
@@ -144,6 +144,16 @@ impl Run {
         self.ends(status, &format!("{json}\n"));
         assert_eq!(self.said, "");
         json::check(json);
+    }
+}
+
+/// What is said beside lines of names: where some are kept, what that means, and else nothing.
+pub fn meaning(out: &str) -> &'static str {
+    if out.lines().any(|line| line.starts_with("kept ")) {
+        "wakemiono: `kept ID` is a subsection of the name section whose id this edition of names \
+         does not know: it is shown, and kept, as it is.\n"
+    } else {
+        ""
     }
 }
 
