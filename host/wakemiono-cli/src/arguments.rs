@@ -6,6 +6,7 @@ use std::ffi::{OsStr, OsString};
 
 use wakemiono::{First, FunctionIndex, LocalIndex, Wider};
 
+use crate::commands::same::Shown;
 use crate::edition::Edition;
 use crate::escape;
 use crate::input::STANDARD_STREAM;
@@ -17,6 +18,9 @@ const HELP: &str = "help";
 
 /// The option that names a file of names beside a module.
 const BESIDE: &str = "--beside";
+
+/// The option that asks for every difference.
+const ALL: &str = "--all";
 
 /// The option that asks for the hints of the older edition.
 const OLD_HINTS: &str = "--old-hints";
@@ -63,8 +67,8 @@ pub enum Command {
     /// The names of a module and of a file beside it in one canonical payload, written to a file
     /// where one is given.
     Join(OsString, OsString, Option<OsString>),
-    /// Whether two modules have the same names.
-    Same(OsString, OsString),
+    /// Whether two modules have the same names, and what of the differences is shown.
+    Same(OsString, OsString, Shown),
     /// Whether a module and its payloads are accepted.
     Judge(OsString),
 }
@@ -128,7 +132,8 @@ impl Topic {
             Topic::Why => (&["--json", "--wide"], &["--function", "--local"]),
             Topic::Canon => (&["--json", "--wide", OLD_HINTS], &["-o"]),
             Topic::Join => (&["--json", "--wide"], &["-o"]),
-            Topic::Same | Topic::Judge => (&["--json", "--wide"], &[]),
+            Topic::Same => (&["--json", "--wide", ALL], &[]),
+            Topic::Judge => (&["--json", "--wide"], &[]),
             Topic::List | Topic::Hints => (&["--json"], &[]),
         };
         Takes { flags, valued }
@@ -282,7 +287,12 @@ fn join(given: &Given) -> Result<Command, String> {
 
 fn same(given: &Given) -> Result<Command, String> {
     let (a, b) = two_files(given, "two files are compared")?;
-    Ok(Command::Same(a, b))
+    let shown = if given.has(ALL) {
+        Shown::All
+    } else {
+        Shown::First
+    };
+    Ok(Command::Same(a, b, shown))
 }
 
 /// The two files that a command needs, of which it says what is done with them.

@@ -227,12 +227,15 @@ const SAME: &str = "\
 Says whether the name payloads of two modules would share one entry: whether every question about
 names gets the same answer from both, which is whether their canonical payloads are equal.
 
-Usage: wakemiono same A B [--wide] [--json]
+Usage: wakemiono same A B [--all] [--wide] [--json]
 
 Where they are not the same, it prints the first question that tells them apart and both answers,
 and the exit status is 1. A module without a name section gives none to every question. One of the
-files may be - for standard input.
+files may be - for standard input. `kept ID` asks for a subsection of the name section whose id the
+edition does not know.
 
+  --all    print every question that tells them apart and its answers, in the order of payloads; each
+           is one question to both modules, so that the time grows as it does with `wakemiono names`
   --wide   compare within the wider edition of names, with its questions
 
 Example: wakemiono same old.wasm new.wasm

@@ -3,10 +3,11 @@
 mod common;
 
 use std::fs;
+use std::path::Path;
 
 use common::{
-    custom, fed, file, hinted, hinted_code, joined, long_named, meaning, named, old_hinted, path,
-    run, BARE, EVERY_KIND, MODULE,
+    custom, fed, file, hinted, hinted_code, joined, json, long_named, meaning, named, old_hinted,
+    path, run, BARE, EVERY_KIND, MODULE,
 };
 
 #[test]
@@ -427,6 +428,50 @@ fn not_the_same_gives_the_first_question_and_both_answers() {
     );
     let lines = "not the same\nmodule\na: none\nb: \n";
     assert_eq!(told_apart("apart-empty", b"", b"\x00\x01\x00"), lines);
+}
+
+#[test]
+fn every_difference_in_the_order_of_payloads() {
+    // Another module name, a function more on each side, one that both have, and a local.
+    let a = b"\x00\x02\x01m\x01\x0A\x03\x00\x01a\x03\x01b\x05\x01c\x02\x06\x01\x03\x01\x00\x01x";
+    let b = b"\x00\x02\x01n\x01\x0A\x03\x00\x01a\x04\x01d\x05\x01e";
+    let (a, b) = (file("all-a", &named(a)), file("all-b", &named(b)));
+    let all = run(&["same", &a, &b, "--all"]);
+    let told = [
+        ("module", "m", "n"),
+        ("function 3", "b", "none"),
+        ("function 4", "none", "d"),
+        ("function 5", "c", "e"),
+        ("local 3 0", "x", "none"),
+    ];
+    let block = |(question, of_a, of_b): &(&str, &str, &str)| {
+        format!("{question}\n{a}: {of_a}\n{b}: {of_b}\n")
+    };
+    let blocks: Vec<String> = told.iter().map(block).collect();
+    all.ends(1, &format!("not the same\n{}", blocks.concat()));
+    assert_eq!(all.said, "");
+    run(&["same", &a, &b]).ends(1, &format!("not the same\n{}", blocks[0]));
+    run(&["same", &a, &a, "--all"]).prints("same\n");
+    let json = run(&["same", &a, &a, "--all", "--json"]);
+    assert!(json.out().ends_with(",\"same\":true,\"differences\":[]}\n"));
+    let json = run(&["same", &a, &b, "--all", "--json"]);
+    json::check(json.out().trim_end());
+    assert_eq!(json.status, 1);
+    assert_eq!(json.out().matches("\"question\":").count(), told.len());
+}
+
+/// Each difference is asked on the way: what one module has and the other has not is all that it has.
+#[test]
+fn every_name_of_a_module_tells_it_from_a_stripped_one() {
+    let folder = Path::new(env!("CARGO_MANIFEST_DIR")).join("../fixtures");
+    for fixture in ["clang-lld.wasm", "wabt-wide.wasm", "rustc.wasm"] {
+        let module = folder.join(fixture).into_os_string().into_string().unwrap();
+        let names = run(&["names", &module, "--wide"]);
+        let compared = fed(&["same", &module, "-", "--all", "--wide"], BARE);
+        let questions = names.out().lines().count();
+        assert!(questions > 1, "{fixture}");
+        assert_eq!(compared.out().lines().count(), 1 + 3 * questions);
+    }
 }
 
 #[test]

@@ -8,7 +8,7 @@ mod judge;
 mod list;
 mod name;
 mod names;
-mod same;
+pub mod same;
 mod why;
 
 use wakemiono::{First, Wider};
@@ -46,7 +46,9 @@ fn run_in<E: Edition>(command: &Command, json: bool) -> Result<Report, Failure> 
         Command::Canon(file, out) => canon::names::<E>(file, out.as_deref(), json),
         Command::CanonOldHints(file, out) => canon::old_hints(file, out.as_deref(), json),
         Command::Join(file, names, out) => join::run::<E>(file, names, out.as_deref(), json),
-        Command::Same(a, b) => same::run(&Input::<E>::read(a)?, &Input::read(b)?, json),
+        Command::Same(a, b, shown) => {
+            same::run(&Input::<E>::read(a)?, &Input::read(b)?, *shown, json)
+        }
         Command::Judge(file) => judge::run::<E>(file, json),
     }
 }
