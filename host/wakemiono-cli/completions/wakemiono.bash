@@ -21,7 +21,7 @@ _wakemiono() {
         *:name) choices='--json --wide --module --function --local --label --type --field --tag --table --memory --global --element --data --kept --beside --help' ;;
         *:why) choices='--json --wide --function --local --help' ;;
         *:hints) choices='--json --help' ;;
-        *:canon) choices='--json --wide --old-hints -o --help' ;;
+        *:canon) choices='--json --wide --old-hints --in-module -o --help' ;;
         *:join) choices='--json --wide -o --help' ;;
         *:same) choices='--json --wide --all --help' ;;
         *:judge) choices='--json --wide --help' ;;

@@ -58,6 +58,7 @@ complete -c wakemiono -n '__wakemiono_with hints' -l json -d 'one JSON value on 
 complete -c wakemiono -n '__wakemiono_with canon' -l json -d 'one JSON value on one line, for programs'
 complete -c wakemiono -n '__wakemiono_with canon' -l wide -d 'ask the wider edition of names'
 complete -c wakemiono -n '__wakemiono_with canon' -l old-hints -d 'rewrite the hints of the older edition'
+complete -c wakemiono -n '__wakemiono_with canon' -l in-module -d 'put the canonical names in place, and make the whole module'
 complete -c wakemiono -n '__wakemiono_with canon' -s o -r -F -d 'write to a file; - is standard output'
 
 complete -c wakemiono -n '__wakemiono_with join' -l json -d 'one JSON value on one line, for programs'

@@ -25,6 +25,9 @@ const ALL: &str = "--all";
 /// The option that asks for the hints of the older edition.
 const OLD_HINTS: &str = "--old-hints";
 
+/// The option that asks for the whole module with canonical names in it.
+const IN_MODULE: &str = "--in-module";
+
 /// What the program is to do.
 #[derive(Debug, PartialEq, Eq)]
 pub enum Invocation {
@@ -62,6 +65,8 @@ pub enum Command {
     Hints(OsString),
     /// The canonical name payload, written to a file where one is given.
     Canon(OsString, Option<OsString>),
+    /// The same in the place of the payload: the whole module.
+    CanonInModule(OsString, Option<OsString>),
     /// The same of the hints of the older edition.
     CanonOldHints(OsString, Option<OsString>),
     /// The names of a module and of a file beside it in one canonical payload, written to a file
@@ -130,7 +135,7 @@ impl Topic {
             Topic::Names => (&["--json", "--wide"], &["--kind", BESIDE]),
             Topic::Name => (&["--json", "--wide", "--module"], asked::OPTIONS),
             Topic::Why => (&["--json", "--wide"], &["--function", "--local"]),
-            Topic::Canon => (&["--json", "--wide", OLD_HINTS], &["-o"]),
+            Topic::Canon => (&["--json", "--wide", OLD_HINTS, IN_MODULE], &["-o"]),
             Topic::Join => (&["--json", "--wide"], &["-o"]),
             Topic::Same => (&["--json", "--wide", ALL], &[]),
             Topic::Judge => (&["--json", "--wide"], &[]),
@@ -261,9 +266,16 @@ fn canon(given: &Given) -> Result<Command, String> {
             "--wide is about names, and {OLD_HINTS} rewrites hints: leave out one of the two"
         ));
     }
+    if given.has(OLD_HINTS) && given.has(IN_MODULE) {
+        return Err(format!(
+            "{IN_MODULE} puts names in place, and {OLD_HINTS} rewrites hints: leave out one of the two"
+        ));
+    }
     let (file, out) = (one_file(given)?, output(given)?);
     Ok(if given.has(OLD_HINTS) {
         Command::CanonOldHints(file, out)
+    } else if given.has(IN_MODULE) {
+        Command::CanonInModule(file, out)
     } else {
         Command::Canon(file, out)
     })
@@ -365,7 +377,7 @@ fn output(given: &Given) -> Result<Option<OsString>, String> {
     let out = given.value("-o");
     if out == Some(OsStr::new(STANDARD_STREAM)) && given.has("--json") {
         return Err(
-            "the payload and JSON cannot both go to standard output: leave out --json, \
+            "what is written and JSON cannot both go to standard output: leave out --json, \
              or give a file behind -o"
                 .to_owned(),
         );

@@ -181,13 +181,16 @@ Example: wakemiono hints app.wasm
 const CANON: &str = "\
 Rewrites the name payload of a module in its canonical form: the same names in the fewest bytes.
 
-Usage: wakemiono canon FILE [-o OUT] [--wide | --old-hints] [--json]
+Usage: wakemiono canon FILE [-o OUT] [--in-module] [--wide | --old-hints] [--json]
 
 Without -o it prints how many bytes the payload has before and after, and what that saves; where the
-payload is canonical already, it says so. A module without a name section has
-an empty canonical payload.
+payload is canonical already, it says so. A module without a name section has an empty canonical
+payload.
 
   -o OUT        write the canonical payload to the file OUT, over what is there; - is standard output
+  --in-module   write, or count, the whole module with the canonical payload in its place: the size of
+                the name section is in its fewest bytes, and every other byte is as it was. Without a
+                name section the module stays as it is. It does not go with --old-hints
   --wide        rewrite in the wider edition of names; canonical forms of two editions are not
                 comparable
   --old-hints   rewrite the hints of the older edition, the section branchHints: by function and
@@ -199,6 +202,8 @@ Example: wakemiono canon app.wasm
   before 23
   after 21
   saves 2 (8.6 %)
+
+Example: wakemiono canon app.wasm --in-module -o smaller.wasm
 ";
 
 const JOIN: &str = "\

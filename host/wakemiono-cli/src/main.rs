@@ -3,8 +3,9 @@
 //! Every name, reason for none, hint, judgement, refusal and rewriting that is printed comes from the
 //! proved library behind the crate `wakemiono`, and so do the places of the payloads in `list`. The
 //! sections that it lists are found here: plain Rust (`heads.rs`), which steps over a module that the
-//! library accepts and counts, and is held to the library's `wm_section` by tests. This program only
-//! reads and writes files, finds out what there is to ask, and sets the answers in lines or JSON.
+//! library accepts and counts, and is held to the library's `wm_section` by tests. So is the place found
+//! where `canon --in-module` puts canonical names (`in_place.rs`), and the library is asked whether what
+//! is made has them. This program only reads and writes files, finds out what there is to ask, and sets the answers in lines or JSON.
 //!
 //! `list` and `judge` give a module to the library as it is read and do not hold it whole
 //! (`arriving.rs`); the others ask more than one question, and read it whole first (`input.rs`).
@@ -23,6 +24,7 @@ mod escape;
 mod excerpt;
 mod heads;
 mod help;
+mod in_place;
 mod input;
 mod json;
 mod options;

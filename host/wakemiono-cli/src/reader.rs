@@ -1,4 +1,4 @@
-//! Reading left to right: bytes, numbers and sized parts.
+//! Reading left to right: bytes, numbers and sized parts; and how a number is written.
 
 /// The most bytes that a number takes.
 pub const LONGEST_NUMBER: usize = 5;
@@ -48,5 +48,35 @@ impl<'a> Reader<'a> {
         let part = self.0.get(..length)?;
         self.0 = &self.0[length..];
         Some(part)
+    }
+}
+
+/// A number in its fewest bytes.
+pub fn number_bytes(number: u32) -> Vec<u8> {
+    let mut bytes = Vec::new();
+    let mut rest = number;
+    while rest > u32::from(BITS) {
+        bytes.push(rest as u8 | GOES_ON);
+        rest >>= BITS_IN_A_BYTE;
+    }
+    bytes.push(rest as u8);
+    bytes
+}
+
+#[cfg(test)]
+mod tests {
+    use super::*;
+
+    #[test]
+    fn numbers_in_their_fewest_bytes() {
+        let written = |number: u32, bytes: &[u8]| {
+            assert_eq!(number_bytes(number), bytes);
+            assert_eq!(Reader(bytes).number(), Some(number));
+        };
+        written(0, &[0x00]);
+        written(0x7F, &[0x7F]);
+        written(0x80, &[0x80, 0x01]);
+        written(624_485, &[0xE5, 0x8E, 0x26]);
+        written(u32::MAX, &[0xFF, 0xFF, 0xFF, 0xFF, 0x0F]);
     }
 }

@@ -326,7 +326,7 @@ fn misuse() {
         "--beside needs a value: write it behind --beside; see `wakemiono names --help`.",
     );
     run(&["join", "a", "b", "-o", "-", "--json"]).is_misuse(
-        "the payload and JSON cannot both go to standard output: leave out --json, or give a file \
+        "what is written and JSON cannot both go to standard output: leave out --json, or give a file \
          behind -o; see `wakemiono join --help`.",
     );
     let missing = path("there-is-no-such-file");

@@ -266,7 +266,7 @@ fn outputs_that_cannot_be_written() {
         written.said
     );
     fed(&["canon", "-", "-o", "-", "--json"], MODULE).is_misuse(
-        "the payload and JSON cannot both go to standard output: leave out --json, or give a file \
+        "what is written and JSON cannot both go to standard output: leave out --json, or give a file \
          behind -o; see `wakemiono canon --help`.",
     );
 }

@@ -44,6 +44,7 @@ fn run_in<E: Edition>(command: &Command, json: bool) -> Result<Report, Failure> 
         }
         Command::Hints(file) => hints::run(&Input::read(file)?, json),
         Command::Canon(file, out) => canon::names::<E>(file, out.as_deref(), json),
+        Command::CanonInModule(file, out) => canon::in_module::<E>(file, out.as_deref(), json),
         Command::CanonOldHints(file, out) => canon::old_hints(file, out.as_deref(), json),
         Command::Join(file, names, out) => join::run::<E>(file, names, out.as_deref(), json),
         Command::Same(a, b, shown) => {
