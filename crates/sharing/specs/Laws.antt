@@ -13,7 +13,6 @@ pub mod Moving
 pub mod Histories
 pub mod Users
 pub mod Ledger
-pub mod AllCalls
 pub mod NeverDamaged
 pub mod Doing
 pub mod Events

@@ -13,14 +13,13 @@ use borrow.Author.Tests.{eqb-true, eq-eqb}
 use Rattle.format.specs.Laws.Outcomes.{byTest, onBoth, and-false, and-true}
 use Rattle.format.specs.Reading.{Judged, refused, accepted}
 use Rattle.sharing.specs.Events.{Event, event, Past, begun, called, yes, isHold, turned, ifGranted, isForm, hasForm, opensOne, closesOne, openedWith, opens, closes}
-use Rattle.sharing.specs.Laws.AllCalls.{no-users}
 use Rattle.sharing.specs.Laws.Blocks.{no-false}
 use Rattle.sharing.specs.Laws.Doing.{Does, does, refuses, grants, says-nothing, shows, shuts, tidies}
 use Rattle.sharing.specs.Laws.Histories.{refines, starts, nobody}
 use Rattle.sharing.specs.Laws.Isolation.{desk-length, not-some}
 use Rattle.sharing.specs.Laws.Ledger.{opensBy, closesBy, one-turn}
 use Rattle.sharing.specs.Laws.Standing.{Stands}
-use Rattle.sharing.specs.Laws.Users.{has, usersOf}
+use Rattle.sharing.specs.Laws.Users.{has, usersOf, no-users}
 use Rattle.sharing.specs.Model.{Payloads, Call, opening, asking, closing, tidying, Answer, desk, Entry, Model, Change, keep, put, Act, customer, changed, acting, next}
 use Rattle.sharing.specs.Step.{step}
 use Rattle.sharing.specs.Table.{Table}

@@ -1,18 +1,15 @@
--- Every call on a table that stands for a model answers as the model; so does a history.
+-- Every call on a table that stands for a model answers as the model, and a table that was started stands for one.
 use Prim.Native.Nat.{ℕ, zero, suc, _+_, _-_, _*_, _≤_, _<_}
 use mathlib.Core.Path.{_≡_, refl, sym, ap, ap₂, _∙_}
-use mathlib.Core.Bool.{Bool, true}
+use mathlib.Core.Bool.{true}
 use mathlib.Core.List.{List, [], _∷_, _++_, map}
 use mathlib.Core.Option.{none, some}
 use native.Mathlib.Omega.{arith}
 use lib.ListN.{length, take, drop, replicate, length-replicate, length-drop, take-append-drop}
 use lib.Seq.{length-take-le}
-use Rattle.format.specs.Laws.Outcomes.{byTest}
 use Rattle.sharing.specs.Laws.Blocks.{no-false, Whole}
 use Rattle.sharing.specs.Blocks.{cut, join}
-use Rattle.sharing.specs.Model.{Payloads, Call, opening, asking, closing, tidying, Answer, refusal, tidied, Model, acts, customer, changed, acting, next, act, keep}
-use Rattle.sharing.specs.Laws.Isolation.{Turn, said, heard, isolated}
-use Rattle.sharing.specs.Histories.{owns, spoken, told, Roomy, said-more}
+use Rattle.sharing.specs.Model.{Payloads, Call, opening, asking, closing, tidying, tidied, Model, acts, customer, changed, acting, next, act, keep}
 use Rattle.sharing.specs.Table.{Table, Mark, blank, started, rowsRight}
 use Rattle.sharing.specs.Step.{fitting, step, tidy}
 use Rattle.sharing.specs.Laws.Shelf.{gap, Shelf, size}
@@ -96,45 +93,3 @@ starts P s n e h k =
       };
       all = length-replicate {A = ℕ} 128 0;
     }
-
-abbrev withRoom : Call → Turn
-withRoom call = record { room = true; call = call }
-
-pub record Followed (P : Payloads) (c : ℕ) (t : Table) (s : List ℕ) (m : Model) (calls : List Call) : Type 0 where
-  pub turns : List Turn
-  pub alike : told P c t s calls ≡ heard P c m turns
-  pub own : said c turns ≡ map withRoom (spoken c calls)
-
-roomy-head : {a : Answer} {l : List Answer} → Roomy (a ∷ l) → (buffer : List ℕ) → a ≡ refusal 26 0 buffer → ⊥
-roomy-head (said-more f r) = f
-
-roomy-tail : {a : Answer} {l : List Answer} → Roomy (a ∷ l) → Roomy l
-roomy-tail (said-more f r) = r
-
-pub follow : (P : Payloads) (c : ℕ) (calls : List Call) (t : Table) (s : List ℕ) (m : Model) → Stands P t s m → Roomy (told P c t s calls) → Followed P c t s m calls
-unfolding told spoken heard said next
-follow P c [] t s m st r = record { turns = []; alike = refl; own = refl }
-follow P c (call ∷ calls) t s m st r =
-    let x = refines P t s m st call in
-    byTest (owns c call)
-    (λ o. let q : Roomy (step P t s call .answer ∷ told P c (step P t s call .table) (step P t s call .store) calls) = rw o at r in
-    let g : x .room ≡ true = byTest (x .room) (λ k. k) (λ k. absurd (let f = x .full k in roomy-head q (f .0) (f .1))) in
-    let y = follow P c calls (step P t s call .table) (step P t s call .store) (next P (x .room) m call) (x .stands) (roomy-tail q) in
-    record {
-      turns = record { room = x .room; call = call } ∷ y .turns;
-      alike = rw o (ap₂ (λ (a : Answer) (l : List Answer). a ∷ l) (x .answers) (y .alike));
-      own = rw o (ap₂ (λ (k : Turn) (l : List Turn). k ∷ l) (ap (λ (k : Bool). record { room = k; call = call }) g) (y .own));
-    })
-    (λ o. let y = follow P c calls (step P t s call .table) (step P t s call .store) (next P (x .room) m call) (x .stands) (rw o at r) in
-    record { turns = record { room = x .room; call = call } ∷ y .turns; alike = rw o (y .alike); own = rw o (y .own) })
-
--- Isolation: two histories over stores of any sizes and contents that agree on one customer's calls answer that customer alike
-pub isolation : (P : Payloads) (c : ℕ) (calls others : List Call) (s r : List ℕ) (n k : ℕ)
-    → length s ≡ n * 512 → 0 < n → n ≤ 128 → length r ≡ k * 512 → 0 < k → k ≤ 128
-    → Roomy (told P c (started (length s)) s calls) → Roomy (told P c (started (length r)) r others)
-    → spoken c calls ≡ spoken c others
-    → told P c (started (length s)) s calls ≡ told P c (started (length r)) r others
-isolation P c calls others s r n k e e₁ e₂ f f₁ f₂ x y z =
-    let a = follow P c calls (started (length s)) s nobody (starts P s n e e₁ e₂) x in
-    let b = follow P c others (started (length r)) r nobody (starts P r k f f₁ f₂) y in
-    a .alike ∙ isolated P c (a .turns) (b .turns) nobody nobody refl (a .own ∙ ap (map withRoom) z ∙ sym (b .own)) ∙ sym (b .alike)

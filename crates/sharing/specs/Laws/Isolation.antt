@@ -1,7 +1,7 @@
 -- In the model a customer's answers follow from that customer's own calls.
 use Prim.Native.Nat.{ℕ, zero, suc, _+_, _-_, _*_, _≤_, _<_}
-use mathlib.Core.Path.{_≡_, refl, sym, ap, ap₂, _∙_}
-use mathlib.Core.Bool.{Bool, true, false, cond}
+use mathlib.Core.Path.{_≡_, refl, sym, ap, _∙_}
+use mathlib.Core.Bool.{Bool, true, false}
 use mathlib.Core.List.{List, [], _∷_, map}
 use mathlib.Core.Logic.{_≢_}
 use mathlib.Core.Option.{Option, none, some}
@@ -14,7 +14,7 @@ use Rattle.format.specs.Laws.Outcomes.{byTest}
 use Rattle.sharing.specs.Laws.Blocks.{no-true}
 use Rattle.format.specs.Reading.{Judged, refused, accepted}
 use Rattle.sharing.specs.Histories.{owns}
-use Rattle.sharing.specs.Model.{Payloads, Call, opening, asking, closing, tidying, Answer, desk, after, firstTrue, Front, stop, go, withHold, withWork, front, Entry, Model, vacant, Change, keep, put, roomFor, opened, asked, shut, acts, customer, changed, acting, next}
+use Rattle.sharing.specs.Model.{Payloads, Call, opening, asking, closing, tidying, desk, after, firstTrue, Front, stop, go, withHold, withWork, front, Entry, Model, vacant, Change, keep, put, roomFor, opened, asked, shut, acts, customer, changed, acting, next}
 
 -- One desk and the others
 
@@ -131,21 +131,7 @@ acts-in-desk P room own (asking c hold index out) l = byTest (ltb c 16) (λ t. r
 acts-in-desk P room own (closing c hold) l = byTest (ltb c 16) (λ t. rw t (shut-in-desk (getD own hold none) hold (λ p e. omega (arith, getD-in own hold p e)))) (λ t. rw t kept)
 acts-in-desk P room own tidying l = kept
 
--- Histories: each call with whether the store had room for it
-
-pub record Turn : Type 0 where
-  pub room : Bool
-  pub call : Call
-
--- the turns of one customer
-unfoldable pub said : ℕ → List Turn → List Turn
-said c [] = []
-said c (t ∷ ts) = cond (owns c (t .call)) (t ∷ said c ts) (said c ts)
-
--- the answers to one customer
-unfoldable pub heard : Payloads → ℕ → Model → List Turn → List Answer
-heard P c m [] = []
-heard P c m (t ∷ ts) = cond (owns c (t .call)) (acting P (t .room) m (t .call) .answer ∷ heard P c (next P (t .room) m (t .call)) ts) (heard P c (next P (t .room) m (t .call)) ts)
+-- Whose hold a call changes
 
 pub owns-is : (c : ℕ) (call : Call) → owns c call ≡ true → customer call ≡ c
 unfolding owns customer
@@ -155,23 +141,10 @@ owns-is c (closing d hold) e = sym (eqb-true c d e)
 owns-is c tidying e = absurd (no-true e)
 
 module _ (P : Payloads) (room : Bool) (c : ℕ) where
-  changed-same : (x : Change) (m n : Model) → desk c m ≡ desk c n → desk c (changed c x m) ≡ desk c (changed c x n)
-  unfolding changed
-  changed-same keep m n e = e
-  changed-same (put h v) m n e = desk-same c h m v ∙ ap (λ (d : List Entry). set d h v) e ∙ sym (desk-same c h n v)
-
   changed-other : (d : ℕ) (x : Change) (m : Model) → c ≢ d → InDesk x → desk c (changed d x m) ≡ desk c m
   unfolding changed
   changed-other d keep m n i = refl
   changed-other d (put h v) m n (within b) = desk-other c d h m v n b
-
-  own-answer : (call : Call) (m n : Model) → owns c call ≡ true → desk c m ≡ desk c n → acting P room m call .answer ≡ acting P room n call .answer
-  unfolding acting
-  own-answer call m n o e = rw (owns-is c call o, e)
-
-  own-desk : (call : Call) (m n : Model) → owns c call ≡ true → desk c m ≡ desk c n → desk c (next P room m call) ≡ desk c (next P room n call)
-  unfolding next acting
-  own-desk call m n o e = rw (owns-is c call o) (rw e (changed-same (acts P room (desk c n) call .change) m n e))
 
   pub other-desk : (call : Call) (m : Model) → owns c call ≡ false → desk c (next P room m call) ≡ desk c m
   unfolding next acting owns customer
@@ -179,16 +152,3 @@ module _ (P : Payloads) (room : Bool) (c : ℕ) where
   other-desk (asking d hold index out) m o = changed-other d (acts P room (desk d m) (asking d hold index out) .change) m (eqb-false c d o) (acts-in-desk P room (desk d m) (asking d hold index out) (desk-length d m))
   other-desk (closing d hold) m o = changed-other d (acts P room (desk d m) (closing d hold) .change) m (eqb-false c d o) (acts-in-desk P room (desk d m) (closing d hold) (desk-length d m))
   other-desk tidying m o = unfold changed acts in refl
-
--- the answers are those to the customer's turns alone
-heard-said : (P : Payloads) (c : ℕ) (ts : List Turn) (m n : Model) → desk c m ≡ desk c n → heard P c m ts ≡ heard P c n (said c ts)
-unfolding heard said
-heard-said P c [] m n e = refl
-heard-said P c (t ∷ ts) m n e = byTest (owns c (t .call))
-    (λ o. rw (o, o) (ap₂ (λ (a : Answer) (l : List Answer). a ∷ l) (own-answer P (t .room) c (t .call) m n o e)
-    (heard-said P c ts (next P (t .room) m (t .call)) (next P (t .room) n (t .call)) (own-desk P (t .room) c (t .call) m n o e))))
-    (λ o. rw o (heard-said P c ts (next P (t .room) m (t .call)) n (other-desk P (t .room) c (t .call) m o ∙ e)))
-
--- Isolation in the model
-pub isolated : (P : Payloads) (c : ℕ) (ts us : List Turn) (m n : Model) → desk c m ≡ desk c n → said c ts ≡ said c us → heard P c m ts ≡ heard P c n us
-isolated P c ts us m n e s = heard-said P c ts m n e ∙ ap (heard P c n) s ∙ sym (heard-said P c us n n refl)

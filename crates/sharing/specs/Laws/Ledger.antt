@@ -1,4 +1,4 @@
--- The users of a payload at any time are the granted opens less the granted closes of the history.
+-- A call changes the users of a payload by its granted open, or by its granted close.
 use Prim.Native.Nat.{ℕ, zero, suc, _+_, _-_, _*_, _<_}
 use mathlib.Core.Path.{_≡_, refl, sym, _∙_}
 use mathlib.Core.Bool.{Bool, true, false}
@@ -11,7 +11,7 @@ use lib.Seq.{getD-take, getD-drop}
 use Rattle.format.specs.Laws.Outcomes.{byTest}
 use Rattle.sharing.specs.Laws.Blocks.{no-false}
 use Rattle.sharing.specs.Model.{Payloads, Call, opening, asking, closing, tidying, desk, firstTrue, Front, stop, go, front, Entry, Model, vacant, Change, keep, put, roomFor, opened, asked, shut, acts, customer, changed, acting, next}
-use Rattle.sharing.specs.Laws.Isolation.{Turn, firstTrue-is, front-go, not-some}
+use Rattle.sharing.specs.Laws.Isolation.{firstTrue-is, front-go, not-some}
 use Rattle.sharing.specs.Laws.Users.{has, usersOf, users-set}
 
 -- a granted open of the payload
@@ -25,18 +25,6 @@ unfoldable pub closesBy : List ℕ → Model → ℕ → Change → ℕ
 closesBy p m c keep = 0
 closesBy p m c (put h none) = has p (getD m (c * 8 + h) none)
 closesBy p m c (put h (some q)) = 0
-
-unfoldable pub opensIn : Payloads → List ℕ → Model → List Turn → ℕ
-opensIn P p m [] = 0
-opensIn P p m (t ∷ ts) = opensBy p (acting P (t .room) m (t .call) .change) + opensIn P p (next P (t .room) m (t .call)) ts
-
-unfoldable pub closesIn : Payloads → List ℕ → Model → List Turn → ℕ
-closesIn P p m [] = 0
-closesIn P p m (t ∷ ts) = closesBy p m (customer (t .call)) (acting P (t .room) m (t .call) .change) + closesIn P p (next P (t .room) m (t .call)) ts
-
-unfoldable pub finally : Payloads → Model → List Turn → Model
-finally P m [] = m
-finally P m (t ∷ ts) = finally P (next P (t .room) m (t .call)) ts
 
 -- A change is made to a hold that there is; what is opened was unused
 data Proper (m : Model) (c : ℕ) : Change → Type 0 where
@@ -111,11 +99,3 @@ acts-proper P room m tidying = keeps
 pub one-turn : (P : Payloads) (p : List ℕ) (room : Bool) (m : Model) (call : Call) → usersOf p (next P room m call) + closesBy p m (customer call) (acting P room m call .change) ≡ usersOf p m + opensBy p (acting P room m call .change)
 unfolding next
 one-turn P p room m call = one-change p m (customer call) (acting P room m call .change) (acts-proper P room m call)
-
--- Users, opens and closes of a payload over a history
-pub ledger : (P : Payloads) (p : List ℕ) (ts : List Turn) (m : Model) → usersOf p (finally P m ts) + closesIn P p m ts ≡ usersOf p m + opensIn P p m ts
-unfolding finally closesIn opensIn
-ledger P p [] m = refl
-ledger P p (t ∷ ts) m =
-    let r : usersOf p (next P (t .room) m (t .call)) + closesBy p m (customer (t .call)) (acting P (t .room) m (t .call) .change) ≡ usersOf p m + opensBy p (acting P (t .room) m (t .call) .change) = one-turn P p (t .room) m (t .call) in
-    omega (arith, ledger P p ts (next P (t .room) m (t .call)))

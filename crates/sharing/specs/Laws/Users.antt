@@ -5,7 +5,7 @@ use mathlib.Core.Bool.{false, cond}
 use mathlib.Core.List.{List, [], _∷_}
 use mathlib.Core.Option.{none, some}
 use native.Mathlib.Omega.{arith}
-use lib.ListN.{length, getD, set}
+use lib.ListN.{length, getD, set, replicate}
 use Rattle.format.specs.Bytes.{same}
 use Rattle.format.specs.Laws.Bytes.{same-self, same-true}
 use Rattle.format.specs.Laws.Outcomes.{byTest}
@@ -59,3 +59,9 @@ no-row {sh} p f (more {e = e} k ls) = let z : has p e ≡ 0 = one f k in omega (
     one : {x : ℕ} {y : Entry} → ((b u : ℕ) → At b p u sh → ⊥) → Led sh x y → has p y ≡ 0
     one g empty = refl
     one g (led {b = b} {u = u} {p = q} a) = byTest (same q p) (λ t. absurd (g b u (rw (same-true q p t) at a))) (λ t. rw t refl)
+
+-- nobody has a payload at the start
+pub no-users : (p : List ℕ) (n : ℕ) → usersOf p (replicate n none) ≡ 0
+unfolding usersOf has
+no-users p zero = refl
+no-users p (suc n) = omega (arith, no-users p n)
