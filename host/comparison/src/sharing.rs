@@ -9,6 +9,7 @@ use crate::tally::{framed, guarded_output, GUARD, GUARD_BYTE};
 pub mod history;
 pub mod makes;
 pub mod model;
+pub mod refusals;
 
 use history::{Damage, Event, History};
 

@@ -7,16 +7,12 @@ use comparison::library::{self, TableState, Told, FOUND, NONE, PLACES, REFUSED};
 use comparison::random::{seed, Random};
 use comparison::sharing::history::{customers, Maker, Payloads, Trouble};
 use comparison::sharing::makes::LibraryTable;
+use comparison::sharing::refusals::{
+    ALL_HOLDS_OPEN, DAMAGED, NOT_OPEN, NO_CUSTOMER, NO_ROOM, OTHER_STORE,
+};
 use comparison::sharing::{
     is_store, Both, Call, Shop, Step, Table, BLOCK, CUSTOMERS, HOLDS, MOST_BLOCKS, PAYLOAD,
 };
-
-const NO_CUSTOMER: u32 = 23;
-const NOT_OPEN: u32 = 24;
-const ALL_HOLDS_OPEN: u32 = 25;
-const NO_ROOM: u32 = 26;
-const DAMAGED: u32 = 27;
-const OTHER_STORE: u32 = 30;
 
 /// Function 0 is called `a`.
 const NAMED: &[u8] = &[0x01, 0x04, 0x01, 0x00, 0x01, 0x61];

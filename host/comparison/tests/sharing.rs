@@ -8,6 +8,7 @@ use comparison::random::{seed, Random};
 use comparison::sharing::history::{customers, Event, History, Maker, Payloads, Trouble};
 use comparison::sharing::makes::LibraryTable;
 use comparison::sharing::model::{follow, Model};
+use comparison::sharing::refusals::{ALL_HOLDS_OPEN, DAMAGED, NOT_OPEN, NO_CUSTOMER, NO_ROOM};
 use comparison::sharing::{
     compare, Asked, Call, Difference, Met, Seen, Shop, Step, Table, BLOCK, CUSTOMERS, HOLDS,
     PAYLOAD,
@@ -351,12 +352,6 @@ const LOSES_A_HOLD: u8 = 6;
 const CLEARS_BEHIND: u8 = 7;
 /// What is damaged is overlooked where gaps are closed.
 const OVERLOOKS_DAMAGE: u8 = 8;
-
-const NO_CUSTOMER: u32 = 23;
-const NOT_OPEN: u32 = 24;
-const ALL_HOLDS_OPEN: u32 = 25;
-const NO_ROOM: u32 = 26;
-const DAMAGED: u32 = 27;
 
 const CLOSED: Told = Told {
     kind: FOUND,

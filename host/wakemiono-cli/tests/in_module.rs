@@ -3,18 +3,8 @@
 mod common;
 
 use std::fs;
-use std::path::{Path, PathBuf};
 
-use common::{fed, file, joined, long_named, named, path, run, BARE, MODULE};
-
-fn fixtures() -> Vec<PathBuf> {
-    let folder = Path::new(env!("CARGO_MANIFEST_DIR")).join("../fixtures");
-    let entries = fs::read_dir(folder).expect("host/fixtures can be read");
-    let paths = entries.map(|entry| entry.unwrap().path());
-    paths
-        .filter(|path| path.extension().is_some_and(|kind| kind == "wasm"))
-        .collect()
-}
+use common::{fed, file, fixtures, joined, long_named, named, path, run, BARE, MODULE};
 
 /// What a listing says of the section with names: the offset of its id, and the places of its contents
 /// and of its payload, each as offset and length.

@@ -5,10 +5,9 @@ mod common;
 
 use std::fs;
 use std::io::Write;
-use std::path::{Path, PathBuf};
 use std::process::{Child, Stdio};
 
-use common::{fed, program, Run, BARE, MODULE};
+use common::{fed, fixtures, program, Run, BARE, MODULE};
 
 /// The bytes of contents that are left out of a module of 4 GB.
 const ZEROS: usize = 4_000_000_000;
@@ -139,15 +138,6 @@ fn sections_that_are_refused_are_not_held() {
         let refused = piped(&[command, "-"], BARE, ZEROS, &[]);
         assert_eq!(refused.status, 1);
     }
-}
-
-fn fixtures() -> Vec<PathBuf> {
-    let folder = Path::new(env!("CARGO_MANIFEST_DIR")).join("../fixtures");
-    let entries = fs::read_dir(folder).expect("host/fixtures can be read");
-    let paths = entries.map(|entry| entry.unwrap().path());
-    paths
-        .filter(|path| path.extension().is_some_and(|kind| kind == "wasm"))
-        .collect()
 }
 
 /// The lines of sections: four numbers, and the name of a custom one.

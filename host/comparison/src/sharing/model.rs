@@ -8,6 +8,9 @@
 use std::collections::BTreeMap;
 use std::rc::Rc;
 
+use super::refusals::{
+    ALL_HOLDS_OPEN, DAMAGED, NOT_OPEN, NO_CUSTOMER, NO_ROOM, OTHER_STORE, OUTPUT_TOO_SHORT,
+};
 use super::{
     count, is_store, Call, Difference, Met, Seen, Shop, Step, Table, BLOCK, CUSTOMERS, HOLDS,
     PAYLOAD,
@@ -15,14 +18,6 @@ use super::{
 use crate::library::{Told, FOUND, NONE, REFUSED};
 use crate::sharing::history::{Event, History};
 use crate::tally::UNTOUCHED;
-
-const OUTPUT_TOO_SHORT: u32 = 13;
-const NO_CUSTOMER: u32 = 23;
-const NOT_OPEN: u32 = 24;
-const ALL_HOLDS_OPEN: u32 = 25;
-const NO_ROOM: u32 = 26;
-const DAMAGED: u32 = 27;
-const OTHER_STORE: u32 = 30;
 
 /// The payloads that a customer has open.
 type Holds = [Option<Rc<[u8]>>; HOLDS as usize];

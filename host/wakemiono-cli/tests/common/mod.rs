@@ -6,7 +6,7 @@ pub mod json;
 
 use std::fs;
 use std::io::Write;
-use std::path::PathBuf;
+use std::path::{Path, PathBuf};
 use std::process::{Command, Output, Stdio};
 
 /// The documents' module of 36 bytes.
@@ -196,4 +196,14 @@ pub fn path(name: &str) -> String {
     path.into_os_string()
         .into_string()
         .expect("the path is text")
+}
+
+/// The modules of `host/fixtures`.
+pub fn fixtures() -> Vec<PathBuf> {
+    let folder = Path::new(env!("CARGO_MANIFEST_DIR")).join("../fixtures");
+    let entries = fs::read_dir(folder).expect("host/fixtures can be read");
+    let paths = entries.map(|entry| entry.unwrap().path());
+    paths
+        .filter(|path| path.extension().is_some_and(|kind| kind == "wasm"))
+        .collect()
 }
