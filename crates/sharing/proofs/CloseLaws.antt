@@ -1,12 +1,12 @@
 -- What a close gives, one law for each way through it.
-use Prim.Native.Nat.{ℕ, zero, suc, _+_, _-_, _*_, _≤_, _<_}
+use Prim.Native.Nat.{ℕ, suc, _+_, _-_, _*_, _≤_, _<_}
 use mathlib.Core.Bool.{Bool, true, false, not}
 use mathlib.Core.List.{List}
-use mathlib.Core.Path.{_≡_, refl, sym, ap, _∙_}
+use mathlib.Core.Path.{_≡_, refl, sym, _∙_}
 use native.Mathlib.Omega.{arith}
 use borrow.Author.Needs.{needs}
 use borrow.Author.Tests.{lt-ltb, le-ltb, leb-true, leb-false, not-true, not-false}
-use lib.Dec.{ltb, leb}
+use lib.Dec.{leb}
 use lib.ListN.{length, getD}
 use Rattle.format.specs.Laws.Outcomes.{byTest}
 use Rattle.format.specs.declared.Refusal.{Refusal}
@@ -14,21 +14,20 @@ use Rattle.format.specs.declared.Reason.{Reason}
 use Rattle.format.specs.declared.Reason.the-variants.{NoCustomer, NotOpen, NotTheStore}
 use Rattle.format.specs.declared.Verdict.the-variants.{Accepted, Refused}
 use Rattle.sharing.specs.Arrays.{tableOf, Full}
-use Rattle.sharing.specs.Calls.{releases, closedAs, notClosed}
-use Rattle.sharing.specs.Model.{desk, closing, closed}
-use Rattle.sharing.specs.Named.{names}
+use Rattle.sharing.specs.Calls.{releases, notTurned}
+use Rattle.sharing.specs.Model.{desk, closed}
 use Rattle.sharing.specs.Promises.{sharing-close}
 use Rattle.sharing.specs.Step.{leaves, step, fitting, closedAt, lent}
 use Rattle.sharing.specs.Table.{Table, lengthFits}
-use Rattle.sharing.specs.declared.Closed.{Closed}
+use Rattle.sharing.specs.declared.Turned.{Turned}
 use Rattle.sharing.specs.declared.Table.{Table as Arrays}
 use Rattle.sharing.specs.Laws.Arrays.{filled}
 use Rattle.sharing.proofs.HoldLaws.{entry-above}
 
-pub not-closed : (t : Arrays) (why : Reason) {x : Refusal} → x ≡ record { reason = why; offset = record { 0 = 0 } } → record { table = t; verdict = Refused x } ≡ notClosed t why
-not-closed t why e = rw e refl
+pub not-turned : (t : Arrays) (why : Reason) {x : Refusal} → x ≡ record { reason = why; offset = record { 0 = 0 } } → record { table = t; verdict = Refused x } ≡ notTurned t why
+not-turned t why e = rw e refl
 
-pub ruleset not-closing = (not-closed, needs)
+pub ruleset not-turning = (not-turned, needs)
 
 -- a hold that is open is one of eight
 pub open-low : (l : List ℕ) (c h : ℕ) {e : ℕ} → e ≡ getD (desk c l) h 0 → (e ≡ 0 → ⊥) → h < 8
@@ -42,17 +41,17 @@ unfolding closedAt
 closes-to t s c h e b i = rw i refl
 
 module _ (t : Arrays) (s : List ℕ) (c h : ℕ) {b : Bool} (f : b ≡ lengthFits (t .bytes) (length s)) where
-  pub close-store : {r : Closed} → not b ≡ true → r ≡ notClosed t NotTheStore → Full t → sharing-close t s c h r
+  pub close-store : {r : Turned} → not b ≡ true → r ≡ notTurned t NotTheStore → Full t → sharing-close t s c h r
   unfolding step lent
   close-store k e w = (rw (e, ← f, not-true b k) refl, rw e w)
 
   module _ (g : not b ≡ false) where
-    pub close-nobody : {r : Closed} → 16 ≤ c → r ≡ notClosed t NoCustomer → Full t → sharing-close t s c h r
+    pub close-nobody : {r : Turned} → 16 ≤ c → r ≡ notTurned t NoCustomer → Full t → sharing-close t s c h r
     unfolding step fitting
     close-nobody k e w = (rw (e, ← f, not-false b g, le-ltb c 16 k) refl, rw e w)
 
     module _ {x : ℕ} (l : c < 16) (i : x ≡ getD (desk c (t .holds)) h 0) where
-      pub close-shut : {r : Closed} → x ≡ 0 → r ≡ notClosed t NotOpen → Full t → sharing-close t s c h r
+      pub close-shut : {r : Turned} → x ≡ 0 → r ≡ notTurned t NotOpen → Full t → sharing-close t s c h r
       unfolding step fitting closedAt
       close-shut z e w = (rw (e, ← f, not-false b g, lt-ltb c 16 l, ← i, z) refl, rw e w)
 

@@ -6,33 +6,26 @@ use mathlib.Core.Path.{_≡_, refl}
 use borrow.Author.Needs.{needs}
 use borrow.Author.Tests.{not-true, not-false}
 use lib.ListN.{length}
-use Rattle.format.specs.declared.Reason.{Reason}
 use Rattle.format.specs.declared.Reason.the-variants.{Damaged, NotTheStore}
-use Rattle.format.specs.declared.Refusal.{Refusal}
-use Rattle.format.specs.declared.Verdict.the-variants.{Accepted, Refused}
+use Rattle.format.specs.declared.Verdict.the-variants.{Accepted}
 use Rattle.sharing.specs.Arrays.{marksFrom, Full}
-use Rattle.sharing.specs.Calls.{notPacked}
+use Rattle.sharing.specs.Calls.{notTurned}
 use Rattle.sharing.specs.Laws.Arrays.{filled}
 use Rattle.sharing.specs.Packing.{UsedBlocks, PacksBlocks, TidiesTable}
 use Rattle.sharing.specs.Promises.{sharing-compact}
 use Rattle.sharing.specs.Step.{step, fitting, tidy, lent}
 use Rattle.sharing.specs.Table.{lengthFits, blocks, rowsRight}
-use Rattle.sharing.specs.declared.Packed.{Packed}
+use Rattle.sharing.specs.declared.Turned.{Turned}
 use Rattle.sharing.specs.declared.Table.{Table}
 use Rattle.sharing.proofs.WholeLaws.{walks-over}
 
-pub not-packed : (t : Table) (why : Reason) {x : Refusal} → x ≡ record { reason = why; offset = record { 0 = 0 } } → record { table = t; verdict = Refused x } ≡ notPacked t why
-not-packed t why e = rw e refl
-
-pub ruleset not-packing = (not-packed, needs)
-
 module _ (t : Table) (s : List ℕ) {b : Bool} (f : b ≡ lengthFits (t .bytes) (length s)) where
-  pub compact-store : {r : Packed} → not b ≡ true → r ≡ notPacked t NotTheStore → Full t → sharing-compact t s s r
+  pub compact-store : {r : Turned} → not b ≡ true → r ≡ notTurned t NotTheStore → Full t → sharing-compact t s s r
   unfolding step lent
   compact-store k e w = (rw (e, ← f, not-true b k) refl, rw e w)
 
   module _ (g : not b ≡ false) {x : Bool} (h : x ≡ rowsRight (marksFrom (t .users) (t .sizes)) (blocks s)) where
-    pub compact-damaged : {r : Packed} → not x ≡ true → r ≡ notPacked t Damaged → Full t → sharing-compact t s s r
+    pub compact-damaged : {r : Turned} → not x ≡ true → r ≡ notTurned t Damaged → Full t → sharing-compact t s s r
     unfolding step fitting tidy
     compact-damaged k e w = (rw (e, ← f, not-false b g, ← h, not-true x k) refl, rw e w)
 

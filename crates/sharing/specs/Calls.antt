@@ -23,9 +23,8 @@ use Rattle.writing.specs.Wrote.{Wrote}
 use Rattle.sharing.specs.Model.{Answer, refusal, granted, nothing, found, closed, tidied, replied, desk, firstTrue, over, stop, go, withWork}
 use Rattle.sharing.specs.Step.{judged, unused, joined, released, leaves, newly, openedIn}
 use Rattle.sharing.specs.Table.{Mark, mark, blank, Table, table, blocks, taken, firstRun}
-use Rattle.sharing.specs.declared.Closed.{Closed}
+use Rattle.sharing.specs.declared.Turned.{Turned}
 use Rattle.sharing.specs.declared.Opened.{Opened}
-use Rattle.sharing.specs.declared.Packed.{Packed}
 use Rattle.sharing.specs.declared.Table.{Table as Arrays}
 use Rattle.sharing.specs.declared.Told.{Told}
 use Rattle.sharing.specs.declared.Told.the-variants.{None, Length as Copied, Refused as NotTold}
@@ -48,17 +47,14 @@ abbrev pub closedAs : Verdict → Answer
 closedAs Accepted = closed
 closedAs (Refused r) = refusal (numberOf (r .reason)) (r .offset .0) []
 
-abbrev pub notClosed : Arrays → Reason → Closed
-notClosed t why = record { table = t; verdict = Refused (record { reason = why; offset = record { 0 = 0 } }) }
+abbrev pub notTurned : Arrays → Reason → Turned
+notTurned t why = record { table = t; verdict = Refused (record { reason = why; offset = record { 0 = 0 } }) }
 
 -- The step of K13
 
 abbrev pub tidiedAs : Verdict → Answer
 tidiedAs Accepted = tidied
 tidiedAs (Refused r) = refusal (numberOf (r .reason)) (r .offset .0) []
-
-abbrev pub notPacked : Arrays → Reason → Packed
-notPacked t why = record { table = t; verdict = Refused (record { reason = why; offset = record { 0 = 0 } }) }
 
 -- Opens
 

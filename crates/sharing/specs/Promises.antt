@@ -8,9 +8,8 @@ use Rattle.sharing.specs.Model.{opening, asking, closing, tidying}
 use Rattle.sharing.specs.Named.{names}
 use Rattle.sharing.specs.Step.{leaves, step}
 use Rattle.sharing.specs.Table.{started}
-use Rattle.sharing.specs.declared.Closed.{Closed}
+use Rattle.sharing.specs.declared.Turned.{Turned}
 use Rattle.sharing.specs.declared.Opened.{Opened}
-use Rattle.sharing.specs.declared.Packed.{Packed}
 use Rattle.sharing.specs.declared.Told.{Told}
 use Rattle.sharing.specs.declared.Table.{Table}
 
@@ -26,9 +25,9 @@ sharing-open t store customer payload work after left r = (leaves (tableOf (r .t
 abbrev pub sharing-ask : (t : Table) (store : List ℕ) (customer hold function : ℕ) (out : List ℕ) → (left : List ℕ) → Told → Type 0
 sharing-ask t store customer hold function out left r = leaves (tableOf t) store (askedAs r left) ≡ step names (tableOf t) store (asking customer hold function out)
 
-abbrev pub sharing-close : (t : Table) (store : List ℕ) (customer hold : ℕ) → Closed → Type 0
+abbrev pub sharing-close : (t : Table) (store : List ℕ) (customer hold : ℕ) → Turned → Type 0
 sharing-close t store customer hold r = (leaves (tableOf (r .table)) store (closedAs (r .verdict)) ≡ step names (tableOf t) store (closing customer hold)) × Full (r .table)
 
 -- K13: the step, and what table and store are after it
-abbrev pub sharing-compact : (t : Table) (store : List ℕ) → (after : List ℕ) → Packed → Type 0
+abbrev pub sharing-compact : (t : Table) (store : List ℕ) → (after : List ℕ) → Turned → Type 0
 sharing-compact t store after r = (leaves (tableOf (r .table)) after (tidiedAs (r .verdict)) ≡ step names (tableOf t) store tidying) × Full (r .table)

@@ -9,7 +9,7 @@ mod storing;
 mod tidying;
 
 ghost use mathlib.Core.Path.{_≡_};
-ghost use Rattle.sharing.specs.Calls.{notClosed, notPacked};
+ghost use Rattle.sharing.specs.Calls.{notTurned};
 ghost use Rattle.sharing.specs.Promises.{sharing-start, sharing-open, sharing-ask, sharing-close, sharing-compact};
 use crate::asking::reply_at;
 use crate::blocks::BLOCK;
@@ -71,14 +71,8 @@ pub enum Told {
     Refused(Refusal),
 }
 
-// What a close leaves, and its verdict.
-pub struct Closed {
-    pub table: Table,
-    pub verdict: Verdict,
-}
-
-// What the step that closes the gaps leaves, and its verdict.
-pub struct Packed {
+// What a close leaves, or the step that closes the gaps, and its verdict.
+pub struct Turned {
     pub table: Table,
     pub verdict: Verdict,
 }
@@ -93,19 +87,10 @@ fn refuse(reason: Reason) -> Refusal
     }
 }
 
-fn not_closed(t: Table, reason: Reason) -> Closed
-    ensures { λ r. ⌜ r ≡ notClosed t reason ⌝ }
+fn not_turned(t: Table, reason: Reason) -> Turned
+    ensures { λ r. ⌜ r ≡ notTurned t reason ⌝ }
 {
-    Closed {
-        table: t,
-        verdict: Verdict::Refused(refuse(reason)),
-    }
-}
-
-fn not_packed(t: Table, reason: Reason) -> Packed
-    ensures { λ r. ⌜ r ≡ notPacked t reason ⌝ }
-{
-    Packed {
+    Turned {
         table: t,
         verdict: Verdict::Refused(refuse(reason)),
     }
@@ -150,40 +135,40 @@ pub fn ask(t: Table, store: &[u8], customer: u32, hold: u32, function: u32, out:
 }
 
 // A customer closes a hold. The store is needed for its length alone.
-pub fn close(t: Table, store: &[u8], customer: u32, hold: u32) -> Closed
+pub fn close(t: Table, store: &[u8], customer: u32, hold: u32) -> Turned
     ensures { λ r. ⌜ sharing-close t (now (store .entry)) customer hold r ⌝ }
 {
     if !fits(t.bytes, store.len()) {
-        return not_closed(t, Reason::NotTheStore);
+        return not_turned(t, Reason::NotTheStore);
     }
     if CUSTOMERS <= customer {
-        return not_closed(t, Reason::NoCustomer);
+        return not_turned(t, Reason::NoCustomer);
     }
     let stands = entry(&t.holds, customer, hold);
     if stands == 0 {
-        return not_closed(t, Reason::NotOpen);
+        return not_turned(t, Reason::NotOpen);
     }
     let at = customer as usize * HOLDS + hold as usize;
-    Closed {
+    Turned {
         table: release(t, at, stands as usize - 1),
         verdict: Verdict::Accepted,
     }
 }
 
 // K13: the used blocks move to the front, in their order, and the table follows them. Every used block is looked at before the first is moved.
-pub fn compact(t: Table, store: &mut [u8]) -> Packed
+pub fn compact(t: Table, store: &mut [u8]) -> Turned
     ensures { λ r. ⌜ sharing-compact t (now (store .entry)) (now (store .exit)) r ⌝ }
 {
     if !fits(t.bytes, store.len()) {
-        return not_packed(t, Reason::NotTheStore);
+        return not_turned(t, Reason::NotTheStore);
     }
     if !rows_right(&t.users, &t.sizes, &*store) {
-        return not_packed(t, Reason::Damaged);
+        return not_turned(t, Reason::Damaged);
     }
     let used = used_blocks(&t.users, &t.sizes, &*store);
     let table = pack_table(t, &used, store.len() / BLOCK);
     pack_blocks(&used, store);
-    Packed {
+    Turned {
         table,
         verdict: Verdict::Accepted,
     }

@@ -1,7 +1,7 @@
 -- K12, K13: what the calls on the shared table leave and answer, from what is promised of `sharing`.
 use Prim.Native.Nat.{ℕ}
 use mathlib.Core.List.{List, []}
-use mathlib.Core.Path.{_≡_, refl, sym, ap, _∙_}
+use mathlib.Core.Path.{_≡_, refl, ap, _∙_}
 use native.Mathlib.Omega.{arith}
 use borrow.Author.Needs.{needs}
 use denote.Enum.Declared.{tagOf}
@@ -20,9 +20,8 @@ use Rattle.sharing.specs.Named.{names}
 use Rattle.sharing.specs.Promises.{sharing-open, sharing-ask, sharing-close, sharing-compact}
 use Rattle.sharing.specs.Step.{After, leaves, step}
 use Rattle.sharing.specs.Table.{Table}
-use Rattle.sharing.specs.declared.Closed.{Closed}
+use Rattle.sharing.specs.declared.Turned.{Turned}
 use Rattle.sharing.specs.declared.Opened.{Opened}
-use Rattle.sharing.specs.declared.Packed.{Packed}
 use Rattle.sharing.specs.declared.Table.{Table as Arrays}
 use Rattle.sharing.specs.declared.Told.{Told}
 use Rattle.sharing.specs.declared.Told.the-variants.{None, Length as Copied, Refused as NotTold}
@@ -89,14 +88,14 @@ module _ (t : Arrays) (store : List ℕ) (customer : ℕ) where
       → Shares (tableOf t) store (asking customer hold function out) (tableOf t) store buffer a
   asks-shared r {hold} {function} {out} {buffer} {a} p e = shares-so (tableOf t) store (asking customer hold function out) (tableOf t) store buffer (askedAs r buffer) a p (told-buffer r buffer) (e ∙ told-fields r buffer)
 
-  pub closes-shared : (r : Closed) {hold : ℕ} {a : WmAnswer} → sharing-close t store customer hold r → a ≡ wmJudged 0 (verdictOf (r .verdict))
+  pub closes-shared : (r : Turned) {hold : ℕ} {a : WmAnswer} → sharing-close t store customer hold r → a ≡ wmJudged 0 (verdictOf (r .verdict))
       → WmShares t store (closing customer hold) (r .table) store [] a
   closes-shared r {hold} {a} p e = record {
     shares = shares-so (tableOf t) store (closing customer hold) (tableOf (r .table)) store [] (closedAs (r .verdict)) a (p .0) (closed-buffer (r .verdict)) (e ∙ closed-fields (r .verdict));
     full = p .1;
   }
 
-pub compacts-shared : (t : Arrays) (store : List ℕ) (r : Packed) {left : List ℕ} {a : WmAnswer} → sharing-compact t store left r → a ≡ wmJudged 0 (verdictOf (r .verdict))
+pub compacts-shared : (t : Arrays) (store : List ℕ) (r : Turned) {left : List ℕ} {a : WmAnswer} → sharing-compact t store left r → a ≡ wmJudged 0 (verdictOf (r .verdict))
     → WmShares t store tidying (r .table) left [] a
 compacts-shared t store r {left} {a} p e = record {
   shares = shares-so (tableOf t) store tidying (tableOf (r .table)) left [] (tidiedAs (r .verdict)) a (p .0) (tidied-buffer (r .verdict)) (e ∙ tidied-fields (r .verdict));

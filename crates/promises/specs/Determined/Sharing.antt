@@ -1,15 +1,9 @@
 -- Each promise of the crate `sharing` determines what comes back: the table, the answer, and what is left of the lent buffers.
-use Prim.Native.Nat.{ℕ}
-use mathlib.Core.List.{List}
-use mathlib.Core.Path.{_≡_, sym, ap, _∙_}
+use mathlib.Core.Path.{sym, ap, _∙_}
 use Rattle.format.specs.Determined.{Determines1, Determines4, DeterminesBoth2, DeterminesBoth6}
 use Rattle.sharing.specs.Laws.Same.{same-table, same-opened, same-told, same-closed, same-tidied}
 use Rattle.sharing.specs.Promises.{sharing-start, sharing-open, sharing-ask, sharing-close, sharing-compact}
 use Rattle.sharing.specs.Step.{After}
-use Rattle.sharing.specs.declared.Closed.{Closed}
-use Rattle.sharing.specs.declared.Opened.{Opened}
-use Rattle.sharing.specs.declared.Table.{Table}
-use Rattle.sharing.specs.declared.Told.{Told}
 use Rattle.promises.specs.Determined.Forms.{DeterminesThree5}
 
 pub record Sharing : Type 0 where

@@ -5,14 +5,14 @@ use Rattle.sharing.proofs.close.Tie as tie
 fits-requires : tie.Need-fits-requires
 fits-requires c κs = search closes
 
-not-closed-requires : tie.Need-not-closed-requires
-not-closed-requires c κs = search closes
+not-turned-requires : tie.Need-not-turned-requires
+not-turned-requires c κs = search closes
 
 returns : tie.Need-returns
 returns c = search closes
 
-not-closed-requires-2 : tie.Need-not-closed-requires-2
-not-closed-requires-2 c κs = search closes
+not-turned-requires-2 : tie.Need-not-turned-requires-2
+not-turned-requires-2 c κs = search closes
 
 returns-2 : tie.Need-returns-2
 returns-2 c = search closes
@@ -20,8 +20,8 @@ returns-2 c = search closes
 entry-requires : tie.Need-entry-requires
 entry-requires c κs = search closes
 
-not-closed-requires-3 : tie.Need-not-closed-requires-3
-not-closed-requires-3 c κs = search closes
+not-turned-requires-3 : tie.Need-not-turned-requires-3
+not-turned-requires-3 c κs = search closes
 
 returns-3 : tie.Need-returns-3
 returns-3 c = search closes
@@ -45,4 +45,4 @@ returns-4 : tie.Need-returns-4
 returns-4 c = search closes
 
 pub close-spec : {M : Type 1} → statement M
-close-spec = tie.close (tie.spec fits-requires not-closed-requires returns not-closed-requires-2 returns-2 entry-requires not-closed-requires-3 returns-3 mul-at add-at cast-release sub-release release-requires returns-4)
+close-spec = tie.close (tie.spec fits-requires not-turned-requires returns not-turned-requires-2 returns-2 entry-requires not-turned-requires-3 returns-3 mul-at add-at cast-release sub-release release-requires returns-4)

@@ -5,8 +5,8 @@ use Rattle.sharing.proofs.compact.Tie as tie
 fits-requires : tie.Need-fits-requires
 fits-requires c κs = search compacts
 
-not-packed-requires : tie.Need-not-packed-requires
-not-packed-requires c κs = search compacts
+not-turned-requires : tie.Need-not-turned-requires
+not-turned-requires c κs = search compacts
 
 returns : tie.Need-returns
 returns c = search compacts
@@ -14,8 +14,8 @@ returns c = search compacts
 rows-right-requires : tie.Need-rows-right-requires
 rows-right-requires c κs = search compacts
 
-not-packed-requires-2 : tie.Need-not-packed-requires-2
-not-packed-requires-2 c κs = search compacts
+not-turned-requires-2 : tie.Need-not-turned-requires-2
+not-turned-requires-2 c κs = search compacts
 
 same-length : tie.Need-same-length
 same-length c = search compacts
@@ -39,4 +39,4 @@ returns-3 : tie.Need-returns-3
 returns-3 c = search compacts
 
 pub compact-spec : {M : Type 1} → statement M
-compact-spec = tie.close (tie.spec fits-requires not-packed-requires returns rows-right-requires not-packed-requires-2 same-length returns-2 used-blocks-requires pack-table-requires pack-blocks-requires same-length-2 returns-3)
+compact-spec = tie.close (tie.spec fits-requires not-turned-requires returns rows-right-requires not-turned-requires-2 same-length returns-2 used-blocks-requires pack-table-requires pack-blocks-requires same-length-2 returns-3)
