@@ -24,6 +24,7 @@ pub mod Lists
 pub mod Markers
 pub mod Pairs
 pub mod Joined
+pub mod Entries
 pub mod MarkerRule
 pub mod Listing
 pub mod Examples
