@@ -384,15 +384,17 @@ fn advice_is_about_what_was_lent() {
 }
 
 #[test]
-fn the_readme_gives_the_same_advice() {
-    let readme = Path::new(env!("CARGO_MANIFEST_DIR")).join("../../README.md");
-    let readme = fs::read_to_string(readme).expect("the repository has a README.md");
-    let rows = readme.lines().filter_map(|line| {
-        let (number, cells) = line.strip_prefix("| ")?.split_once(" | ")?;
-        let (_, advice) = cells.strip_suffix(" |")?.split_once(" | ")?;
+fn the_rules_give_the_same_advice() {
+    let rules = Path::new(env!("CARGO_MANIFEST_DIR")).join("../../docs/RULES.md");
+    let rules = fs::read_to_string(rules).expect("the repository has docs/RULES.md");
+    // A row is: its rule, the number, when it is given, the offset, and what to do.
+    let rows = rules.lines().filter_map(|line| {
+        let (_, cells) = line.strip_prefix("| R18.")?.split_once(" | ")?;
+        let (number, cells) = cells.split_once(" | ")?;
+        let (_, advice) = cells.strip_suffix(" |")?.rsplit_once(" | ")?;
         Some((number.parse().ok()?, advice))
     });
-    // Its table has a row more, for the program that lists, which no call of the library gives.
+    // The table has a row more, for the program that lists, which no call of the library gives.
     let rows: Vec<(u32, &str)> = rows.filter(|(number, _)| *number != 16).collect();
     let advice: Vec<(u32, &str)> = Reason::ALL
         .iter()
