@@ -1,4 +1,4 @@
--- A promise determines what comes back: two results that meet it are equal. What comes back of a call with an output is its answer and the output's bytes after it, and of one with two lists both of them; of a call that hands back a part of what was lent, the part's bytes and where in memory they begin.
+-- A promise determines what comes back: two results that meet it are equal. What comes back of a call with an output is its answer and the output's bytes after it, and of one with lists all of them; of a call that hands back a part of what was lent, the part's bytes and where in memory they begin.
 use Prim.Native.Nat.{ℕ}
 use mathlib.Core.List.{List}
 use mathlib.Core.Option.{Option}
@@ -8,10 +8,12 @@ use Rattle.format.specs.Questions.{answered}
 use Rattle.format.specs.Metadata.{hintAnswered}
 use Rattle.format.specs.Outputs.{Writes}
 use Rattle.format.specs.Markers.{Markers, Makes}
+use Rattle.format.specs.Entries.{Listed, Lists}
 use Rattle.format.specs.Pairs.{Paired, Supplied, pairAnswered}
 use Rattle.format.specs.Joined.{JoinWrites}
 use Rattle.format.specs.Laws.Answers.{same-answer, same-hint-answer}
 use Rattle.format.specs.Laws.Outputs.{writes-same}
+use Rattle.format.specs.Laws.Entries.{lists-same}
 use Rattle.format.specs.Laws.PairAnswers.{same-pair-answer, joins-same}
 use Rattle.format.specs.declared.Answer.{Answer}
 use Rattle.format.specs.declared.Hint.{Hint}
@@ -38,7 +40,7 @@ Determines4 {A} promise = (a : A) → Determines3 (promise a)
 abbrev pub Determines5 : {A B C D E Result : Type 0} → (A → B → C → D → E → Result → Type 0) → Type 0
 Determines5 {A} promise = (a : A) → Determines4 (promise a)
 
--- And where two things come back, the answer last: before it stands the output after the call, or where in memory the answer's bytes begin
+-- And where two things come back, the answer last: before it stands the output after the call, or all lists after it, or where in memory the answer's bytes begin
 abbrev pub DeterminesBoth : {Other Result : Type 0} → (Other → Result → Type 0) → Type 0
 DeterminesBoth {Other} {Result} promise = Determines (λ (back : Result × Other). promise (back .1) (back .0))
 
@@ -110,6 +112,10 @@ makes-determined wanted is os a b p q =
     let two = p .indices ∙ sym (q .indices) in
     let three = p .offsets ∙ sym (q .offsets) in
     λ i. (one i, two i, three i)
+
+-- every entry in one pass: the answer, and all lists after the call
+pub lists-determined : {X : Type 0} (columns : List (Listed X → ℕ)) (found : Judged (Option (List (Listed X)))) (lists : List (List ℕ)) → Determines (λ (r : Answer × List (List ℕ)). Lists columns found lists (r .1) (r .0))
+lists-determined columns found lists a b p q = let one = lists-same p q in λ i. (one .0 i, one .1 i)
 
 -- K3: of two payloads, and of their join
 pub pair-answer-determined : (j : Paired (Option (Supplied Place))) → Determines (λ r. pairAnswered r ≡ j)

@@ -47,6 +47,7 @@ pub mod Walk
 pub mod Listing
 pub mod Calls
 pub mod Outputs
+pub mod Entries
 pub mod Laxer
 pub mod MarkerEntries
 pub mod MarkerParts
