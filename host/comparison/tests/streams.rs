@@ -179,9 +179,9 @@ fn what_is_final_at_once() {
     }
 }
 
-/// Reading 11 of the documents.
+/// R14.4: a fault of a custom name counts only once all of the section has come.
 #[test]
-fn the_documents_case() {
+fn a_name_is_refused_once_its_section_is_whole() {
     let mut tally = Tally::default();
     let begun = [PREAMBLE, &[0x00, 0x07, 0x84, 0x80, 0x80, 0x80, 0x1F]].concat();
     assert_eq!(arrived(&mut tally, &begun), refused(2, 9));

@@ -73,7 +73,7 @@ mod tests {
     }
 
     #[test]
-    fn the_module_of_the_document() {
+    fn the_module_of_the_rules() {
         let module = after_preamble(
             b"\x00\x1A\x04name\x00\x02\x01m\
             \x01\x07\x02\x00\x01a\x03\x01b\

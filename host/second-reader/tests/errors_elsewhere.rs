@@ -1,4 +1,4 @@
-//! The errors that the document has seen in other readers, and damage behind an answer that is
+//! The errors that the rules name in other readers, and damage behind an answer that is
 //! already known.
 
 mod support;

@@ -1,4 +1,4 @@
-//! The sixteen examples of the document, the further cases named beside them, and its listed
+//! The sixteen examples of the rules, the further cases named beside them, and its listed
 //! module.
 
 mod support;

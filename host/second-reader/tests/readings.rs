@@ -1,4 +1,4 @@
-//! How the open points of the document are settled, one test for each point and its inputs.
+//! How the open points of the rules are settled, one test for each point and its inputs.
 
 mod support;
 

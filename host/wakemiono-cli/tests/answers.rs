@@ -11,7 +11,7 @@ use common::{
 };
 
 #[test]
-fn list_prints_the_listing_of_the_documents() {
+fn list_prints_the_listing_of_the_rules() {
     let module = file("list.wasm", MODULE);
     let listing = "sections 1\n0 8 26 10 name\nname 15 21\nhints none\n";
     run(&["list", &module]).prints(listing);
@@ -79,7 +79,7 @@ fn list_in_json() {
 }
 
 #[test]
-fn names_of_the_documents_module() {
+fn names_of_the_rules_module() {
     let all = "module 18 m\nfunction 0 24 a\nfunction 3 27 b\nlocal 3 0 35 x\n";
     fed(&["names", "-"], MODULE).prints(all);
     fed(&["names", "-", "--kind", "function"], MODULE).prints("function 0 24 a\nfunction 3 27 b\n");

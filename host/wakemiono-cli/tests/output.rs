@@ -11,7 +11,7 @@ use std::thread;
 
 use common::{fed, long_named, named, path, program, run, MODULE};
 
-/// The canonical payload of the documents' module, which is the one that it has.
+/// The canonical payload of the rules' module, which is the one that it has.
 const PAYLOAD: &[u8] = MODULE.split_at(15).1;
 
 /// An empty folder of a test's own.

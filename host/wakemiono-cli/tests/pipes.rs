@@ -74,7 +74,7 @@ fn begun(id: u8, contents: usize) -> Vec<u8> {
     [BARE, &[id], &size, &[0]].concat()
 }
 
-/// The section with names of the documents' module.
+/// The section with names of the rules' module.
 const NAMES: &[u8] = MODULE.split_at(8).1;
 
 #[test]
@@ -147,7 +147,7 @@ fn section_lines(listed: &Run) -> impl Iterator<Item = Vec<&str>> {
     lines.map(|line| line.splitn(5, ' ').collect())
 }
 
-/// What is printed, with the first three numbers of each section alone, as the documents list it.
+/// What is printed, with the first three numbers of each section alone, as the rules list it.
 fn without_contents(listed: &Run) -> String {
     let mut sections = section_lines(listed);
     let line = |line: &str| {

@@ -49,7 +49,7 @@ fn hints_say(expected: bool, rows: &[&str]) {
 }
 
 #[test]
-fn the_examples_of_the_documents() {
+fn the_examples_of_the_rules() {
     const E7: &str = "01 85 00 01 00 81 00 61";
     const E8: &str = "01 01 00";
     const E9: &str = "";

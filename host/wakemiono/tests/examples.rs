@@ -1,4 +1,4 @@
-//! The sixteen examples of the documents, put to the calls. A number alone is read as the count of
+//! The sixteen examples of the rules, put to the calls. A number alone is read as the count of
 //! a metadata payload.
 
 mod common;
@@ -135,7 +135,7 @@ fn e16_a_hint_above_1() {
 }
 
 #[test]
-fn further_cases_of_the_documents() {
+fn further_cases_of_the_rules() {
     assert_eq!(refused(NamePayload::new(&[0x01, 0x00]).judge()), (2, 2));
     let overlong = [0x00, 0x03, 0x02, 0xC0, 0x80];
     assert_eq!(refused(NamePayload::new(&overlong).judge()), (4, 3));

@@ -16,7 +16,7 @@ fn walk_refused(sections: &[Vec<u8>]) -> (u32, u64) {
 }
 
 #[test]
-fn the_module_of_the_documents() {
+fn the_module_of_the_rules() {
     let bytes = module(&[custom("name", &P)]);
     assert_eq!(bytes.len(), 36);
     let module = Module::new(&bytes);

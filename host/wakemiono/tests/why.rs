@@ -35,7 +35,7 @@ fn between<Index: From<u32>>(
 }
 
 #[test]
-fn functions_of_the_documents_payload() {
+fn functions_of_the_rules_payload() {
     assert_eq!(function(&P, 0), named(1, 0));
     assert_eq!(function(&P, 1), between(Some(0), Some(3)));
     assert_eq!(function(&P, 2), between(Some(0), Some(3)));
@@ -45,7 +45,7 @@ fn functions_of_the_documents_payload() {
 }
 
 #[test]
-fn locals_of_the_documents_payload() {
+fn locals_of_the_rules_payload() {
     assert_eq!(local(&P, 3, 0), named(2, 0));
     assert_eq!(local(&P, 3, 1), between(Some(0), None));
     assert_eq!(local(&P, 3, u32::MAX), between(Some(0), None));

@@ -9,7 +9,7 @@ use std::io::Write;
 use std::path::{Path, PathBuf};
 use std::process::{Command, Output, Stdio};
 
-/// The documents' module of 36 bytes.
+/// The rules' module of 36 bytes.
 pub const MODULE: &[u8] = b"\0asm\x01\0\0\0\x00\x1A\x04name\
     \x00\x02\x01m\x01\x07\x02\x00\x01a\x03\x01b\x02\x06\x01\x03\x01\x00\x01x";
 

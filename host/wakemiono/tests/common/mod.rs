@@ -1,4 +1,4 @@
-//! What several tests share: the documents' payload P, a payload with every id, all questions of an
+//! What several tests share: the rules' payload P, a payload with every id, all questions of an
 //! edition, modules from their sections, and refusals as number and offset.
 
 #![allow(dead_code)] // each test file uses its own part of this
@@ -9,7 +9,7 @@ use wakemiono::{
     TableIndex, TagIndex, TypeIndex, Whose, Wider,
 };
 
-/// The payload P of the documents, at one place in memory.
+/// The payload P of the rules, at one place in memory.
 pub static P: [u8; 21] = [
     0x00, 0x02, 0x01, 0x6D, 0x01, 0x07, 0x02, 0x00, 0x01, 0x61, 0x03, 0x01, 0x62, 0x02, 0x06, 0x01,
     0x03, 0x01, 0x00, 0x01, 0x78,

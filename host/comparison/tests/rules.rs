@@ -1,4 +1,4 @@
-//! The documents' own cases.
+//! The rules' own cases.
 
 use comparison::library::{
     self, FOUND, NOBODY, NONE, NO_ENTRY, NO_GROUP, NO_SUBSECTION, OWN, REFUSED, SEPARATE,
