@@ -2,6 +2,12 @@
 
 _wakemiono() {
     local word=${COMP_WORDS[COMP_CWORD]} before=${COMP_WORDS[COMP_CWORD - 1]} choices
+    # Of --kind=tag bash makes three words.
+    if [[ $word == '=' ]]; then
+        word=
+    elif [[ $before == '=' ]]; then
+        before=${COMP_WORDS[COMP_CWORD - 2]}
+    fi
     local commands='list names name why hints canon join same judge'
     COMPREPLY=()
     case $before in

@@ -5,11 +5,11 @@ use std::ffi::OsStr;
 use std::io::{self, BufReader, Read, Write};
 use std::ops::Range;
 
-use wakemiono::{Place, Refusal, Section, Stream, Walked};
+use wakemiono::{Place, Refusal, Stream, Walked};
 
 use crate::edition::Edition;
 use crate::excerpt::Excerpt;
-use crate::heads::{Head, ShownName, CODE, CUSTOM, FRONT_WITH_NAME, IMPORT};
+use crate::heads::{Head, Section, ShownName, CODE, CUSTOM, FRONT_WITH_NAME, IMPORT};
 use crate::input::Source;
 use crate::json::Json;
 use crate::payloads::HINTS;
@@ -365,7 +365,7 @@ mod tests {
 
     /// Hints on each of these `br_if 0`, which are the second function.
     fn many_hints() -> Vec<u8> {
-        let hints = (0..100).flat_map(|at| [1 + 2 * at | 0x80, (1 + 2 * at) >> 7, 1, 0]);
+        let hints = (0..100).flat_map(|at| [(1 + 2 * at) | 0x80, (1 + 2 * at) >> 7, 1, 0]);
         [&[1, 1, 100][..], &hints.collect::<Vec<u8>>()].concat()
     }
 
@@ -420,8 +420,13 @@ mod tests {
                 return shows(arrived, bytes, refusal.offset());
             }
         };
-        for (position, section) in (0..).zip(&arrived.sections) {
-            assert_eq!(module.section(position), Ok(Some(*section)));
+        for (position, (section, contents)) in (0..).zip(arrived.with_contents()) {
+            let there = module.section(position).expect("it is accepted");
+            let there = there.expect("it is there");
+            assert_eq!((section.id, section.offset), (there.id(), there.offset()));
+            let contents_there = &bytes[contents.start as usize..contents.end as usize];
+            assert_eq!(contents_there, there.contents());
+            assert_eq!(contents.start, there.contents_offset());
         }
         assert_eq!(module.section_count(), Ok(arrived.sections.len() as u64));
         let places = [walked.name, walked.hints, walked.old_hints];

@@ -11,6 +11,9 @@ const STEP: u64 = ROW as u64;
 /// How wide a byte is in a row: a space and two digits.
 const CELL: usize = 3;
 
+/// What stands under the place, at the end of its row. No other row ends so.
+pub const MARKER: &str = "^^";
+
 /// Where the row with the place and the rows right before and after it lie in something of a length;
 /// none where the place is behind the end.
 pub fn around(length: u64, place: u64) -> Option<Range<u64>> {
@@ -72,7 +75,7 @@ fn marker(start: u64, place: u64) -> String {
     // As wide as what stands before the place in its row: the offset, the bytes before, and two
     // spaces.
     let before = offset(start).len() + CELL * (place - start) as usize + "  ".len();
-    format!("{:before$}^^", "")
+    format!("{:before$}{MARKER}", "")
 }
 
 #[cfg(test)]

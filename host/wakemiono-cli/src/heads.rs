@@ -25,6 +25,17 @@ pub const LONGEST_SHOWN_NAME: usize = 128;
 /// How many bytes at the front of custom contents have as much of the name as is shown.
 pub const FRONT_WITH_NAME: usize = LONGEST_NUMBER + LONGEST_SHOWN_NAME;
 
+/// A section of a module that is not held.
+#[derive(Clone, Copy, Debug, PartialEq, Eq)]
+pub struct Section {
+    /// The id.
+    pub id: u8,
+    /// The offset of the id byte in the module.
+    pub offset: u64,
+    /// The length of the contents, without id and size.
+    pub length: u64,
+}
+
 /// The name of a custom section, as far as it is shown.
 #[derive(Clone, Copy, Debug, PartialEq, Eq)]
 pub struct ShownName<'a> {

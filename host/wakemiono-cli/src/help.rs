@@ -1,6 +1,7 @@
 //! What the program says of itself.
 
 use crate::arguments::Topic;
+use crate::terminal::Style;
 
 /// Short enough for one screen of 24 lines and 80 columns, as a test holds it: the rest is said of each
 /// command.
@@ -279,7 +280,19 @@ Example: wakemiono judge app.wasm
 ";
 
 /// The help for a command, or for the program.
-pub const fn text(topic: Option<Topic>) -> &'static str {
+pub fn text(topic: Option<Topic>, style: Style) -> String {
+    let line = |line: &str| {
+        let heading = HEADINGS.iter().find(|heading| line.starts_with(**heading));
+        let heading = heading.copied().unwrap_or_default();
+        style.heading(heading) + &line[heading.len()..]
+    };
+    plain(topic).split_inclusive('\n').map(line).collect()
+}
+
+/// What leads to the lines that are looked for first.
+const HEADINGS: [&str; 2] = ["Usage:", "Example:"];
+
+const fn plain(topic: Option<Topic>) -> &'static str {
     match topic {
         None => OVERALL,
         Some(Topic::List) => LIST,

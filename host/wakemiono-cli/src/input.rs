@@ -11,6 +11,7 @@ use wakemiono::{First, Module, Refusal};
 use crate::edition::Edition;
 use crate::escape;
 use crate::json::Json;
+use crate::progress::Counted;
 use crate::refused::Refused;
 use crate::report::Failure;
 
@@ -39,9 +40,12 @@ impl<E: Edition> Source<E> {
         reading: impl FnOnce(&mut dyn Read) -> io::Result<T>,
     ) -> Result<T, Failure> {
         let read = if self.file == STANDARD_STREAM {
-            reading(&mut io::stdin().lock())
+            reading(&mut Counted::new(io::stdin().lock(), None))
         } else {
-            File::open(&self.file).and_then(|mut file| reading(&mut file))
+            File::open(&self.file).and_then(|file| {
+                let length = length(&file)?;
+                reading(&mut Counted::new(file, length))
+            })
         };
         read.map_err(|error| Failure::Misuse(unreadable(&quoted_label(&self.file), &error)))
     }
@@ -138,6 +142,12 @@ fn read_all(from: &mut dyn Read) -> io::Result<Vec<u8>> {
     let mut bytes = Vec::new();
     from.read_to_end(&mut bytes)?;
     Ok(bytes)
+}
+
+/// How many bytes a file has; none of a device or a pipe.
+fn length(file: &File) -> io::Result<Option<u64>> {
+    let metadata = file.metadata()?;
+    Ok(metadata.is_file().then_some(metadata.len()))
 }
 
 /// What is wrong with a file and what to do, where we know better than the system's own words.

@@ -31,21 +31,27 @@ mod options;
 mod output;
 mod parallel;
 mod payloads;
+mod printer;
+mod progress;
 mod question;
 mod reader;
 mod refused;
 mod report;
 mod sparse;
+mod terminal;
 
 use std::env;
 use std::process::ExitCode;
 
 use arguments::Invocation;
+use printer::Printer;
 use report::Report;
+use terminal::Style;
 
 fn main() -> ExitCode {
+    let printer = Printer::new();
     let report = match arguments::parse(env::args_os().skip(1)) {
-        Ok(Invocation::Help(topic)) => Report::good(help::text(topic)),
+        Ok(Invocation::Help(topic)) => Report::good(help::text(topic, Style::of_output())),
         Ok(Invocation::Version) => Report::good(format!("wakemiono {}\n", version())),
         Ok(Invocation::Run {
             command,
@@ -54,7 +60,7 @@ fn main() -> ExitCode {
         }) => commands::run(&command, wide, json).unwrap_or_else(|failure| failure.report(json)),
         Err(misuse) => Report::misuse(&misuse),
     };
-    report.deliver()
+    report.deliver(printer)
 }
 
 fn version() -> &'static str {

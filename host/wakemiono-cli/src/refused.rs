@@ -8,6 +8,7 @@ use crate::dump;
 use crate::edition::Edition;
 use crate::input::Source;
 use crate::json::Json;
+use crate::terminal::Style;
 
 /// A refusal together with what a person needs to find the fault: which input, and the bytes there.
 #[derive(Debug)]
@@ -58,23 +59,22 @@ impl Refused {
     }
 
     /// What is wrong and where, with the bytes around it, and what to do.
-    pub fn words(&self) -> String {
-        format!("{}: {}", self.label, self.verdict())
+    pub fn words(&self, style: Style) -> String {
+        format!("{}: {}", self.label, self.verdict(style))
     }
 
     /// The same without the name of the input.
-    pub fn verdict(&self) -> String {
-        let (number, refusal) = (self.refusal.number(), self.refusal);
-        let mut words = format!("refused, number {number}: {refusal}\n");
-        for row in &self.rows {
-            words.push_str("  ");
-            words.push_str(row);
-            words.push('\n');
-        }
-        words.push_str("  what to do: ");
-        words.push_str(refusal.advice());
-        words.push('\n');
-        words
+    pub fn verdict(&self, style: Style) -> String {
+        let refusal = self.refusal;
+        let refused = style.wrong(&format!("refused, number {}", refusal.number()));
+        let to_do = style.heading("what to do");
+        let row = |row: &String| match row.strip_suffix(dump::MARKER) {
+            Some(before) => format!("  {before}{}\n", style.wrong(dump::MARKER)),
+            None => format!("  {row}\n"),
+        };
+        let rows: String = self.rows.iter().map(row).collect();
+        let advice = refusal.advice();
+        format!("{refused}: {refusal}\n{rows}  {to_do}: {advice}\n")
     }
 
     /// A whole JSON document.

@@ -1,10 +1,12 @@
 //! What a command has to say, and how the program ends.
 
-use std::io::{self, ErrorKind, Write};
+use std::io::{self, Write};
 use std::process::ExitCode;
 
 use crate::json::Json;
+use crate::printer::Printer;
 use crate::refused::Refused;
+use crate::terminal::Style;
 
 /// How the program ends.
 #[derive(Clone, Copy, Debug, PartialEq, Eq)]
@@ -36,8 +38,7 @@ impl Status {
     }
 }
 
-/// Everything that a command prints. It is printed at the very end and in one place, so that a pipe
-/// that breaks is met only there.
+/// What a command has to say at its end. A command with many rows has printed them already, as they came.
 #[derive(Debug)]
 pub struct Report {
     /// For standard output.
@@ -81,27 +82,21 @@ impl Report {
 
     /// Prints the report, and answers how the program ends. The words are said whatever becomes of
     /// standard output.
-    pub fn deliver(self) -> ExitCode {
-        let printed = print(&self.out);
+    pub fn deliver(self, mut printer: Printer) -> ExitCode {
+        printer.print(&self.out);
+        let printed = printer.finish();
         say(&self.said);
         match printed {
-            // Where a pipe is broken, its reader has seen enough, as in `wakemiono names FILE | head`.
-            Err(error) if error.kind() != ErrorKind::BrokenPipe => {
+            Err(error) => {
                 say(&format!(
                     "wakemiono: standard output cannot be written ({error}): \
                      check where it is sent to and whether there is room.\n"
                 ));
                 Status::Misuse.code()
             }
-            _ => self.status.code(),
+            Ok(()) => self.status.code(),
         }
     }
-}
-
-fn print(out: &[u8]) -> io::Result<()> {
-    let mut stdout = io::stdout().lock();
-    stdout.write_all(out)?;
-    stdout.flush()
 }
 
 /// Says something on standard error. Where even that is closed, there is no one left to tell.
@@ -127,7 +122,8 @@ impl Failure {
             Failure::Misuse(sentence) => Report::misuse(sentence),
             Failure::Refused(refused) if json => Report::json(Status::Bad, &refused.document()),
             Failure::Refused(refused) => {
-                Report::ending(Status::Bad, "").saying(format!("wakemiono: {}", refused.words()))
+                let words = refused.words(Style::of_errors());
+                Report::ending(Status::Bad, "").saying(format!("wakemiono: {words}"))
             }
             Failure::Misfit => Report::misuse(
                 "the library contradicts itself: build this program with the library that belongs \

@@ -142,6 +142,11 @@ fn bash_completes() {
     offers(&["wakemiono", "help", "j"], &["join", "judge"]);
     offers(&["wakemiono", "names", "f", "--k"], &["--kind"]);
     offers(&["wakemiono", "names", "--kind", "ta"], &["tag", "table"]);
+    offers(
+        &["wakemiono", "names", "--kind", "=", "ta"],
+        &["tag", "table"],
+    );
+    assert_eq!(completed(&["wakemiono", "names", "--kind", "="]).len(), 13);
     offers(&["wakemiono", "same", "a", "b", "--a"], &["--all"]);
     // Files are for bash itself.
     offers(&["wakemiono", "list", "a"], &[]);

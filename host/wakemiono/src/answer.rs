@@ -39,14 +39,17 @@ impl Answer {
         self.part(lent).unwrap_or_else(|_| self.misfit())
     }
 
-    /// The section that was found, or none.
-    pub(crate) fn section(self) -> Result<Option<Section>, Refusal> {
-        let section = || Section {
-            id: u8::try_from(self.code).unwrap_or_else(|_| self.misfit()),
-            offset: self.offset,
-            length: self.length,
+    /// The section of a module that was found, or none.
+    pub(crate) fn section(self, module: &[u8]) -> Result<Option<Section<'_>>, Refusal> {
+        if !self.is_found()? {
+            return Ok(None);
+        }
+        let is_told = |section: &Section<'_>| {
+            let length = section.contents().len() as u64;
+            (u32::from(section.id()), length) == (self.code, self.length)
         };
-        Ok(self.is_found()?.then(section))
+        let section = Section::at(module, self.offset).filter(is_told);
+        Ok(Some(section.unwrap_or_else(|| self.misfit())))
     }
 
     /// A length or a count, where there is always one or a refusal.
@@ -329,9 +332,31 @@ mod tests {
     }
 
     #[test]
-    #[should_panic(expected = "is it of another version?")]
-    fn the_id_of_a_section_is_a_byte() {
-        let _ = answer(FOUND, 256, 8, 0).section();
+    fn a_section_is_the_bytes_that_were_lent() {
+        let lent = [9, 9, 3, 0x82, 0x00, 5, 6, 9];
+        let section = answer(FOUND, 3, 2, 2).section(&lent).unwrap().unwrap();
+        assert_eq!((section.id(), section.offset()), (3, 2));
+        assert_eq!(
+            (section.contents_offset(), section.contents()),
+            (5, &lent[5..7])
+        );
+        assert_eq!(answer(NONE, 0, 0, 0).section(&lent), Ok(None));
+    }
+
+    /// Of a section with the id 3 and one byte of contents: another id, which may be no byte, another length, and
+    /// another place.
+    #[test]
+    fn a_section_is_told_as_it_stands_there() {
+        for misfit in [
+            answer(FOUND, 4, 0, 1),
+            answer(FOUND, 259, 0, 1),
+            answer(FOUND, 3, 0, 2),
+            answer(FOUND, 3, 3, 1),
+            answer(FOUND, 3, u64::MAX, 1),
+        ] {
+            let told = std::panic::catch_unwind(|| misfit.section(&[3, 1, 7]).is_ok());
+            assert!(told.is_err(), "{misfit:?}");
+        }
     }
 
     #[test]

@@ -15,7 +15,8 @@
 //! The answers come from a proved library, of which this crate is the safe side: whole modules are
 //! asked through [`Module`], payloads apart from their module through [`NamePayload`], [`Metadata`],
 //! [`Hints`] and [`OldHints`], and function names are written by [`function_names`]. Only the steps of
-//! [`Sections`] over a module that the library has accepted are taken here.
+//! [`Sections`] and [`Subsections`] over what the library has accepted are taken here, and the name of a
+//! [`Section`].
 //!
 //! Names are asked in one of two editions. [`Module::new`] and [`NamePayload::new`] open the
 //! [`First`]; [`Module::wider`] and [`NamePayload::wider`] open the [`Wider`], which also has the
@@ -69,6 +70,7 @@ mod name_payload;
 mod old_hints;
 mod pair;
 mod refusal;
+mod sections;
 mod shared_table;
 mod stream;
 mod whose;
@@ -83,12 +85,13 @@ pub use index::{
 pub use lists::{function_names, function_names_into};
 pub use markers::{Marked, Markers};
 pub use metadata::{Hint, Hints, Metadata};
-pub use module::{Module, Section, Sections};
+pub use module::Module;
 pub use name::Name;
 pub use name_payload::NamePayload;
 pub use old_hints::OldHints;
 pub use pair::Pair;
 pub use refusal::{Reason, Refusal};
+pub use sections::{Section, Sections, Subsections};
 pub use shared_table::SharedTable;
 pub use stream::{Place, Stream, Walked};
 pub use whose::{PairRefusal, Supplied, SuppliedBytes, SuppliedName, Whose};

@@ -1,32 +1,12 @@
 //! Whole modules: the walk over their sections, and the questions put through them.
 
 use std::fmt;
-use std::iter::FusedIterator;
 use std::marker::PhantomData;
 
 use crate::{
     ffi, CodeOffset, Edition, FieldIndex, First, FunctionIndex, Hint, Hints, InstructionOffset,
-    LocalIndex, Name, NamePayload, OldHints, Refusal, TagIndex, TypeIndex,
+    LocalIndex, Name, NamePayload, OldHints, Refusal, Section, Sections, TagIndex, TypeIndex,
 };
-
-/// A section, as the walk finds it.
-///
-/// ```
-/// use wakemiono::{Module, Section};
-///
-/// let module = Module::new(b"\0asm\x01\0\0\0\x01\x01\x00");
-/// assert_eq!(module.section(0)?, Some(Section { id: 1, offset: 8, length: 1 }));
-/// # Ok::<(), wakemiono::Refusal>(())
-/// ```
-#[derive(Clone, Copy, Debug, PartialEq, Eq, Hash)]
-pub struct Section {
-    /// The id, from 0 to 13; 0 is a custom section.
-    pub id: u8,
-    /// The offset of the id byte in the module.
-    pub offset: u64,
-    /// The length of the contents, without id and size.
-    pub length: u64,
-}
 
 /// A whole module, borrowed from the caller, whose names are asked in an [`Edition`]: the first one
 /// where the type names none.
@@ -116,7 +96,7 @@ impl<'a, E: Edition> Module<'a, E> {
     /// use wakemiono::Module;
     ///
     /// let module = Module::new(b"\0asm\x01\0\0\0\x01\x01\x00");
-    /// assert_eq!(module.section(0)?.unwrap().id, 1);
+    /// assert_eq!(module.section(0)?.unwrap().id(), 1);
     /// assert_eq!(module.section(1)?, None);
     /// # Ok::<(), wakemiono::Refusal>(())
     /// ```
@@ -124,8 +104,8 @@ impl<'a, E: Edition> Module<'a, E> {
     /// # Errors
     ///
     /// As [`section_count`](Self::section_count).
-    pub fn section(&self, position: u64) -> Result<Option<Section>, Refusal> {
-        ffi::section(self.0, position).section()
+    pub fn section(&self, position: u64) -> Result<Option<Section<'a>>, Refusal> {
+        ffi::section(self.0, position).section(self.0)
     }
 
     /// All sections in the order of the file, in one pass. The library's walk accepts and counts
@@ -135,7 +115,7 @@ impl<'a, E: Edition> Module<'a, E> {
     /// use wakemiono::Module;
     ///
     /// let module = Module::new(b"\0asm\x01\0\0\0\x01\x01\x00\x03\x01\x00");
-    /// let ids: Vec<u8> = module.sections()?.map(|section| section.id).collect();
+    /// let ids: Vec<u8> = module.sections()?.map(|section| section.id()).collect();
     /// assert_eq!(ids, [1, 3]);
     /// # Ok::<(), wakemiono::Refusal>(())
     /// ```
@@ -144,12 +124,7 @@ impl<'a, E: Edition> Module<'a, E> {
     ///
     /// As [`section_count`](Self::section_count).
     pub fn sections(&self) -> Result<Sections<'a>, Refusal> {
-        let count = self.section_count()?;
-        Ok(Sections {
-            module: self.0,
-            next: PREAMBLE_LENGTH,
-            left: count,
-        })
+        Ok(Sections::of(self.0, self.section_count()?))
     }
 
     /// The payload of the first custom section of a name, compared byte by byte.
@@ -462,84 +437,4 @@ impl<E: Edition> fmt::Debug for Module<'_, E> {
     fn fmt(&self, f: &mut fmt::Formatter<'_>) -> fmt::Result {
         write!(f, "Module({} bytes)", self.0.len())
     }
-}
-
-const PREAMBLE_LENGTH: usize = 8;
-
-/// The sections of an accepted module, in the order of the file.
-///
-/// ```
-/// use wakemiono::Module;
-///
-/// let sections = Module::new(b"\0asm\x01\0\0\0\x01\x01\x00\x03\x01\x00").sections()?;
-/// assert_eq!(sections.len(), 2);
-/// assert_eq!(sections.last().unwrap().offset, 11);
-/// # Ok::<(), wakemiono::Refusal>(())
-/// ```
-#[derive(Clone)]
-pub struct Sections<'a> {
-    /// What the walk has accepted.
-    module: &'a [u8],
-    /// Where the next section starts.
-    next: usize,
-    /// How many sections there still are.
-    left: u64,
-}
-
-impl Iterator for Sections<'_> {
-    type Item = Section;
-
-    fn next(&mut self) -> Option<Section> {
-        self.left = self.left.checked_sub(1)?;
-        let offset = self.next;
-        let (id, behind_id) = self.module.get(offset..)?.split_first()?;
-        let (length, size_bytes) = size(behind_id);
-        self.next = offset + 1 + size_bytes + usize::try_from(length).ok()?;
-        Some(Section {
-            id: *id,
-            offset: u64::try_from(offset).ok()?,
-            length,
-        })
-    }
-
-    fn size_hint(&self) -> (usize, Option<usize>) {
-        let left = usize::try_from(self.left).unwrap_or(usize::MAX);
-        (left, Some(left))
-    }
-}
-
-impl ExactSizeIterator for Sections<'_> {}
-
-impl FusedIterator for Sections<'_> {}
-
-impl fmt::Debug for Sections<'_> {
-    fn fmt(&self, f: &mut fmt::Formatter<'_>) -> fmt::Result {
-        write!(f, "Sections({} left)", self.left)
-    }
-}
-
-/// The most bytes that a number takes.
-const LONGEST_NUMBER: usize = 5;
-
-/// How many bits of a number stand in each of its bytes, the lowest ones in the first.
-const BITS_IN_A_BYTE: usize = 7;
-
-/// Those bits.
-const BITS: u8 = 0x7F;
-
-/// The bit that says that the number goes on in the next byte.
-const GOES_ON: u8 = 0x80;
-
-/// The size number that starts here in an accepted module, and how many bytes it takes.
-fn size(bytes: &[u8]) -> (u64, usize) {
-    let mut value = 0;
-    let mut taken = 0;
-    for byte in bytes.iter().take(LONGEST_NUMBER) {
-        value |= u64::from(byte & BITS) << (BITS_IN_A_BYTE * taken);
-        taken += 1;
-        if byte & GOES_ON == 0 {
-            break;
-        }
-    }
-    (value, taken)
 }

@@ -5,7 +5,8 @@ use std::marker::PhantomData;
 
 use crate::answer::is_yes;
 use crate::{
-    ffi, Edition, FieldIndex, First, FunctionIndex, LocalIndex, Name, Refusal, TagIndex, TypeIndex,
+    ffi, Edition, FieldIndex, First, FunctionIndex, LocalIndex, Name, Refusal, Subsections,
+    TagIndex, TypeIndex,
 };
 
 /// The payload of a `name` section, borrowed from the caller, in an [`Edition`] of names: the first
@@ -219,6 +220,27 @@ impl<'a, E: Edition> NamePayload<'a, E> {
     /// As [`judge`](Self::judge).
     pub fn kept(&self, id: u8) -> Result<Option<&'a [u8]>, Refusal> {
         E::kept(self.0, id).part(self.0)
+    }
+
+    /// All subsections in the order of the payload, in one pass, those that the edition knows and those that
+    /// it keeps. The library judges the payload; the steps from one to the next are this crate's own, by the
+    /// sizes that were accepted.
+    ///
+    /// ```
+    /// use wakemiono::NamePayload;
+    ///
+    /// let payload = NamePayload::new(&[0x01, 0x04, 0x01, 0x00, 0x01, 0x61, 0x03, 0x01, 0xFF]);
+    /// let ids: Vec<u8> = payload.subsections()?.map(|(id, _)| id).collect();
+    /// assert_eq!(ids, [1, 3]);
+    /// # Ok::<(), wakemiono::Refusal>(())
+    /// ```
+    ///
+    /// # Errors
+    ///
+    /// As [`judge`](Self::judge).
+    pub fn subsections(&self) -> Result<Subsections<'a>, Refusal> {
+        self.judge()?;
+        Ok(Subsections::of(self.0))
     }
 
     /// Writes the canonical form to the front of an output, and answers its length. The rest of the

@@ -551,4 +551,17 @@ impl fmt::Display for Refusal {
     }
 }
 
+/// So that it goes through `?` as any error does, and is found again in a boxed one.
+///
+/// ```
+/// use std::error::Error;
+/// use wakemiono::{Module, Refusal};
+///
+/// fn sections(module: &[u8]) -> Result<u64, Box<dyn Error>> {
+///     Ok(Module::new(module).section_count()?)
+/// }
+///
+/// let error = sections(b"no module").unwrap_err();
+/// assert_eq!(error.downcast_ref().map(Refusal::number), Some(1));
+/// ```
 impl Error for Refusal {}

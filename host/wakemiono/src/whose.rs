@@ -55,9 +55,27 @@ pub enum Supplied<S, O> {
 }
 
 /// A name that one payload of a pair has supplied.
+///
+/// ```
+/// use wakemiono::{FunctionIndex, NamePayload, Pair, SuppliedName, Whose};
+///
+/// let (separate, own) = (NamePayload::new(&[0x01, 0x04, 0x01, 0x03, 0x01, 0x66]), NamePayload::new(&[]));
+/// let name: Option<SuppliedName> = Pair::new(separate, own).function_name(FunctionIndex(3))?;
+/// assert_eq!(name.map(|name| name.whose()), Some(Whose::Separate));
+/// # Ok::<(), wakemiono::PairRefusal>(())
+/// ```
 pub type SuppliedName<'s, 'o> = Supplied<Name<'s>, Name<'o>>;
 
 /// The contents of a kept subsection that one payload of a pair has supplied.
+///
+/// ```
+/// use wakemiono::{NamePayload, Pair, SuppliedBytes, Whose};
+///
+/// let (separate, own) = (NamePayload::new(&[]), NamePayload::new(&[0x03, 0x01, 0xFF]));
+/// let kept: Option<SuppliedBytes> = Pair::new(separate, own).kept(3)?;
+/// assert_eq!(kept.map(|kept| kept.into_inner()), Some(&[0xFF][..]));
+/// # Ok::<(), wakemiono::PairRefusal>(())
+/// ```
 pub type SuppliedBytes<'s, 'o> = Supplied<&'s [u8], &'o [u8]>;
 
 impl<S, O> Supplied<S, O> {
@@ -209,4 +227,16 @@ impl fmt::Display for PairRefusal {
     }
 }
 
+/// So that it goes through `?` as any error does.
+///
+/// ```
+/// use std::error::Error;
+/// use wakemiono::{NamePayload, Pair};
+///
+/// fn joined(separate: &[u8], own: &[u8]) -> Result<Vec<u8>, Box<dyn Error>> {
+///     Ok(Pair::new(NamePayload::new(separate), NamePayload::new(own)).to_joined()?)
+/// }
+///
+/// assert!(joined(&[], &[0xFF]).unwrap_err().is::<wakemiono::PairRefusal>());
+/// ```
 impl Error for PairRefusal {}

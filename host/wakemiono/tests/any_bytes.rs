@@ -4,14 +4,16 @@
 
 mod common;
 
+use std::collections::BTreeSet;
+
 use common::{
     custom, module, section, AllQuestions, Asked, PairAsked, EVERY_ID, HINTS_NAME, OLD_HINTS_NAME,
     ONLY_WIDER, P, SMALL,
 };
 use wakemiono::{
-    offset_in, CodeOffset, Customer, First, FunctionIndex, Hints, Hold, LocalIndex, Marked,
-    Metadata, Module, Name, NamePayload, Pair, PairRefusal, Place, Refusal, SharedTable, Stream,
-    SuppliedName, Walked, Whose, Why, Wider,
+    offset_in, CodeOffset, Customer, Edition, First, FunctionIndex, Hints, Hold, LocalIndex,
+    Marked, Metadata, Module, Name, NamePayload, Pair, PairRefusal, Place, Refusal, SharedTable,
+    Stream, SuppliedName, Walked, Whose, Why, Wider,
 };
 
 type Answers<'a> = Vec<Option<&'a [u8]>>;
@@ -46,6 +48,7 @@ fn names_asked<E: AllQuestions>(payload: NamePayload<'_, E>) -> Result<Answers<'
 
 fn names_agree<E: AllQuestions>(bytes: &[u8]) {
     let payload = NamePayload::<E>::in_edition(bytes);
+    subsections_agree(payload);
     let asked = names_asked(payload);
     let canonical = payload.to_canonical();
     assert_eq!(canonical.as_ref().err(), asked.as_ref().err());
@@ -324,15 +327,38 @@ fn branches_agree(module: &Module<'_>) {
     }
 }
 
-/// All calls that walk give the same refusal, and the steps of `sections` are those of `section`.
+/// All calls that walk give the same refusal, the steps of `sections` are those of `section`, and the first custom
+/// section of a name has the payload that `custom` finds.
 fn sections_agree(module: &Module<'_>) {
     let walked = module.section_count();
     assert_eq!(module.names().map(drop), walked.map(drop));
     let sections = module.sections();
     assert_eq!(sections.clone().map(|all| all.len() as u64), walked);
+    let mut names = BTreeSet::new();
     for (position, section) in (0..).zip(sections.into_iter().flatten()) {
         assert_eq!(module.section(position), Ok(Some(section)));
+        assert_eq!(section.name().is_some(), section.id() == 0);
+        if let Some(name) = section.name().filter(|name| names.insert(*name)) {
+            assert_eq!(module.custom(name), Ok(section.payload()));
+        }
     }
+}
+
+/// The subsections of an accepted payload are all of it, and those that are kept are what `kept` finds.
+fn subsections_agree<E: Edition>(payload: NamePayload<'_, E>) {
+    let subsections = payload.subsections();
+    assert_eq!(subsections.clone().map(drop), payload.judge());
+    let mut end = 0;
+    for (id, contents) in subsections.into_iter().flatten() {
+        let start = offset_in(payload.as_bytes(), contents).expect("it lies there");
+        assert!((2..=6).contains(&(start - end)), "an id and a size");
+        assert_eq!(payload.as_bytes()[end], id);
+        end = start + contents.len();
+        if let Some(kept) = payload.kept(id).expect("it was accepted") {
+            assert_eq!(kept, contents);
+        }
+    }
+    assert!(payload.judge().is_err() || end == payload.as_bytes().len());
 }
 
 /// A module that arrives, in one part and byte by byte, is walked over as one that is lent.

@@ -4,8 +4,7 @@ mod common;
 
 use common::{custom, module, refused, section, section_sized, text, HINTS_NAME, P, SMALL};
 use wakemiono::{
-    offset_in, CodeOffset, FieldIndex, FunctionIndex, Hint, LocalIndex, Module, Section, TagIndex,
-    TypeIndex,
+    offset_in, CodeOffset, FieldIndex, FunctionIndex, Hint, LocalIndex, Module, TagIndex, TypeIndex,
 };
 
 /// The ids that are not custom, in the order of their sections.
@@ -21,12 +20,14 @@ fn the_module_of_the_rules() {
     assert_eq!(bytes.len(), 36);
     let module = Module::new(&bytes);
     assert_eq!(module.section_count(), Ok(1));
-    let only = Section {
-        id: 0,
-        offset: 8,
-        length: 26,
-    };
-    assert_eq!(module.section(0), Ok(Some(only)));
+    let only = module.section(0).unwrap().unwrap();
+    assert_eq!((only.id(), only.offset()), (0, 8));
+    assert_eq!(
+        (only.contents_offset(), only.contents()),
+        (10, &bytes[10..])
+    );
+    assert_eq!(only.name().unwrap().to_str(), Ok("name"));
+    assert_eq!(only.payload(), Some(&P[..]));
     assert_eq!(module.section(1), Ok(None));
     assert_eq!(module.section(u64::MAX), Ok(None));
     let payload = module.custom("name").unwrap().unwrap();
@@ -37,10 +38,10 @@ fn the_module_of_the_rules() {
 #[test]
 fn the_small_module() {
     let module = Module::new(SMALL);
-    let sections: Vec<(u8, u64, u64)> = module
+    let sections: Vec<(u8, u64, usize)> = module
         .sections()
         .unwrap()
-        .map(|section| (section.id, section.offset, section.length))
+        .map(|section| (section.id(), section.offset(), section.contents().len()))
         .collect();
     let listed = [
         (1, 8, 6),
@@ -274,8 +275,16 @@ fn sections_are_those_at_each_position() {
         for (position, section) in (0..).zip(all.clone()) {
             assert_eq!(module.section(position), Ok(Some(section)));
         }
+        for custom in all.clone().skip(1).step_by(2) {
+            assert_eq!(custom.name().unwrap().as_bytes(), b"x");
+            assert_eq!(custom.payload(), Some(&[0xFF; 3][..]));
+        }
+        for (id, other) in ORDER.into_iter().zip(all.clone().step_by(2)) {
+            assert_eq!(other.contents(), vec![id; usize::from(id) * 40]);
+            assert_eq!((other.name(), other.payload()), (None, None));
+        }
         let last = all.last().unwrap();
-        assert_eq!(last.offset + 7, bytes.len() as u64);
+        assert_eq!(last.offset() + 7, bytes.len() as u64);
     }
 }
 
@@ -287,5 +296,5 @@ fn many_sections_are_listed_in_one_pass() {
     assert_eq!(sections.len(), count);
     assert!(sections
         .zip(0..)
-        .all(|(section, position)| section.offset == 8 + 3 * position));
+        .all(|(section, position)| section.offset() == 8 + 3 * position));
 }

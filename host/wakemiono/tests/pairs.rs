@@ -318,7 +318,7 @@ fn stripped(bytes: &[u8]) -> (&[u8], Vec<u8>) {
     let names = module.names().unwrap().expect("it has names").as_bytes();
     let end = offset_in(bytes, names).unwrap() + names.len();
     let sections = module.sections().unwrap();
-    let starts = sections.map(|section| section.offset as usize);
+    let starts = sections.map(|section| section.offset() as usize);
     let start = starts.filter(|start| *start < end).last().unwrap();
     (names, [&bytes[..start], &bytes[end..]].concat())
 }

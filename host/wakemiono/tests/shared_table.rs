@@ -10,18 +10,6 @@ use wakemiono::{
     function_names, Customer, FunctionIndex, Hold, NamePayload, Reason, Refusal, SharedTable,
 };
 
-/// What the outputs of the example programs are held to.
-const TWO_CUSTOMERS: &str = include_str!("../examples/two_customers.expected");
-const CLOSE_THE_GAPS: &str = include_str!("../examples/close_the_gaps.expected");
-
-#[path = "../examples/two_customers.rs"]
-#[allow(dead_code)] // its `main` is the program's
-mod two_customers;
-
-#[path = "../examples/close_the_gaps.rs"]
-#[allow(dead_code)] // its `main` is the program's
-mod close_the_gaps;
-
 const ONE: Customer = Customer(0);
 const OTHER: Customer = Customer(15);
 
@@ -344,13 +332,4 @@ fn an_open_finds_room_once_the_gaps_are_closed() {
         let name = text(table.function_name(customer, Hold(hold), FunctionIndex(0)));
         assert_eq!(name.replace(letter, ""), "");
     }
-}
-
-#[test]
-fn the_examples_print_what_is_expected() {
-    let (mut shared, mut compacted) = (vec![], vec![]);
-    two_customers::tell(&mut shared).expect("it is told");
-    close_the_gaps::tell(&mut compacted).expect("it is told");
-    assert_eq!(String::from_utf8(shared).unwrap(), TWO_CUSTOMERS);
-    assert_eq!(String::from_utf8(compacted).unwrap(), CLOSE_THE_GAPS);
 }

@@ -58,9 +58,7 @@ fn with_canonical_names<E: Edition>(
     payload: NamePayload<'_, E>,
 ) -> Result<Vec<u8>, Failure> {
     let canonical = payloads::canonical_names(Some(payload))?;
-    let replaced = payload.as_bytes().len();
-    let made = in_place::with_names(module.as_bytes(), replaced, &canonical);
-    let made = made.ok_or(Failure::Misfit)?;
+    let made = in_place::with_names(module, &canonical).ok_or(Failure::Misfit)?;
     let found = payloads::names(Module::<E>::in_edition(&made));
     match found {
         Ok(Some(found)) if found.as_bytes() == canonical => Ok(made),

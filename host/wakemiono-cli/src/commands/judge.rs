@@ -10,6 +10,7 @@ use crate::json::Json;
 use crate::payloads::{HINTS, NAMES, OLD_HINTS};
 use crate::refused::Refused;
 use crate::report::{Failure, Report, Status};
+use crate::terminal::Style;
 
 /// What there is to say of a module or of one of its payloads.
 enum Verdict {
@@ -38,7 +39,7 @@ impl Verdict {
 
     fn lines(&self) -> String {
         match self {
-            Verdict::Refused(refused) => refused.verdict(),
+            Verdict::Refused(refused) => refused.verdict(Style::of_output()),
             Verdict::AcceptedPayload { canonical } => {
                 let form = if *canonical {
                     "canonical already"

@@ -3,14 +3,15 @@
 use std::ffi::OsStr;
 use std::ops::Range;
 
-use wakemiono::{First, Place, Section, Walked};
+use wakemiono::{First, Place, Walked};
 
 use crate::arriving::Arrived;
 use crate::escape;
-use crate::heads::ShownName;
+use crate::heads::{Section, ShownName};
 use crate::json::Json;
 use crate::refused::Refused;
 use crate::report::{Failure, Report, Status};
+use crate::terminal::Style;
 
 /// What stands behind a name that is shown by its beginning. No whole name is shown so, since a
 /// backslash in it would be escaped.
@@ -29,7 +30,7 @@ pub fn run(file: &OsStr, json: bool) -> Result<Report, Failure> {
 
 /// The listing format has a line for a refusal, and the person gets the words as well.
 fn refused_lines(refused: &Refused) -> Report {
-    let words = format!("wakemiono: {}", refused.words());
+    let words = format!("wakemiono: {}", refused.words(Style::of_errors()));
     Report::ending(Status::Bad, refused.listing_line()).saying(words)
 }
 
