@@ -71,7 +71,7 @@ pub(crate) fn ask_hint(
 }
 
 /// The hint that the data of an item gives, or none where it is no hint.
-fn hint_of(data: Part<'_>) -> Option<Kind> {
+pub(crate) fn hint_of(data: Part<'_>) -> Option<Kind> {
     match data.bytes() {
         [0] => Some(Kind::Unlikely),
         [1] => Some(Kind::Likely),
@@ -80,7 +80,7 @@ fn hint_of(data: Part<'_>) -> Option<Kind> {
 }
 
 /// Reads and checks the payload to its end. Every pair of function and offset is met at most once.
-fn read<'a>(
+pub(crate) fn read<'a>(
     payload: Part<'a>,
     format: Format,
     mut meet: impl FnMut(u32, u32, Part<'a>),

@@ -39,10 +39,10 @@ pub fn old_hints_canonical(payload: &[u8], out: &mut [u8]) -> Answer {
 
 /// One hint, in the words of the payload.
 #[derive(Clone, Copy)]
-struct OldHint {
-    function: u32,
-    offset: u32,
-    likely: bool,
+pub(crate) struct OldHint {
+    pub function: u32,
+    pub offset: u32,
+    pub likely: bool,
 }
 
 impl OldHint {
@@ -114,12 +114,18 @@ fn read_kind(rest: &mut Part<'_>) -> Result<bool, Refusal> {
     }
 }
 
-fn rewrite(payload: &[u8], out: &mut [u8]) -> Result<u64, Refusal> {
+/// The hints of a payload by function and offset, of those for one place the first.
+pub(crate) fn in_order(payload: &[u8]) -> Result<Vec<OldHint>, Refusal> {
     let mut hints = vec![];
     read(Part::whole(payload), |hint| hints.push(hint))?;
     // Sorting keeps the order of hints for one place, so that the first one is the one that stays.
     hints.sort_by_key(OldHint::place);
     hints.dedup_by_key(|hint| hint.place());
+    Ok(hints)
+}
+
+fn rewrite(payload: &[u8], out: &mut [u8]) -> Result<u64, Refusal> {
+    let hints = in_order(payload)?;
     let mut length = Length::default();
     write(&hints, &mut length);
     let needed = room_for(length.0)?;

@@ -2,7 +2,9 @@
 
 mod common;
 
-use common::{custom, module, refused, section, section_sized, text, HINTS_NAME, P, SMALL};
+use common::{
+    custom, module, refused, section, section_sized, text, HINTS_NAME, ONE_OF_EACH, P, SMALL,
+};
 use wakemiono::{
     offset_in, CodeOffset, FieldIndex, FunctionIndex, Hint, LocalIndex, Module, TagIndex, TypeIndex,
 };
@@ -170,16 +172,7 @@ fn a_module_without_the_sections_gives_none() {
 
 #[test]
 fn every_name_through_a_module() {
-    let payload = [
-        0x00, 0x02, 0x01, 0x6D, // module m
-        0x01, 0x04, 0x01, 0x05, 0x01, 0x66, // function 5 f
-        0x02, 0x06, 0x01, 0x05, 0x01, 0x07, 0x01, 0x6C, // local 7 of function 5 l
-        0x03, 0x02, 0xFF, 0xFE, // kept
-        0x04, 0x04, 0x01, 0x05, 0x01, 0x74, // type 5 t
-        0x0A, 0x06, 0x01, 0x05, 0x01, 0x07, 0x01, 0x64, // field 7 of type 5 d
-        0x0B, 0x04, 0x01, 0x05, 0x01, 0x67, // tag 5 g
-    ];
-    let bytes = module(&[section(1, &[0]), custom("name", &payload)]);
+    let bytes = module(&[section(1, &[0]), custom("name", &ONE_OF_EACH)]);
     let module = Module::new(&bytes);
     assert_eq!(text(module.module_name()), "m");
     assert_eq!(text(module.function_name(FunctionIndex(5))), "f");

@@ -2,7 +2,7 @@
 
 mod common;
 
-use common::{refused, text, P};
+use common::{refused, text, ONE_OF_EACH, P};
 use wakemiono::{
     CodeOffset, FieldIndex, FunctionIndex, Hint, Hints, LocalIndex, Metadata, NamePayload,
     TagIndex, TypeIndex,
@@ -95,16 +95,7 @@ fn a_payload_damaged_further_on_is_refused_whatever_is_asked() {
 
 #[test]
 fn each_question_has_its_own_subsection() {
-    let payload = NamePayload::new(&[
-        0x00, 0x02, 0x01, 0x6D, // module m
-        0x01, 0x04, 0x01, 0x05, 0x01, 0x66, // function 5 f
-        0x02, 0x06, 0x01, 0x05, 0x01, 0x07, 0x01, 0x6C, // local 7 of function 5 l
-        0x03, 0x02, 0xFF, 0xFE, // kept
-        0x04, 0x04, 0x01, 0x05, 0x01, 0x74, // type 5 t
-        0x0A, 0x06, 0x01, 0x05, 0x01, 0x07, 0x01, 0x64, // field 7 of type 5 d
-        0x0B, 0x04, 0x01, 0x05, 0x01, 0x67, // tag 5 g
-        0xFF, 0x00, // kept and empty
-    ]);
+    let payload = NamePayload::new(&ONE_OF_EACH);
     assert_eq!(text(payload.module_name()), "m");
     assert_eq!(text(payload.function_name(FunctionIndex(5))), "f");
     assert_eq!(
