@@ -25,4 +25,3 @@ pub mod Stream
 pub mod Forms
 pub mod Sharing
 pub mod Wakemiono
-pub mod Saying

@@ -1,3 +1,0 @@
-pub mod Laws
-pub mod ResultLaws
-pub mod HexadecimalLaws

@@ -1,3 +1,0 @@
-pub mod Results
-pub mod Words
-pub mod Promises
