@@ -254,6 +254,10 @@ lax-stands {strict = strict} l passes wrap {s} {part} i e =
     (λ n at r. absurd (not-accepted (rw r at e)))
 
 module _ {s : List ℕ} {part : Cursor} {held : Content Part} (i : Inside s part) where
+  pub one-stands : judge (contents oneName (part .at) (left s part)) ≡ accepted held → Lax sized single s part held
+  unfolding contents
+  one-stands e = lax-stands name-laxer sized-passes single i e
+
   pub map-stands : judge (contents nameMap (part .at) (left s part)) ≡ accepted held → Lax (table sized) names s part held
   unfolding contents
   map-stands e = lax-stands (table-laxer name-laxer) (table-passable sized-passes) names i e

@@ -1,0 +1,4 @@
+pub mod CountLaws
+pub mod PutLaws
+pub mod GroupLaws
+pub mod MapLaws

@@ -1,0 +1,4 @@
+pub mod Counting
+pub mod Putting
+pub mod Listing
+pub mod Promises

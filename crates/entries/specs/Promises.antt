@@ -1,0 +1,1 @@
+-- THE PROMISES of the crate `entries`
