@@ -22,7 +22,14 @@ use tables::stepping::group_step;
 use tables::stepping::rows_here;
 
 // The one name that stands here, which has no index.
-pub fn list_one(c: Cursor, s: &[u8], firsts: &mut [u32], seconds: &mut [u32], offsets: &mut [u64], lengths: &mut [u64]) -> Answer
+pub fn list_one(
+    c: Cursor,
+    s: &[u8],
+    firsts: &mut [u32],
+    seconds: &mut [u32],
+    offsets: &mut [u64],
+    lengths: &mut [u64],
+) -> Answer
     requires { ⌜ Known sized (now s) c ⌝ }
     ensures { λ r. ⌜ ListsRows sized oneRow placeColumns (now (s .entry)) c (now (firsts .entry) ∷ now (seconds .entry) ∷ now (offsets .entry) ∷ now (lengths .entry) ∷ []) (now (firsts .exit) ∷ now (seconds .exit) ∷ now (offsets .exit) ∷ now (lengths .exit) ∷ []) r ⌝ }
 {
@@ -35,7 +42,14 @@ pub fn list_one(c: Cursor, s: &[u8], firsts: &mut [u32], seconds: &mut [u32], of
 }
 
 // The map that stands here: a row's own index is its first, so that the lists of indices change places.
-pub fn list_map(c: Cursor, s: &[u8], firsts: &mut [u32], seconds: &mut [u32], offsets: &mut [u64], lengths: &mut [u64]) -> Answer
+pub fn list_map(
+    c: Cursor,
+    s: &[u8],
+    firsts: &mut [u32],
+    seconds: &mut [u32],
+    offsets: &mut [u64],
+    lengths: &mut [u64],
+) -> Answer
     requires { ⌜ Known (table sized) (now s) c ⌝ }
     ensures { λ r. ⌜ ListsRows (table sized) plainRows placeColumns (now (s .entry)) c (now (firsts .entry) ∷ now (seconds .entry) ∷ now (offsets .entry) ∷ now (lengths .entry) ∷ []) (now (firsts .exit) ∷ now (seconds .exit) ∷ now (offsets .exit) ∷ now (lengths .exit) ∷ []) r ⌝ }
 {
@@ -49,7 +63,14 @@ pub fn list_map(c: Cursor, s: &[u8], firsts: &mut [u32], seconds: &mut [u32], of
 }
 
 // The rows of all groups to come.
-fn put_groups(all: Rows, s: &[u8], firsts: &mut [u32], seconds: &mut [u32], offsets: &mut [u64], lengths: &mut [u64])
+fn put_groups(
+    all: Rows,
+    s: &[u8],
+    firsts: &mut [u32],
+    seconds: &mut [u32],
+    offsets: &mut [u64],
+    lengths: &mut [u64],
+)
     requires { ⌜ GroupsFit AnyPart (now s) all (now firsts ∷ now seconds ∷ now offsets ∷ now lengths ∷ []) ⌝ }
     ensures { λ _. ⌜ PutsGroups placeColumns (now (s .entry)) all (now (firsts .entry) ∷ now (seconds .entry) ∷ now (offsets .entry) ∷ now (lengths .entry) ∷ []) (now (firsts .exit) ∷ now (seconds .exit) ∷ now (offsets .exit) ∷ now (lengths .exit) ∷ []) ⌝ }
 {
@@ -71,7 +92,14 @@ fn put_groups(all: Rows, s: &[u8], firsts: &mut [u32], seconds: &mut [u32], offs
 }
 
 // The table of tables that stands here: an indirect map, or metadata.
-pub fn list_groups(c: Cursor, s: &[u8], firsts: &mut [u32], seconds: &mut [u32], offsets: &mut [u64], lengths: &mut [u64]) -> Answer
+pub fn list_groups(
+    c: Cursor,
+    s: &[u8],
+    firsts: &mut [u32],
+    seconds: &mut [u32],
+    offsets: &mut [u64],
+    lengths: &mut [u64],
+) -> Answer
     requires { ⌜ KnownAll AnyPart (now s) c ⌝ }
     ensures { λ r. ⌜ ListsRows (table (table sized)) groupRows placeColumns (now (s .entry)) c (now (firsts .entry) ∷ now (seconds .entry) ∷ now (offsets .entry) ∷ now (lengths .entry) ∷ []) (now (firsts .exit) ∷ now (seconds .exit) ∷ now (offsets .exit) ∷ now (lengths .exit) ∷ []) r ⌝ }
 {

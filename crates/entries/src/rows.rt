@@ -17,7 +17,16 @@ pub struct Put {
 }
 
 // One row.
-pub fn put_row(at: usize, first: u32, second: u32, part: Cursor, firsts: &mut [u32], seconds: &mut [u32], offsets: &mut [u64], lengths: &mut [u64])
+pub fn put_row(
+    at: usize,
+    first: u32,
+    second: u32,
+    part: Cursor,
+    firsts: &mut [u32],
+    seconds: &mut [u32],
+    offsets: &mut [u64],
+    lengths: &mut [u64],
+)
     requires { ⌜ Room (at + 1) (now firsts ∷ now seconds ∷ now offsets ∷ now lengths ∷ []) ⌝ }
     requires { ⌜ part .at ≤ part .end ⌝ }
     ensures { λ _. ⌜ Stores at first second part (now (firsts .entry) ∷ now (seconds .entry) ∷ now (offsets .entry) ∷ now (lengths .entry) ∷ []) (now (firsts .exit) ∷ now (seconds .exit) ∷ now (offsets .exit) ∷ now (lengths .exit) ∷ []) ⌝ }
@@ -31,7 +40,16 @@ pub fn put_row(at: usize, first: u32, second: u32, part: Cursor, firsts: &mut [u
 }
 
 // All rows to come, under one first index: the second is the row's own.
-pub fn put_rows(all: Rows, s: &[u8], first: u32, start: usize, firsts: &mut [u32], seconds: &mut [u32], offsets: &mut [u64], lengths: &mut [u64]) -> Put
+pub fn put_rows(
+    all: Rows,
+    s: &[u8],
+    first: u32,
+    start: usize,
+    firsts: &mut [u32],
+    seconds: &mut [u32],
+    offsets: &mut [u64],
+    lengths: &mut [u64],
+) -> Put
     requires { ⌜ RowsFit AnyPart (now s) all start (now firsts ∷ now seconds ∷ now offsets ∷ now lengths ∷ []) ⌝ }
     ensures { λ r. ⌜ PutsRows placeColumns (now (s .entry)) all first start (now (firsts .entry) ∷ now (seconds .entry) ∷ now (offsets .entry) ∷ now (lengths .entry) ∷ []) (now (firsts .exit) ∷ now (seconds .exit) ∷ now (offsets .exit) ∷ now (lengths .exit) ∷ []) r ⌝ }
 {
