@@ -19,6 +19,7 @@ pub mod Instructions
 pub mod Branches
 pub mod Neighbours
 pub mod Markers
+pub mod Entries
 pub mod Pairs
 pub mod Joining
 pub mod Stream

@@ -10,6 +10,7 @@ use denote.Enum.Declared.{tagOf}
 use Rattle.format.specs.Refusals.{numberOf}
 use Rattle.format.specs.Reading.{Judged as Judgement}
 use Rattle.format.specs.Names.{Kind}
+use Rattle.format.specs.Entries.{Listed, Lists}
 use Rattle.format.specs.Markers.{Markers, Makes}
 use Rattle.format.specs.Metadata.{hintAnswered}
 use Rattle.format.specs.Outputs.{writtenAs, Writes}
@@ -42,7 +43,7 @@ use Rattle.walk.specs.declared.survey.SectionAnswer.the-variants.{Found as ASec
 use Rattle.walk.specs.declared.survey.SectionPlace.{SectionPlace}
 use Rattle.walk.proofs.survey.SectionAnswer as section-type
 use Rattle.walk.proofs.Tags.{no-section}
-use Rattle.wakemiono.specs.Boundary.{wmNone, wmFound, wmRefused, wmPlace, wmSection, wmCount, wmJudged, wmHinted, wmHint, WmWrites, WmMakes, wmYes}
+use Rattle.wakemiono.specs.Boundary.{wmNone, wmFound, wmRefused, wmPlace, wmSection, wmCount, wmJudged, wmHinted, wmHint, WmWrites, WmMakes, WmLists, wmYes}
 use Rattle.wakemiono.specs.declared.WmAnswer.{WmAnswer}
 
 pub refusal-is : (r : Refusal) (n : ℕ) → n ≡ numberOf (r .reason) → record { kind = 2; code = n; offset = r .offset .0; length = 0 } ≡ wmRefused (numberOf (r .reason)) (r .offset .0)
@@ -146,6 +147,9 @@ says-written w e h = record { says = e ∙ ap wmCount (h .says); leaves = h .lea
 pub says-made : {wanted : Judgement Markers} {is os is′ os′ : List ℕ} {a : WmAnswer} (r : Answer) → a ≡ wmPlace (answered r) → Makes wanted is os is′ os′ r → WmMakes wanted is os is′ os′ a
 says-made r e h = record { says = e ∙ ap wmPlace (h .says); indices = h .indices; offsets = h .offsets }
 
+pub says-listed : {X : Type 0} {columns : List (Listed X → ℕ)} {found : Judgement (Option (List (Listed X)))} {lists lists′ : List (List ℕ)} {a : WmAnswer} (r : Answer) → a ≡ wmPlace (answered r) → Lists columns found lists lists′ r → WmLists columns found lists lists′ a
+says-listed r e h = record { says = e ∙ ap wmPlace (h .says); leaves = h .leaves }
+
 -- one question under two names
 module _ (kindOf : ℕ → Kind) (bytes : List ℕ) (a : WmAnswer) {q r : Question} (e : q ≡ r) where
   pub asked-so : a ≡ wmPlace (asPlace (ask kindOf q bytes)) → a ≡ wmPlace (asPlace (ask kindOf r bytes))
@@ -154,4 +158,4 @@ module _ (kindOf : ℕ → Kind) (bytes : List ℕ) (a : WmAnswer) {q r : Questi
   pub asked-so-through : a ≡ wmPlace (asPlace (askThrough kindOf q bytes)) → a ≡ wmPlace (asPlace (askThrough kindOf r bytes))
   asked-so-through h = rw e at h
 
-pub ruleset calls = (asked-so, asked-so-through, says-count, says-section, says-place, says-judged, says-hint, says-written, says-made, needs)
+pub ruleset calls = (asked-so, asked-so-through, says-count, says-section, says-place, says-judged, says-hint, says-written, says-made, says-listed, needs)

@@ -5,7 +5,9 @@ use mathlib.Core.List.{List}
 use mathlib.Core.Option.{Option, none, some}
 use mathlib.Core.Path.{_≡_}
 use lib.ListN.{length}
+use Rattle.format.specs.Entries.{Listed, fittingRows, listsAfter, rowsFound}
 use Rattle.format.specs.Markers.{Markers, madeAs, indicesOf, offsetsOf}
+use Rattle.format.specs.Options.{mapSome}
 use Rattle.format.specs.Outputs.{writeAnswer, over, outputAfter}
 use Rattle.format.specs.Reading.{Judged, accepted, refused, mapJudged}
 use Rattle.format.specs.declared.Hint.{Hint}
@@ -69,3 +71,8 @@ pub record WmMakes (wanted : Judged Markers) (is os is′ os′ : List ℕ) (a :
   pub says : a ≡ wmPlace (mapJudged madeAs wanted)
   pub indices : is′ ≡ over (mapJudged indicesOf wanted) is
   pub offsets : os′ ≡ over (mapJudged offsetsOf wanted) os
+
+-- every entry in one pass: the answer, and the whole end state of all lists
+pub record WmLists {X : Type 0} (columns : List (Listed X → ℕ)) (found : Judged (Option (List (Listed X)))) (lists lists′ : List (List ℕ)) (a : WmAnswer) : Type 0 where
+  pub says : a ≡ wmPlace (mapJudged (mapSome rowsFound) (fittingRows lists found))
+  pub leaves : lists′ ≡ listsAfter columns (fittingRows lists found) lists

@@ -4,6 +4,7 @@ use mathlib.Core.List.{List, []}
 use mathlib.Core.Path.{_≡_}
 use lib.ListN.{length}
 use Rattle.format.specs.Canonical.{canonicalNames, canonicalMetadata, canonicalHints}
+use Rattle.format.specs.Entries.{nameRows, itemRows, placeColumns, hintColumns}
 use Rattle.format.specs.Lists.{functionNames}
 use Rattle.format.specs.Markers.{made, quick}
 use Rattle.format.specs.Metadata.{anyItem, hintItem, judgeMetadata, askMetadata, askHint}
@@ -30,7 +31,7 @@ use Rattle.sharing.specs.declared.Table.{Table}
 use Rattle.wakemiono.specs.Arriving.{turnedBy, overBy}
 use Rattle.wakemiono.specs.Shared.{Shares, WmShares}
 use Rattle.branches.specs.Branches.{hintsOnBranches}
-use Rattle.wakemiono.specs.Boundary.{wmCount, wmSection, wmPlace, wmJudged, wmHint, wmYes, WmWrites, WmMakes}
+use Rattle.wakemiono.specs.Boundary.{wmCount, wmSection, wmPlace, wmJudged, wmHint, wmYes, WmWrites, WmMakes, WmLists}
 use Rattle.wakemiono.specs.Pairs.{wmPair, WmJoins}
 use Rattle.wakemiono.specs.Why.{wmWhy}
 use Rattle.wakemiono.specs.declared.WmAnswer.{WmAnswer}
@@ -188,3 +189,16 @@ wm-table-close t store customer hold after a = WmShares t store (closing custome
 -- K13: the step that closes the gaps
 abbrev pub wm-table-compact : (t : Table) (store : List ℕ) → (after : Table) (left : List ℕ) → WmAnswer → Type 0
 wm-table-compact t store after left a = WmShares t store tidying after left [] a
+
+-- Every entry in one pass: all lists before the call and after it, in the order of the call
+abbrev pub wm-names-list : (payload : List ℕ) (id : ℕ) (lists lists′ : List (List ℕ)) → WmAnswer → Type 0
+wm-names-list payload id lists lists′ a = WmLists placeColumns (nameRows knownKind id payload) lists lists′ a
+
+abbrev pub wm-wide-names-list : (payload : List ℕ) (id : ℕ) (lists lists′ : List (List ℕ)) → WmAnswer → Type 0
+wm-wide-names-list payload id lists lists′ a = WmLists placeColumns (nameRows widerKind id payload) lists lists′ a
+
+abbrev pub wm-metadata-list : (payload : List ℕ) (lists lists′ : List (List ℕ)) → WmAnswer → Type 0
+wm-metadata-list payload lists lists′ a = WmLists placeColumns (itemRows anyItem payload) lists lists′ a
+
+abbrev pub wm-hints-list : (payload : List ℕ) (lists lists′ : List (List ℕ)) → WmAnswer → Type 0
+wm-hints-list payload lists lists′ a = WmLists hintColumns (itemRows hintItem payload) lists lists′ a

@@ -33,6 +33,7 @@ pub mod beside;
 pub mod branching;
 pub mod old_hints;
 pub mod quick;
+pub mod rows;
 pub mod shared;
 pub mod why;
 pub mod wide;

@@ -1,8 +1,10 @@
 -- Each promise of the crate `wakemiono` determines what comes back.
 use Prim.Native.Nat.{ℕ}
 use mathlib.Core.List.{List, []}
+use mathlib.Core.Option.{Option}
 use mathlib.Core.Path.{sym, ap, _∙_, _≡_}
 use Rattle.format.specs.Determined.{Determines, Determines1, Determines2, Determines3, Determines4, Determines5, DeterminesBoth2, DeterminesBoth3, DeterminesBoth4, DeterminesThree2, DeterminesThree3, equal-determined, DeterminesBoth1, DeterminesBoth6}
+use Rattle.format.specs.Entries.{Listed}
 use Rattle.format.specs.Markers.{Markers}
 use Rattle.format.specs.Pairs.{Paired}
 use Rattle.format.specs.Reading.{Judged}
@@ -10,8 +12,8 @@ use Rattle.sharing.specs.Laws.Same.{same-table}
 use Rattle.sharing.specs.Model.{Call, closing, tidying}
 use Rattle.sharing.specs.declared.Table.{Table as SharedTable}
 use Rattle.wakemiono.proofs.Same.{wm-writes-same}
-use Rattle.wakemiono.specs.Boundary.{WmWrites, WmMakes}
-use Rattle.wakemiono.specs.Calls.{wm-walk, wm-section, wm-custom, wm-names-judge, wm-name, wm-metadata-judge, wm-metadata, wm-hints-judge, wm-hint, wm-name-in, wm-metadata-in, wm-hint-in, wm-names-canonical, wm-metadata-canonical, wm-hints-canonical, wm-names-is-canonical, wm-metadata-is-canonical, wm-hints-is-canonical, wm-function-names-write, wm-wide-names-judge, wm-wide-name, wm-wide-name-in, wm-wide-names-canonical, wm-wide-names-is-canonical, wm-old-hints-judge, wm-old-hint, wm-old-hint-in, wm-old-hints-canonical, wm-old-hints-is-canonical, wm-why-function, wm-why-local, wm-markers, wm-quick-function-name, wm-pair, wm-wide-pair, wm-pair-join, wm-wide-pair-join, wm-stream-begin, wm-stream-part, wm-stream-finish, wm-hints-on-branches, wm-table-start, wm-table-open, wm-table-function-name, wm-table-close, wm-table-compact}
+use Rattle.wakemiono.specs.Boundary.{WmWrites, WmMakes, WmLists}
+use Rattle.wakemiono.specs.Calls.{wm-walk, wm-section, wm-custom, wm-names-judge, wm-name, wm-metadata-judge, wm-metadata, wm-hints-judge, wm-hint, wm-name-in, wm-metadata-in, wm-hint-in, wm-names-canonical, wm-metadata-canonical, wm-hints-canonical, wm-names-is-canonical, wm-metadata-is-canonical, wm-hints-is-canonical, wm-function-names-write, wm-wide-names-judge, wm-wide-name, wm-wide-name-in, wm-wide-names-canonical, wm-wide-names-is-canonical, wm-old-hints-judge, wm-old-hint, wm-old-hint-in, wm-old-hints-canonical, wm-old-hints-is-canonical, wm-why-function, wm-why-local, wm-markers, wm-quick-function-name, wm-pair, wm-wide-pair, wm-pair-join, wm-wide-pair-join, wm-stream-begin, wm-stream-part, wm-stream-finish, wm-hints-on-branches, wm-table-start, wm-table-open, wm-table-function-name, wm-table-close, wm-table-compact, wm-names-list, wm-wide-names-list, wm-metadata-list, wm-hints-list}
 use Rattle.wakemiono.specs.Pairs.{WmJoins}
 use Rattle.wakemiono.specs.Shared.{WmShares}
 use Rattle.wakemiono.specs.declared.WmAnswer.{WmAnswer}
@@ -29,6 +31,13 @@ wm-makes-determined wanted is os a b p q =
     let two = p .indices ∙ sym (q .indices) in
     let three = p .offsets ∙ sym (q .offsets) in
     λ i. (one i, two i, three i)
+
+-- and of listing every entry, with all lists
+wm-lists-determined : {X : Type 0} (columns : List (Listed X → ℕ)) (found : Judged (Option (List (Listed X)))) (lists : List (List ℕ)) → Determines (λ (r : WmAnswer × List (List ℕ)). WmLists columns found lists (r .1) (r .0))
+wm-lists-determined columns found lists a b p q =
+    let one = p .says ∙ sym (q .says) in
+    let two = p .leaves ∙ sym (q .leaves) in
+    λ i. (one i, two i)
 
 -- and of a join
 wm-joins-determined : (wanted : Paired (Judged (List ℕ))) (old : List ℕ) → Determines (λ (r : WmPairAnswer × List ℕ). WmJoins wanted old (r .1) (r .0))
@@ -97,6 +106,10 @@ pub record Wakemiono : Type 0 where
   wm-table-function-name : DeterminesBoth6 wm-table-function-name
   wm-table-close : DeterminesBoth4 wm-table-close
   wm-table-compact : DeterminesThree2 wm-table-compact
+  wm-names-list : DeterminesBoth3 wm-names-list
+  wm-wide-names-list : DeterminesBoth3 wm-wide-names-list
+  wm-metadata-list : DeterminesBoth2 wm-metadata-list
+  wm-hints-list : DeterminesBoth2 wm-hints-list
 
 pub determined : Wakemiono
 determined =
@@ -154,4 +167,8 @@ determined =
       wm-table-compact = λ t store a b p q.
           let all = wm-shares-determined t store tidying (a .0, a .1, a .2, []) (b .0, b .1, b .2, []) p q in
           ap (λ (r : WmAnswer × SharedTable × List ℕ × List ℕ). (r .0, r .1, r .2)) all;
+      wm-names-list = λ payload id lists. wm-lists-determined _ _ _;
+      wm-wide-names-list = λ payload id lists. wm-lists-determined _ _ _;
+      wm-metadata-list = λ payload lists. wm-lists-determined _ _ _;
+      wm-hints-list = λ payload lists. wm-lists-determined _ _ _;
     }
