@@ -28,7 +28,7 @@
  *       behind the list of imports or of bodies                             first of them
  *   11  index or offset not above the one before                            that number (from lists: its position)
  *   12  hint of size other than 1, or data above 1; older: kind above 1     the size number; older: the kind
- *   13  output shorter than needed                                          the needed length (markers: their number)
+ *   13  output shorter than needed                                          the needed length (markers, entries: their number)
  *   14  lists disagree: unequal counts, or lengths that do not add up       0
  *   15  subsection, or older hints, would exceed 4,294,967,295 bytes        0
  *       payload for markers, or for the quick question, exceeds them        0
@@ -467,6 +467,27 @@ wm_answer wm_table_close(wm_table *table, const uint8_t *store, size_t store_len
  * close between, is refused 26 exactly where its payload is not stored yet and too few blocks are free in all. Refusals in
  * this order: 30; 27 where the check of any used block is wrong, whether it would move or not, found before anything moves. */
 wm_answer wm_table_compact(wm_table *table, uint8_t *store, size_t store_len);
+
+/* Entries: every row in one pass, put at the front of the lent lists, in order. FOUND with offset 0 and length = how many rows
+ * there are; what stands behind them is unchanged. A payload is judged whole first, whatever is asked of it. Refusals in this
+ * order: the payload's; 13 with the number of rows, where one of the lists is shorter. REFUSED and NONE change no list. */
+
+/* One subsection of a name payload, by its id: the index (0 for id 0), the index within it (0 for plain maps), and where each
+ * name lies in the payload. NONE without such a subsection, and for ids that are kept. */
+wm_answer wm_names_list(const uint8_t *payload, size_t payload_len, uint8_t id, uint32_t *firsts, size_t firsts_len,
+                        uint32_t *seconds, size_t seconds_len, uint64_t *offsets, size_t offsets_len,
+                        uint64_t *lengths, size_t lengths_len);
+/* The same by the wider edition. */
+wm_answer wm_wide_names_list(const uint8_t *payload, size_t payload_len, uint8_t id, uint32_t *firsts, size_t firsts_len,
+                             uint32_t *seconds, size_t seconds_len, uint64_t *offsets, size_t offsets_len,
+                             uint64_t *lengths, size_t lengths_len);
+/* Metadata of any format: function, code offset, and where its data lies in the payload. */
+wm_answer wm_metadata_list(const uint8_t *payload, size_t payload_len, uint32_t *functions, size_t functions_len,
+                           uint32_t *code_offsets, size_t code_offsets_len, uint64_t *offsets, size_t offsets_len,
+                           uint64_t *lengths, size_t lengths_len);
+/* Branch hints: function, code offset, and 0 for unlikely or 1 for likely. */
+wm_answer wm_hints_list(const uint8_t *payload, size_t payload_len, uint32_t *functions, size_t functions_len,
+                        uint32_t *code_offsets, size_t code_offsets_len, uint32_t *likely, size_t likely_len);
 
 #ifdef __cplusplus
 }

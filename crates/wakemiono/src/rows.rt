@@ -19,7 +19,15 @@ pub extern "C" fn wm_names_list(
 ) -> WmAnswer
     ensures { λ a. ⌜ wm-names-list (now (payload .entry)) id (now (firsts .entry) ∷ now (seconds .entry) ∷ now (offsets .entry) ∷ now (lengths .entry) ∷ []) (now (firsts .exit) ∷ now (seconds .exit) ∷ now (offsets .exit) ∷ now (lengths .exit) ∷ []) a ⌝ }
 {
-    of_answer(list_names(payload, Edition::First, id, firsts, seconds, offsets, lengths))
+    of_answer(list_names(
+        payload,
+        Edition::First,
+        id,
+        firsts,
+        seconds,
+        offsets,
+        lengths,
+    ))
 }
 
 #[no_mangle]
@@ -33,7 +41,15 @@ pub extern "C" fn wm_wide_names_list(
 ) -> WmAnswer
     ensures { λ a. ⌜ wm-wide-names-list (now (payload .entry)) id (now (firsts .entry) ∷ now (seconds .entry) ∷ now (offsets .entry) ∷ now (lengths .entry) ∷ []) (now (firsts .exit) ∷ now (seconds .exit) ∷ now (offsets .exit) ∷ now (lengths .exit) ∷ []) a ⌝ }
 {
-    of_answer(list_names(payload, Edition::Wider, id, firsts, seconds, offsets, lengths))
+    of_answer(list_names(
+        payload,
+        Edition::Wider,
+        id,
+        firsts,
+        seconds,
+        offsets,
+        lengths,
+    ))
 }
 
 #[no_mangle]

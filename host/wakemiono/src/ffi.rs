@@ -1,6 +1,6 @@
 //! The C calls, each behind a safe function on slices. All `unsafe` code of this crate stands here,
-//! and, of the calls on two name payloads, on a module that arrives and on a shared table, in
-//! [`pairs`], [`stream`] and [`table`].
+//! and, of the calls on two name payloads, on a module that arrives, on a shared table and of those
+//! that list every entry, in [`pairs`], [`stream`], [`table`] and [`entries`].
 //!
 //! What every block relies on, as the header `wakemiono.h` states it:
 //!
@@ -10,8 +10,10 @@
 //!   bytes and any numbers.
 //! - **output**: `&mut` is the only way to what lies there during the call, so no lent slice and no
 //!   other output overlaps it. A call stores into its outputs and nowhere else, and stores bytes or
-//!   numbers, of which any is a `u8` or a `u32`.
+//!   numbers, of which any is a `u8`, a `u32` or a `u64`.
 
+#[allow(dead_code)] // declared as the header has them; the safe functions are to come
+mod entries;
 pub(crate) mod pairs;
 pub(crate) mod stream;
 pub(crate) mod table;

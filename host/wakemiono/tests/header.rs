@@ -6,7 +6,8 @@ const DECLARED: &str = concat!(
     include_str!("../src/ffi.rs"),
     include_str!("../src/ffi/pairs.rs"),
     include_str!("../src/ffi/stream.rs"),
-    include_str!("../src/ffi/table.rs")
+    include_str!("../src/ffi/table.rs"),
+    include_str!("../src/ffi/entries.rs")
 );
 
 /// What stands between two marks, the first time that the opening one occurs.
@@ -30,6 +31,7 @@ fn parameter(c: &str) -> String {
         "const uint32_t *" => "*const u32",
         "uint8_t *" => "*mut u8",
         "uint32_t *" => "*mut u32",
+        "uint64_t *" => "*mut u64",
         "size_t" => "usize",
         "uint8_t" => "u8",
         "uint32_t" => "u32",
@@ -97,7 +99,7 @@ fn in_crate() -> Vec<String> {
 #[test]
 fn every_call_is_declared_as_the_header_has_it() {
     assert_eq!(in_crate(), in_header());
-    assert_eq!(in_crate().len(), 100);
+    assert_eq!(in_crate().len(), 104);
 }
 
 /// The fields of a struct of the header, as Rust declares them.

@@ -1,0 +1,55 @@
+//! The C calls that list every entry in one pass. What their blocks rely on is said of all calls in
+//! the module above.
+
+use super::Answer;
+
+extern "C" {
+    fn wm_names_list(
+        payload: *const u8,
+        payload_len: usize,
+        id: u8,
+        firsts: *mut u32,
+        firsts_len: usize,
+        seconds: *mut u32,
+        seconds_len: usize,
+        offsets: *mut u64,
+        offsets_len: usize,
+        lengths: *mut u64,
+        lengths_len: usize,
+    ) -> Answer;
+    fn wm_wide_names_list(
+        payload: *const u8,
+        payload_len: usize,
+        id: u8,
+        firsts: *mut u32,
+        firsts_len: usize,
+        seconds: *mut u32,
+        seconds_len: usize,
+        offsets: *mut u64,
+        offsets_len: usize,
+        lengths: *mut u64,
+        lengths_len: usize,
+    ) -> Answer;
+    fn wm_metadata_list(
+        payload: *const u8,
+        payload_len: usize,
+        functions: *mut u32,
+        functions_len: usize,
+        code_offsets: *mut u32,
+        code_offsets_len: usize,
+        offsets: *mut u64,
+        offsets_len: usize,
+        lengths: *mut u64,
+        lengths_len: usize,
+    ) -> Answer;
+    fn wm_hints_list(
+        payload: *const u8,
+        payload_len: usize,
+        functions: *mut u32,
+        functions_len: usize,
+        code_offsets: *mut u32,
+        code_offsets_len: usize,
+        likely: *mut u32,
+        likely_len: usize,
+    ) -> Answer;
+}
