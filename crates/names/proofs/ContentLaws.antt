@@ -1,6 +1,6 @@
 -- A subsection's contents: its kind by its id, and what a search over them answers.
 use Prim.Native.Nat.{ℕ, _≤_, _<_}
-use mathlib.Core.Bool.{Bool, false}
+use mathlib.Core.Bool.{Bool, true, false}
 use mathlib.Core.List.{List, [], _∷_}
 use mathlib.Core.Logic.{_⊎_, inl, inr, ⊎-elim}
 use mathlib.Core.Option.{Option, none, some}
@@ -11,7 +11,7 @@ use borrow.Author.Tests.{lt-ltb, le-ltb, ltb-true, ltb-false, eqb-true, eqb-fals
 use denote.Enum.Declared.{tagOf}
 use lib.Dec.{ltb, eqb}
 use lib.Seq.{slice-empty, slice-cons, length-slice}
-use Rattle.format.specs.Reading.{Outcome, got, stop, Reader, andThen, return, atEnd, filling, Judged, accepted, refused, judge, mapJudged, verdict}
+use Rattle.format.specs.Reading.{Outcome, got, stop, Reader, andThen, return, atEnd, filling, Judged as AnyJudged, accepted, refused, judge, mapJudged, verdict}
 use Rattle.format.specs.Options.{thenSome}
 use Rattle.format.specs.Parts.{Part, sized, name, remaining}
 use Rattle.format.specs.Tables.{lookup, table}
@@ -36,15 +36,13 @@ use Rattle.reading.proofs.Laws.{name-means, name-behind}
 use Rattle.reading.specs.Standing.{Stands, Known}
 use Rattle.reading.proofs.Standing.{Passable, stand, one-value}
 use Rattle.tables.specs.Finding.{within, heldOrdered, answerOf, Finds}
-use Rattle.tables.specs.Seeking.{wantedIn, sought, soughtWithin, Seeks}
 use Rattle.tables.specs.declared.Held.{Held}
-use Rattle.tables.specs.declared.Wanted.{Wanted}
 use Rattle.tables.proofs.Accepted.{table-passable}
 use Rattle.tables.proofs.FindLaws.{held-ordered, held-means}
-use Rattle.tables.specs.declared.Seek.{Seek}
-use Rattle.tables.specs.declared.Seek.the-variants.{None, Found, Refused}
-use Rattle.tables.proofs.Laws.{refused-means, none-means, none-inside, found-means, found-inside, found-part}
-use Rattle.names.specs.Contents.{kindMeant, Asks, Rules, placeAt, filledBy, endOf, Ordered}
+use Rattle.tables.specs.Judging.{nameMapRead, Judges}
+use Rattle.tables.specs.declared.judging.Judged.{Judged}
+use Rattle.tables.specs.declared.judging.Judged.the-variants.{Behind, Refused}
+use Rattle.names.specs.Contents.{kindMeant, mapKind, isNested, Asks, Rules, placeAt, filledBy}
 use Rattle.names.specs.Places.{KnownAt, AsksAt}
 use Rattle.tables.specs.declared.Held.the-variants.{Part as At}
 use Rattle.names.specs.declared.kinds.Kind.{Kind}
@@ -130,34 +128,25 @@ module _ {next : Cursor} (answer : Answer) where
 
 pub ruleset filled-steps = (filled-not, filled-is, needs)
 
-module _ {x : Seek} where
-  pub ended-refused : {r : Refusal} → x ≡ Refused r → NotAnswered r ≡ endOf x
-  ended-refused e = rw e
-
-  module _ {next : Cursor} {y : Answer} where
-    pub ended-none : x ≡ None next → y ≡ filledBy next NoAnswer → y ≡ endOf x
-    ended-none e q = rw e q
-
-    pub ended-found : {part : Cursor} → x ≡ Found part next → y ≡ filledBy next (placeAt part) → y ≡ endOf x
-    ended-found e q = rw e q
-
-  pub ordered-found : {part next : Cursor} → Ordered x → x ≡ Found part next → part .at ≤ part .end
-  ordered-found o e = rw e at o
-
-pub ruleset ended-steps = (ended-refused, ended-none, ended-found, ordered-found, needs)
-
 -- what is asked of contents that fill their part can be asked before their end is looked at
 fill-asked : {A : Type 0} (r : Outcome A) (wrap : A → Content Part) (q : Query) → mapJudged (answerIn q) (judge (andThen (andThen r atEnd) (λ x. return (wrap x)))) ≡ judge (andThen (andThen r (λ x. return (answerIn q (wrap x)))) atEnd)
 fill-asked (stop n at) wrap q = refl
 fill-asked (got v o []) wrap q = refl
 fill-asked (got v o (b ∷ bs)) wrap q = refl
 
--- and whether they are accepted does not hang on what is wanted
-fill-judged : {A : Type 0} (r : Outcome A) (f : A → Option Part) (wrap : A → Content Part) → verdict (asPlace (judge (andThen (andThen r (λ x. return (f x))) atEnd))) ≡ verdict (judge (andThen (andThen r atEnd) (λ x. return (wrap x))))
+-- and whether they are accepted does not hang on what was read
+abbrev dropped : {A : Type 0} → Outcome A → Outcome (Unit {0})
+dropped r = andThen r (λ v. return tt)
+
+fill-judged : {A : Type 0} (r : Outcome A) (wrap : A → Content Part) → verdict (judge (andThen (dropped r) atEnd)) ≡ verdict (judge (andThen (andThen r atEnd) (λ x. return (wrap x))))
+fill-judged (stop n at) wrap = refl
+fill-judged (got v o []) wrap = refl
+fill-judged (got v o (b ∷ bs)) wrap = refl
+
+end-judged : (o : ℕ) (bs : List ℕ) → verdict (asPlace (judge (atEnd none o bs))) ≡ verdict (judge (atEnd {A = Unit {0}} tt o bs))
 unfolding asPlace
-fill-judged (stop n at) f wrap = refl
-fill-judged (got v o []) f wrap = refl
-fill-judged (got v o (b ∷ bs)) f wrap = refl
+end-judged o [] = refl
+end-judged o (b ∷ bs) = refl
 
 module _ {s : List ℕ} where
   at-the-end : (next : Cursor) (v : Option Part) (a : Answer) → Inside s next → answered a ≡ asPlace (accepted v) → answered (filledBy next a) ≡ asPlace (judge (atEnd v (next .at) (left s next)))
@@ -173,25 +162,22 @@ module _ {s : List ℕ} where
   unfolding asPlace
   place-is part i = rw (length-slice (part .at) (part .end) s (i .within))
 
-  end-means : {read : Reader (Option Part)} {d : Cursor} (x : Seek) → Inside s d → Seeks read s d x → answered (endOf x) ≡ asPlace (judge (filling read (d .at) (left s d)))
-  unfolding asPlace
-  end-means (Refused r) i k = rw (refused-means k refl)
-  end-means (None next) i k = rw (none-means k refl) (at-the-end next none NoAnswer (none-inside i k refl) refl)
-  end-means (Found part next) i k = rw (found-means k refl) (at-the-end next (some (partOf s part)) (placeAt part) (found-inside i k refl) (place-is part (found-part i k refl)))
+  -- a map
+  map-ruled : (nested : Bool) {part : Cursor} {y : Answer} → verdict (answered y) ≡ verdict (judge (andThen (nameMapRead nested (part .at) (left s part)) atEnd)) → Rules (mapKind nested) s part y
+  unfolding contents
+  map-ruled true {part} e = record { says = e ∙ fill-judged (table (table name) (part .at) (left s part)) namesBy }
+  map-ruled false {part} e = record { says = e ∙ fill-judged (table name (part .at) (left s part)) names }
 
-  -- the two maps
-  pub map-rules : (wanted : Wanted) {part : Cursor} {x : Seek} {y : Answer} → Inside s part → Seeks (sought name wanted) s part x → y ≡ endOf x → Rules nameMap s part y
-  unfolding contents sought
-  map-rules wanted {part} {x} i k e = record { says = rw (e, end-means x i k) (fill-judged (table name (part .at) (left s part)) (wantedIn wanted) names) }
+  module _ (nested : Bool) {part : Cursor} {x : Judged} (k : Judges (nameMapRead nested) s part x) where
+    pub map-refused : {r : Refusal} → x ≡ Refused r → Rules (mapKind nested) s part (NotAnswered r)
+    map-refused e = map-ruled nested (rw (← rw e at (k .means)))
 
-  pub indirect-rules : (wanted inner : Wanted) {part : Cursor} {x : Seek} {y : Answer} → Inside s part → Seeks (soughtWithin name wanted inner) s part x → y ≡ endOf x → Rules indirectMap s part y
-  unfolding contents soughtWithin
-  indirect-rules wanted inner {part} {x} i k e = record { says = rw (e, end-means x i k) (fill-judged (table (table name) (part .at) (left s part)) (λ t. thenSome (wantedIn wanted t) (wantedIn inner)) namesBy) }
-
-  pub seek-ordered : {read : Reader (Option Part)} {d : Cursor} (x : Seek) → Inside s d → Seeks read s d x → Ordered x
-  seek-ordered (None next) i k = tt
-  seek-ordered (Found part next) i k = found-part i k refl .ahead
-  seek-ordered (Refused r) i k = tt
+    pub map-filled : {next : Cursor} {y : Answer} → Inside s part → x ≡ Behind next → y ≡ filledBy next NoAnswer → Rules (mapKind nested) s part y
+    unfolding asPlace
+    map-filled {next} i e q =
+        let far = rw e at (k .same-part) in
+        let there : Inside s next = record { ahead = omega (arith, far .0, far .1); within = omega (arith, far .1, i .within) } in
+        map-ruled nested (rw (q, ← rw e at (k .means)) (ap verdict (at-the-end next none NoAnswer there refl) ∙ end-judged (next .at) (left s next)))
 
 -- one name
 module _ {s : List ℕ} {part : Cursor} {x : PartRead} (p : PartReads name s part x) where
@@ -200,7 +186,7 @@ module _ {s : List ℕ} {part : Cursor} {x : PartRead} (p : PartReads name s par
   one-refused e = record { says = rw (← rw e at (p .means)) }
 
   module _ {text next : Cursor} {told : Bool} (i : Inside s part) (e : x ≡ APart text next told) where
-    pub one-asks : {y : Answer} → y ≡ endOf (Found text next) → Asks oneName ItsName s part y
+    pub one-asks : {y : Answer} → y ≡ filledBy next (placeAt text) → Asks oneName ItsName s part y
     unfolding contents
     one-asks q =
         let b = name-behind i p e in
@@ -211,10 +197,10 @@ module _ {s : List ℕ} {part : Cursor} {x : PartRead} (p : PartReads name s par
 
 pub ruleset one-steps = (one-refused, one-asks, one-ordered, needs)
 
-pub ruleset map-steps = (map-rules, indirect-rules, seek-ordered, needs)
+pub ruleset map-steps = (map-refused, map-filled, needs)
 
 -- contents of a kind: only whether they are refused matters
-verdict-stays : {A : Type 0} (f : A → Option Part) (j : Judged A) → verdict (asPlace (mapJudged f j)) ≡ verdict j
+verdict-stays : {A : Type 0} (f : A → Option Part) (j : AnyJudged A) → verdict (asPlace (mapJudged f j)) ≡ verdict j
 unfolding asPlace
 verdict-stays f (accepted v) = refl
 verdict-stays f (refused n at) = refl
@@ -226,17 +212,26 @@ module _ {s : List ℕ} {part : Cursor} {kind : Kind} {y : Answer} where
   pub rules-one : kind ≡ OneName → Asks oneName ItsName s part y → Rules (kindMeant kind) s part y
   rules-one e a = rw e (asked-rules a)
 
-  pub rules-map : kind ≡ NameMap → Rules nameMap s part y → Rules (kindMeant kind) s part y
-  rules-map e a = rw e a
+-- the kinds that are left where an arm names none
+pub nested-not : (kind : Kind) → (tagOf kind-type.the-type kind ≡ 0) ⊎ ((tagOf kind-type.the-type kind ≡ 1) ⊎ (tagOf kind-type.the-type kind ≡ 3)) → false ≡ isNested kind
+nested-not OneName h = refl
+nested-not NameMap h = refl
+nested-not IndirectMap h = absurd (⊎-elim (λ t. omega arith) (λ h′. ⊎-elim (λ t. omega arith) (λ t. omega arith) h′) h)
+nested-not Kept h = refl
 
-  pub rules-indirect : kind ≡ IndirectMap → Rules indirectMap s part y → Rules (kindMeant kind) s part y
-  rules-indirect e a = rw e a
+pub ruleset nested-steps = (nested-not, needs)
+
+pub rules-map : (kind : Kind) {s : List ℕ} {part : Cursor} {b : Bool} {y : Answer} → (tagOf kind-type.the-type kind ≡ 1) ⊎ (tagOf kind-type.the-type kind ≡ 2) → b ≡ isNested kind → Rules (mapKind b) s part y → Rules (kindMeant kind) s part y
+rules-map OneName h e a = absurd (⊎-elim (λ t. omega arith) (λ t. omega arith) h)
+rules-map NameMap h e a = rw e at a
+rules-map IndirectMap h e a = rw e at a
+rules-map Kept h e a = absurd (⊎-elim (λ t. omega arith) (λ t. omega arith) h)
 
 pub rules-kept : {s : List ℕ} {part : Cursor} {kind : Kind} → kind ≡ Kept → Rules (kindMeant kind) s part NoAnswer
 unfolding contents remaining
 rules-kept e = record { says = rw e }
 
-pub ruleset content-steps = (rules-one, rules-map, rules-indirect, rules-kept, needs)
+pub ruleset content-steps = (rules-one, rules-map, rules-kept, needs)
 
 -- What was accepted stands there for a reader without the checks that it passed
 pub record Lax {A : Type 0} (lax : Reader A) (wrap : A → Content Part) (s : List ℕ) (part : Cursor) (held : Content Part) : Type 0 where

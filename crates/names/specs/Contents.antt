@@ -1,6 +1,6 @@
 -- What a subsection's contents answer once they are judged. Assumes nothing.
-use Prim.Native.Nat.{ℕ, _-_, _≤_}
-use mathlib.Core.Bool.{cond}
+use Prim.Native.Nat.{ℕ, _-_}
+use mathlib.Core.Bool.{Bool, true, false, cond}
 use mathlib.Core.List.{List}
 use mathlib.Core.Option.{Option, none, some}
 use mathlib.Core.Path.{_≡_}
@@ -15,8 +15,6 @@ use Rattle.format.specs.declared.Answer.the-variants.{None as NoAnswer, Found a
 use Rattle.format.specs.declared.Reason.the-variants.{LeftOver}
 use Rattle.reading.specs.Cursors.{left, partOf}
 use Rattle.reading.specs.declared.Cursor.{Cursor}
-use Rattle.tables.specs.declared.Seek.{Seek}
-use Rattle.tables.specs.declared.Seek.the-variants.{None, Found, Refused}
 use Rattle.names.specs.declared.kinds.Kind.{Kind}
 use Rattle.names.specs.declared.kinds.Kind.the-variants.{OneName, NameMap, IndirectMap, Kept}
 
@@ -26,6 +24,17 @@ kindMeant OneName = oneName
 kindMeant NameMap = nameMap
 kindMeant IndirectMap = indirectMap
 kindMeant Kept = kept
+
+-- a map of names is nested where it is an indirect one
+abbrev pub mapKind : Bool → AnyKind
+mapKind true = indirectMap
+mapKind false = nameMap
+
+abbrev pub isNested : Kind → Bool
+isNested OneName = false
+isNested NameMap = false
+isNested IndirectMap = true
+isNested Kept = false
 
 -- The contents over a part, judged and asked; where there is no part, the answer is none
 abbrev pub asksOf : AnyKind → Query → Part → Judged (Option Part)
@@ -42,20 +51,9 @@ pub record Asks (kind : AnyKind) (q : Query) (s : List ℕ) (part : Cursor) (r :
 pub record Rules (kind : AnyKind) (s : List ℕ) (part : Cursor) (r : Answer) : Type 0 where
   pub says : verdict (answered r) ≡ verdict (judge (contents kind (part .at) (left s part)))
 
--- The answer of a search at its end; refusal 10 gives the first byte left over
+-- The answer where nothing may be left over; refusal 10 gives the first byte that is
 abbrev pub placeAt : Cursor → Answer
 placeAt part = FoundAt (record { offset = record { 0 = part .at }; length = part .end - part .at })
 
 abbrev pub filledBy : Cursor → Answer → Answer
 filledBy next answer = cond (ltb (next .at) (next .end)) (NotAnswered (record { reason = LeftOver; offset = record { 0 = next .at } })) answer
-
-abbrev pub endOf : Seek → Answer
-endOf (None next) = filledBy next NoAnswer
-endOf (Found part next) = filledBy next (placeAt part)
-endOf (Refused r) = NotAnswered r
-
--- what was found ends behind its beginning
-abbrev pub Ordered : Seek → Type 0
-Ordered (None next) = Unit {0}
-Ordered (Found part next) = part .at ≤ part .end
-Ordered (Refused r) = Unit {0}

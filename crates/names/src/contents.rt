@@ -1,8 +1,7 @@
 // A subsection's contents, judged. They fill their part exactly.
 ghost use mathlib.Core.Path.{_≡_};
-ghost use Rattle.format.specs.Names.{nameMap, indirectMap};
 ghost use Rattle.reading.specs.Cursors.{Inside};
-ghost use Rattle.names.specs.Contents.{Rules, filledBy, endOf, Ordered};
+ghost use Rattle.names.specs.Contents.{Rules, mapKind, isNested, filledBy};
 ghost use Rattle.names.specs.Promises.{names-one-name, names-content};
 use crate::kinds::Kind;
 use format::Answer;
@@ -12,9 +11,8 @@ use format::Reason;
 use format::Refusal;
 use reading::Cursor;
 use reading::PartRead;
-use tables::Item;
-use tables::NOTHING;
-use tables::Seek;
+use tables::judging::Judged;
+use tables::judging::name_map;
 
 // The answer, where nothing is left over.
 fn filled(next: Cursor, answer: Answer) -> Answer
@@ -30,17 +28,16 @@ fn filled(next: Cursor, answer: Answer) -> Answer
     answer
 }
 
-// The answer of a search at its end.
-fn ended(found: Seek) -> Answer
-    requires { ⌜ Ordered found ⌝ }
-    ensures { λ r. ⌜ r ≡ endOf found ⌝ }
+// One name.
+pub fn one_name(s: &[u8], part: Cursor) -> Answer
+    requires { ⌜ Inside (now s) part ⌝ }
+    ensures { λ r. ⌜ names-one-name (now (s .entry)) part r ⌝ }
 {
-    match found {
-        Seek::Refused(r) => Answer::Refused(r),
-        Seek::None(next) => filled(next, Answer::None),
-        Seek::Found(part, next) => {
-            let at = part.at;
-            let length = part.end - at;
+    match part.name(s) {
+        PartRead::Refused(r) => Answer::Refused(r),
+        PartRead::Part(name, next, _) => {
+            let at = name.at;
+            let length = name.end - at;
             let place = Place {
                 offset: Offset(at),
                 length,
@@ -50,31 +47,24 @@ fn ended(found: Seek) -> Answer
     }
 }
 
-// One name.
-pub fn one_name(s: &[u8], part: Cursor) -> Answer
+// A name map, or an indirect one, which is nested.
+fn map(s: &[u8], part: Cursor, nested: bool) -> Answer
     requires { ⌜ Inside (now s) part ⌝ }
-    ensures { λ r. ⌜ names-one-name (now (s .entry)) part r ⌝ }
+    ensures { λ r. ⌜ Rules (mapKind nested) (now (s .entry)) part r ⌝ }
 {
-    match part.name(s) {
-        PartRead::Refused(r) => Answer::Refused(r),
-        PartRead::Part(name, next, _) => ended(Seek::Found(name, next)),
+    match name_map(part, s, nested) {
+        Judged::Refused(r) => Answer::Refused(r),
+        Judged::Behind(next) => filled(next, Answer::None),
     }
 }
 
-// A name map.
-fn name_map(s: &[u8], part: Cursor) -> Answer
-    requires { ⌜ Inside (now s) part ⌝ }
-    ensures { λ r. ⌜ Rules nameMap (now (s .entry)) part r ⌝ }
+fn is_nested(kind: Kind) -> bool
+    ensures { λ r. ⌜ r ≡ isNested kind ⌝ }
 {
-    ended(tables::table(part, s, Item::Name, NOTHING))
-}
-
-// An indirect name map.
-fn indirect_map(s: &[u8], part: Cursor) -> Answer
-    requires { ⌜ Inside (now s) part ⌝ }
-    ensures { λ r. ⌜ Rules indirectMap (now (s .entry)) part r ⌝ }
-{
-    ended(tables::tables(part, s, Item::Name, NOTHING, NOTHING))
+    match kind {
+        Kind::IndirectMap => true,
+        _ => false,
+    }
 }
 
 // Contents of a kind: only whether the answer is a refusal matters.
@@ -84,8 +74,8 @@ pub fn content(s: &[u8], part: Cursor, kind: Kind) -> Answer
 {
     match kind {
         Kind::OneName => one_name(s, part),
-        Kind::NameMap => name_map(s, part),
-        Kind::IndirectMap => indirect_map(s, part),
         Kind::Kept => Answer::None,
+        // one call for both kinds of maps: two would not be inlined
+        _ => map(s, part, is_nested(kind)),
     }
 }

@@ -9,3 +9,4 @@ pub mod StepLaws
 pub mod FindLaws
 pub mod Same
 pub mod TidySteps
+pub mod JudgeSteps

@@ -9,16 +9,21 @@ use Rattle.format.specs.Numbers.{number}
 use Rattle.format.specs.Parts.{Part}
 use Rattle.format.specs.Laws.Options.{not-some, some-is}
 use Rattle.format.specs.Laws.Telling.{not-behind, behind-at}
+use Rattle.format.specs.Laws.Outcomes.{not-got, got-next}
+use Rattle.format.specs.Laws.Refusals.{same-stop}
 use Rattle.reading.specs.Standing.{Stands}
 use Rattle.reading.specs.declared.Cursor.{Cursor}
 use Rattle.reading.proofs.Same.{same-cursor, same-part}
 use Rattle.reading.proofs.Standing.{one-value, one-end}
 use Rattle.tables.specs.Stepping.{Splits, RowSteps, GroupSteps}
 use Rattle.tables.specs.Finding.{Finds, Skips}
+use Rattle.tables.specs.Judging.{Judges}
 use Rattle.tables.specs.Steps.{heldOf}
 use Rattle.tables.specs.Telling.{Tells}
 use Rattle.tables.specs.declared.Held.{Held}
 use Rattle.tables.specs.declared.Held.the-variants.{Nothing, Part as APart}
+use Rattle.tables.specs.declared.judging.Judged.{Judged}
+use Rattle.tables.specs.declared.judging.Judged.the-variants.{Behind as Passed, Refused}
 use Rattle.tables.specs.declared.stepping.Rows.{Rows}
 use Rattle.tables.specs.declared.stepping.RowStep.{RowStep}
 use Rattle.tables.specs.declared.stepping.RowStep.the-variants.{End as NoRow, Row}
@@ -86,3 +91,10 @@ tells-same (Behind d) (Behind e) p q = ap Behind (same-cursor d e (behind-at (p 
 tells-same (Behind d) Not p q = absurd (not-behind (sym (p .means ∙ sym (q .means))))
 tells-same Not (Behind e) p q = absurd (not-behind (p .means ∙ sym (q .means)))
 tells-same Not Not p q = refl
+
+-- what judging a map found
+pub judges-same : {read : Reader (Unit {0})} {s : List ℕ} {c : Cursor} (r r′ : Judged) → Judges read s c r → Judges read s c r′ → r ≡ r′
+judges-same (Passed d) (Passed e) p q = ap Passed (same-cursor d e (got-next (p .means ∙ sym (q .means))) (p .same-part .1 ∙ sym (q .same-part .1)))
+judges-same (Passed d) (Refused r) p q = absurd (not-got (sym (p .means ∙ sym (q .means))))
+judges-same (Refused r) (Passed e) p q = absurd (not-got (p .means ∙ sym (q .means)))
+judges-same (Refused r) (Refused r′) p q = ap Refused (same-stop (p .means ∙ sym (q .means)))

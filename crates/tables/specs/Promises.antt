@@ -12,14 +12,16 @@ use Rattle.reading.specs.Cursors.{PartReads}
 use Rattle.reading.specs.Standing.{Stands}
 use Rattle.reading.specs.declared.Cursor.{Cursor}
 use Rattle.reading.specs.declared.PartRead.{PartRead}
+use Rattle.tables.specs.Judging.{nameMapRead, Judges}
 use Rattle.tables.specs.Finding.{within, answerOf, Finds, Skips}
-use Rattle.tables.specs.Seeking.{readerOf, sought, soughtWithin, Seeks}
+use Rattle.tables.specs.Seeking.{readerOf, soughtWithin, Seeks}
 use Rattle.tables.specs.Stepping.{behindAt, RowSteps, GroupSteps}
 use Rattle.tables.specs.Telling.{isFilled, Tells}
 use Rattle.tables.specs.declared.Held.{Held}
 use Rattle.tables.specs.declared.Item.{Item}
 use Rattle.tables.specs.declared.Seek.{Seek}
 use Rattle.tables.specs.declared.Wanted.{Wanted}
+use Rattle.tables.specs.declared.judging.Judged.{Judged}
 use Rattle.tables.specs.declared.stepping.GroupStep.{GroupStep}
 use Rattle.tables.specs.declared.stepping.RowStep.{RowStep}
 use Rattle.tables.specs.declared.stepping.Rows.{Rows}
@@ -29,11 +31,12 @@ use Rattle.tables.specs.declared.telling.Tidy.{Tidy}
 abbrev pub tables-value : (c : Cursor) (s : List ℕ) (item : Item) → PartRead → Type 0
 tables-value c s item r = PartReads (readerOf item) s c r
 
-abbrev pub tables-table : (c : Cursor) (s : List ℕ) (item : Item) (wanted : Wanted) → Seek → Type 0
-tables-table c s item wanted r = Seeks (sought (readerOf item) wanted) s c r
-
 abbrev pub tables-tables : (c : Cursor) (s : List ℕ) (item : Item) (wanted inner : Wanted) → Seek → Type 0
 tables-tables c s item wanted inner r = Seeks (soughtWithin (readerOf item) wanted inner) s c r
+
+-- tables::judging
+abbrev pub tables-name-map : (c : Cursor) (s : List ℕ) (nested : Bool) → Judged → Type 0
+tables-name-map c s nested r = Judges (nameMapRead nested) s c r
 
 -- tables::finding
 abbrev pub tables-answer-of : (held : Held) → Answer → Type 0

@@ -6,9 +6,9 @@ ghost use Rattle.format.specs.Metadata.{hintOf};
 ghost use Rattle.format.specs.Text.{utf8};
 ghost use Rattle.format.specs.Tables.{table};
 ghost use Rattle.reading.specs.Cursors.{Inside, left};
-ghost use Rattle.tables.specs.Seeking.{readerOf, isItem, notItem, wantedIn, Seeks};
+ghost use Rattle.tables.specs.Seeking.{readerOf, isItem, notItem, wantedIn, sought, Seeks};
 ghost use Rattle.tables.specs.Steps.{isShortHint, isShort, IndexReads, RowReads, keptOf, seekOf, soughtRows};
-ghost use Rattle.tables.specs.Promises.{tables-value, tables-table, tables-tables};
+ghost use Rattle.tables.specs.Promises.{tables-value, tables-tables};
 use format::Offset;
 use format::Reason;
 use format::Refusal;
@@ -18,6 +18,7 @@ use reading::PartRead;
 use reading::text::is_text;
 
 pub mod finding;
+pub mod judging;
 pub mod stepping;
 pub mod telling;
 
@@ -273,9 +274,9 @@ fn table_rows(c: Cursor, s: &[u8], item: Item, key: u64, n: u32) -> Seek
 }
 
 // A list of (rising number, item): what is wanted of it.
-pub fn table(c: Cursor, s: &[u8], item: Item, wanted: Wanted) -> Seek
+fn table(c: Cursor, s: &[u8], item: Item, wanted: Wanted) -> Seek
     requires { ⌜ Inside (now s) c ⌝ }
-    ensures { λ r. ⌜ tables-table c (now (s .entry)) item wanted r ⌝ }
+    ensures { λ r. ⌜ Seeks (sought (readerOf item) wanted) (now (s .entry)) c r ⌝ }
 {
     match c.number(s) {
         NumberRead::Refused(r) => Seek::Refused(r),

@@ -1,4 +1,4 @@
--- Each promise of the crate `tables` determines what comes back, but for the two at the end.
+-- Each promise of the crate `tables` determines what comes back, but for the one at the end.
 use Prim.Native.Nat.{ℕ}
 use mathlib.Core.List.{List}
 use Rattle.format.specs.Determined.{Determines1, Determines2, Determines3, Determines4, Determines, equal-determined}
@@ -6,14 +6,16 @@ use Rattle.reading.proofs.Same.{part-same}
 use Rattle.reading.specs.Cursors.{Inside}
 use Rattle.reading.specs.declared.Cursor.{Cursor}
 use Rattle.tables.proofs.Laws.{seeks-same}
-use Rattle.tables.proofs.Same.{rows-here-same, row-step-same, group-step-same, finds-same, skips-same, tells-same}
+use Rattle.tables.proofs.Same.{rows-here-same, row-step-same, group-step-same, finds-same, skips-same, tells-same, judges-same}
 use Rattle.tables.specs.declared.Item.{Item}
 use Rattle.tables.specs.declared.Wanted.{Wanted}
-use Rattle.tables.specs.Promises.{tables-value, tables-table, tables-tables, tables-answer-of, tables-find-row, tables-behind-table, tables-find-group, tables-is-filled, tables-tidy-table, tables-tidy-tables, tables-rows-here, tables-behind, tables-row-step, tables-group-step}
+use Rattle.tables.specs.Promises.{tables-value, tables-tables, tables-name-map, tables-answer-of, tables-find-row, tables-behind-table, tables-find-group, tables-is-filled, tables-tidy-table, tables-tidy-tables, tables-rows-here, tables-behind, tables-row-step, tables-group-step}
 
 pub record Tables : Type 0 where
   -- tables
   tables-value : Determines3 tables-value
+  -- tables::judging
+  tables-name-map : Determines3 tables-name-map
   -- tables::finding
   tables-answer-of : Determines1 tables-answer-of
   tables-find-row : Determines3 tables-find-row
@@ -33,6 +35,7 @@ pub determined : Tables
 determined =
     record {
       tables-value = λ c s item. part-same;
+      tables-name-map = λ c s nested. judges-same;
       tables-answer-of = λ held. equal-determined _;
       tables-find-row = λ c s key. finds-same _ _;
       tables-behind-table = λ c s. skips-same;
@@ -46,10 +49,7 @@ determined =
       tables-group-step = λ left s. group-step-same;
     }
 
--- THE EXCEPTIONS: determined where their `requires` holds
-
-pub table-determined : (c : Cursor) (s : List ℕ) (item : Item) (wanted : Wanted) → Inside s c → Determines (tables-table c s item wanted)
-table-determined c s item wanted inside a b h h′ = seeks-same h h′ inside
+-- THE EXCEPTION: determined where its `requires` holds
 
 pub tables-determined : (c : Cursor) (s : List ℕ) (item : Item) (wanted inner : Wanted) → Inside s c → Determines (tables-tables c s item wanted inner)
 tables-determined c s item wanted inner inside a b h h′ = seeks-same h h′ inside

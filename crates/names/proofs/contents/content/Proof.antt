@@ -11,17 +11,11 @@ one-name-requires c κs = search content-steps
 enum-told-2 : tie.Need-enum-told-2
 enum-told-2 c = search content-steps
 
-name-map-requires : tie.Need-name-map-requires
-name-map-requires c κs = search content-steps
+is-nested-requires : tie.Need-is-nested-requires
+is-nested-requires c κs = search content-steps
 
-enum-told-3 : tie.Need-enum-told-3
-enum-told-3 c = search content-steps
-
-indirect-map-requires : tie.Need-indirect-map-requires
-indirect-map-requires c κs = search content-steps
-
-enum-told-4 : tie.Need-enum-told-4
-enum-told-4 c = search content-steps
+map-requires : tie.Need-map-requires
+map-requires c κs = search content-steps
 
 returns : tie.Need-returns
 returns c = search content-steps
@@ -32,8 +26,15 @@ returns-2 c = search content-steps
 returns-3 : tie.Need-returns-3
 returns-3 c = search content-steps
 
-returns-4 : tie.Need-returns-4
-returns-4 c = search content-steps
-
 pub content-spec : {M : Type 1} → statement M
-content-spec = tie.close (tie.spec enum-told one-name-requires enum-told-2 name-map-requires enum-told-3 indirect-map-requires enum-told-4 returns returns-2 returns-3 returns-4)
+content-spec =
+    tie.close
+    (tie.spec
+    enum-told
+    one-name-requires
+    enum-told-2
+    is-nested-requires
+    map-requires
+    returns
+    returns-2
+    returns-3)
