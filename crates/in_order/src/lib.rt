@@ -1,4 +1,6 @@
-// Hints of the older edition that were accepted: whether they are in order already, as compilers write them, and then written in one pass.
+// Hints of the older edition that were accepted: whether they are in order already, as compilers write them, and then written, or listed as rows, in one pass.
+pub mod rows;
+
 ghost use Prim.Native.Nat.{_+_, _^_, _≤_, _<_};
 ghost use mathlib.Core.List.{_++_};
 ghost use mathlib.Core.Path.{_≡_};

@@ -8,3 +8,5 @@ pub mod Sources
 pub mod Measures
 pub mod Writes
 pub mod Backwards
+pub mod RowLaws
+pub mod Listings

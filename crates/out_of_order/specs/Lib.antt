@@ -4,4 +4,5 @@ pub mod Tally
 pub mod Sheet
 pub mod Measuring
 pub mod Backward
+pub mod Rows
 pub mod Promises

@@ -1,7 +1,8 @@
-// K2: hints of the older edition that were accepted and stand in any order, rewritten with no room but the output and a window that the caller has: two arrays of one length. They are gone through as many times as the window is filled, from the greatest function and offset down.
+// K2: hints of the older edition that were accepted and stand in any order, rewritten, or listed as rows (`rows`), with no room but the output and a window that the caller has: two arrays of one length. They are gone through as many times as the window is filled, from the greatest function and offset down.
 mod backward;
 mod gathering;
 mod measuring;
+pub mod rows;
 mod tally;
 
 ghost use Rattle.format.specs.Older.{times, olderEntry};

@@ -1,2 +1,3 @@
 pub mod Entries
 pub mod Payloads
+pub mod Listings

@@ -56,12 +56,12 @@ vector-passable Holds step o bs es o′ rest holds e =
     inVector o bs e λ n o₁ r₁ e₁ e₂.
     times-passable entry-passable n Holds step o₁ r₁ es o′ rest (number-passes Holds step o bs n o₁ r₁ holds e₁) e₂
 
-listed : {s : List ℕ} {c : Cursor} {n : ℕ} {d : Cursor} {es : List OlderEntry} {last : Cursor} → Stands number s c n d → Stands (times olderEntry n) s d es last → Stands (vector olderEntry) s c es last
+pub listed : {s : List ℕ} {c : Cursor} {n : ℕ} {d : Cursor} {es : List OlderEntry} {last : Cursor} → Stands number s c n d → Stands (times olderEntry n) s d es last → Stands (vector olderEntry) s c es last
 unfolding vector
 listed count w = record { inside = count .inside; reads = rw (count .reads) (w .reads); behind = w .behind; same-end = w .same-end ∙ count .same-end }
 
 -- what was accepted stands there
-accepted-stands : {p : List ℕ} (a : Accepted (judgeOlder 0) p) → (next : Cursor) × Stands (vector olderEntry) p (overAll p) (a .value) next
+pub accepted-stands : {p : List ℕ} (a : Accepted (judgeOlder 0) p) → (next : Cursor) × Stands (vector olderEntry) p (overAll p) (a .value) next
 unfolding judgeOlder
 accepted-stands {p} a =
     judged (filling (vector olderEntry) 0 p) (a .judged) λ o rest e.
@@ -105,7 +105,7 @@ pub ruleset payload-steps = (payload-count, payload-entries, payload-rising, pay
 -- A payload that was judged
 module _ (p : List ℕ) (j : Verdict) (says : verdictOf j ≡ verdict (judgeOlder 0 p)) where
   module _ {r : Refusal} (e : j ≡ NotAccepted r) where
-    not-accepted : judgeOlder 0 p ≡ refused (numberOf (r .reason)) (r .offset .0)
+    pub not-accepted : judgeOlder 0 p ≡ refused (numberOf (r .reason)) (r .offset .0)
     not-accepted = refused-exactly (λ _. tt) (judgeOlder 0 p) .0 (sym says ∙ ap verdictOf e)
 
     pub older-refused : {old : List ℕ} → Writes (canonicalOlder p) old old (Refused r)

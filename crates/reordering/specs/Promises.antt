@@ -3,9 +3,11 @@ use Prim.Native.Nat.{ℕ}
 use mathlib.Core.Bool.{Bool}
 use mathlib.Core.List.{List}
 use mathlib.Core.Path.{_≡_}
+use Rattle.format.specs.Entries.{olderRows, olderColumns, Lists}
 use Rattle.format.specs.Older.{canonicalOlder}
 use Rattle.format.specs.Outputs.{Writes}
 use Rattle.format.specs.Telling.{olderIsCanonical}
+use Rattle.format.specs.declared.Answer.{Answer}
 use Rattle.format.specs.declared.Written.{Written}
 
 -- reordering
@@ -14,3 +16,7 @@ reordering-canonical p old new r = Writes (canonicalOlder p) old new r
 
 abbrev pub reordering-is-canonical : (p : List ℕ) → Bool → Type 0
 reordering-is-canonical p r = r ≡ olderIsCanonical p
+
+-- reordering::listing
+abbrev pub reordering-list : (p : List ℕ) (lists : List (List ℕ)) → List (List ℕ) → Answer → Type 0
+reordering-list p lists lists′ r = Lists olderColumns (olderRows p) lists lists′ r
