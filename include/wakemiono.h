@@ -488,6 +488,11 @@ wm_answer wm_metadata_list(const uint8_t *payload, size_t payload_len, uint32_t 
 /* Branch hints: function, code offset, and 0 for unlikely or 1 for likely. */
 wm_answer wm_hints_list(const uint8_t *payload, size_t payload_len, uint32_t *functions, size_t functions_len,
                         uint32_t *code_offsets, size_t code_offsets_len, uint32_t *likely, size_t likely_len);
+/* Hints of the older edition: function, offset, and 0 for unlikely or 1 for likely. Every pair of a function and an offset
+ * that has a hint stands once, by function and then offset, with the hint that wm_old_hint answers with. Lists of half as many
+ * numbers as the payload has bytes are always enough. */
+wm_answer wm_old_hints_list(const uint8_t *payload, size_t payload_len, uint32_t *functions, size_t functions_len,
+                            uint32_t *code_offsets, size_t code_offsets_len, uint32_t *likely, size_t likely_len);
 
 #ifdef __cplusplus
 }

@@ -4,7 +4,7 @@ use mathlib.Core.List.{List, []}
 use mathlib.Core.Path.{_≡_}
 use lib.ListN.{length}
 use Rattle.format.specs.Canonical.{canonicalNames, canonicalMetadata, canonicalHints}
-use Rattle.format.specs.Entries.{nameRows, itemRows, placeColumns, hintColumns}
+use Rattle.format.specs.Entries.{nameRows, itemRows, olderRows, placeColumns, hintColumns, olderColumns}
 use Rattle.format.specs.Lists.{functionNames}
 use Rattle.format.specs.Markers.{made, quick}
 use Rattle.format.specs.Metadata.{anyItem, hintItem, judgeMetadata, askMetadata, askHint}
@@ -202,3 +202,6 @@ wm-metadata-list payload lists lists′ a = WmLists placeColumns (itemRows anyIt
 
 abbrev pub wm-hints-list : (payload : List ℕ) (lists lists′ : List (List ℕ)) → WmAnswer → Type 0
 wm-hints-list payload lists lists′ a = WmLists hintColumns (itemRows hintItem payload) lists lists′ a
+
+abbrev pub wm-old-hints-list : (payload : List ℕ) (lists lists′ : List (List ℕ)) → WmAnswer → Type 0
+wm-old-hints-list payload lists lists′ a = WmLists olderColumns (olderRows payload) lists lists′ a

@@ -443,6 +443,16 @@ extern "C" {
         out: *mut u8,
         out_len: usize,
     ) -> Told;
+    fn wm_old_hints_list(
+        payload: *const u8,
+        payload_len: usize,
+        functions: *mut u32,
+        functions_len: usize,
+        code_offsets: *mut u32,
+        code_offsets_len: usize,
+        likely: *mut u32,
+        likely_len: usize,
+    ) -> Told;
     fn wm_markers(
         payload: *const u8,
         payload_len: usize,
@@ -529,6 +539,28 @@ pub fn function_names_write(indices: &[u32], lengths: &[u32], text: &[u8], out: 
             text.len(),
             out.as_mut_ptr(),
             out.len(),
+        )
+    }
+}
+
+/// `wm_old_hints_list` of the header, on slices.
+pub fn old_hints_list(
+    payload: &[u8],
+    functions: &mut [u32],
+    offsets: &mut [u32],
+    likely: &mut [u32],
+) -> Told {
+    // SAFETY: all are live slices, no list overlaps another of them, and the call stores into the lists alone.
+    unsafe {
+        wm_old_hints_list(
+            payload.as_ptr(),
+            payload.len(),
+            functions.as_mut_ptr(),
+            functions.len(),
+            offsets.as_mut_ptr(),
+            offsets.len(),
+            likely.as_mut_ptr(),
+            likely.len(),
         )
     }
 }

@@ -13,7 +13,7 @@
 //!   numbers, of which any is a `u8`, a `u32` or a `u64`.
 
 #[allow(dead_code)] // declared as the header has them; the safe functions are to come
-mod entries;
+pub(crate) mod entries;
 pub(crate) mod pairs;
 pub(crate) mod stream;
 pub(crate) mod table;

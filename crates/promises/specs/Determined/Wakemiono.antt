@@ -13,7 +13,7 @@ use Rattle.sharing.specs.Model.{Call, closing, tidying}
 use Rattle.sharing.specs.declared.Table.{Table as SharedTable}
 use Rattle.wakemiono.proofs.Same.{wm-writes-same}
 use Rattle.wakemiono.specs.Boundary.{WmWrites, WmMakes, WmLists}
-use Rattle.wakemiono.specs.Calls.{wm-walk, wm-section, wm-custom, wm-names-judge, wm-name, wm-metadata-judge, wm-metadata, wm-hints-judge, wm-hint, wm-name-in, wm-metadata-in, wm-hint-in, wm-names-canonical, wm-metadata-canonical, wm-hints-canonical, wm-names-is-canonical, wm-metadata-is-canonical, wm-hints-is-canonical, wm-function-names-write, wm-wide-names-judge, wm-wide-name, wm-wide-name-in, wm-wide-names-canonical, wm-wide-names-is-canonical, wm-old-hints-judge, wm-old-hint, wm-old-hint-in, wm-old-hints-canonical, wm-old-hints-is-canonical, wm-why-function, wm-why-local, wm-markers, wm-quick-function-name, wm-pair, wm-wide-pair, wm-pair-join, wm-wide-pair-join, wm-stream-begin, wm-stream-part, wm-stream-finish, wm-hints-on-branches, wm-table-start, wm-table-open, wm-table-function-name, wm-table-close, wm-table-compact, wm-names-list, wm-wide-names-list, wm-metadata-list, wm-hints-list}
+use Rattle.wakemiono.specs.Calls.{wm-walk, wm-section, wm-custom, wm-names-judge, wm-name, wm-metadata-judge, wm-metadata, wm-hints-judge, wm-hint, wm-name-in, wm-metadata-in, wm-hint-in, wm-names-canonical, wm-metadata-canonical, wm-hints-canonical, wm-names-is-canonical, wm-metadata-is-canonical, wm-hints-is-canonical, wm-function-names-write, wm-wide-names-judge, wm-wide-name, wm-wide-name-in, wm-wide-names-canonical, wm-wide-names-is-canonical, wm-old-hints-judge, wm-old-hint, wm-old-hint-in, wm-old-hints-canonical, wm-old-hints-is-canonical, wm-old-hints-list, wm-why-function, wm-why-local, wm-markers, wm-quick-function-name, wm-pair, wm-wide-pair, wm-pair-join, wm-wide-pair-join, wm-stream-begin, wm-stream-part, wm-stream-finish, wm-hints-on-branches, wm-table-start, wm-table-open, wm-table-function-name, wm-table-close, wm-table-compact, wm-names-list, wm-wide-names-list, wm-metadata-list, wm-hints-list}
 use Rattle.wakemiono.specs.Pairs.{WmJoins}
 use Rattle.wakemiono.specs.Shared.{WmShares}
 use Rattle.wakemiono.specs.declared.WmAnswer.{WmAnswer}
@@ -89,6 +89,7 @@ pub record Wakemiono : Type 0 where
   wm-old-hint-in : Determines3 wm-old-hint-in
   wm-old-hints-canonical : DeterminesBoth2 wm-old-hints-canonical
   wm-old-hints-is-canonical : Determines1 wm-old-hints-is-canonical
+  wm-old-hints-list : DeterminesBoth2 wm-old-hints-list
   wm-why-function : Determines2 wm-why-function
   wm-why-local : Determines3 wm-why-local
   wm-markers : DeterminesThree3 wm-markers
@@ -143,6 +144,7 @@ determined =
       wm-old-hint-in = λ function offset bytes. equal-determined _;
       wm-old-hints-canonical = λ payload old. wm-writes-determined _ _;
       wm-old-hints-is-canonical = λ payload. equal-determined _;
+      wm-old-hints-list = λ payload lists. wm-lists-determined _ _ _;
       wm-why-function = λ function payload. equal-determined _;
       wm-why-local = λ function local payload. equal-determined _;
       wm-markers = λ payload indices offsets. wm-makes-determined _ _ _;

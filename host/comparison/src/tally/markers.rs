@@ -11,7 +11,7 @@ use crate::markers::Markers;
 const SHORTEST_ENTRY: usize = 2;
 
 /// What the lists hold before a call, and the guard numbers before them.
-const UNTOUCHED_NUMBER: u32 = u32::from_ne_bytes([UNTOUCHED; 4]);
+pub(super) const UNTOUCHED_NUMBER: u32 = u32::from_ne_bytes([UNTOUCHED; 4]);
 const GUARD_NUMBER: u32 = u32::from_ne_bytes([GUARD_BYTE; 4]);
 
 impl Tally {
@@ -110,7 +110,7 @@ impl Tally {
 }
 
 /// A list of a length, untouched, with guard numbers before it and nothing mapped behind it.
-fn framed_numbers(output: &mut Guarded, room: usize) -> &mut [u32] {
+pub(super) fn framed_numbers(output: &mut Guarded, room: usize) -> &mut [u32] {
     let framed = output.last_numbers(GUARD + room);
     framed.fill(UNTOUCHED_NUMBER);
     framed[..GUARD].fill(GUARD_NUMBER);
@@ -118,7 +118,7 @@ fn framed_numbers(output: &mut Guarded, room: usize) -> &mut [u32] {
 }
 
 /// The list holds what is expected, and the guard numbers are as they were.
-fn assert_numbers_left(framed: &[u32], expected: &[u32], put: fmt::Arguments<'_>) {
+pub(super) fn assert_numbers_left(framed: &[u32], expected: &[u32], put: fmt::Arguments<'_>) {
     let (guard, list) = framed.split_at(GUARD);
     assert_eq!(list, expected, "a list of {put}");
     let unchanged = guard.iter().all(|number| *number == GUARD_NUMBER);
