@@ -4,8 +4,8 @@ use mathlib.Core.List.{List, [], _∷_, _++_}
 -- `cond t x y` is x where the test t holds, and y where it does not; `eqb m n` tests m ≡ n, and `s || t` is either test
 use mathlib.Core.Bool.{Bool, true, false, cond, _||_}
 use lib.Dec.{eqb}
--- `A ↔ B`: each follows from the other; `x ≢ y`: they are not equal; `A × B`: both, and `(x : A) × B`: some x with B; `⊥`: never
-use mathlib.Core.Logic.{_↔_, _≢_}
+-- `A ↔ B`: each follows from the other; `x ≢ y`: they are not equal; `A ⊎ B`: one of them; `A × B`: both, and `(x : A) × B`: some x with B; `⊥`: never
+use mathlib.Core.Logic.{_↔_, _≢_, _⊎_}
 use mathlib.Core.Option.{Option, none, some}
 use mathlib.Core.Path.{_≡_}
 -- the length of a list, its first n elements, the list without them, and the element at a position, counted from 0 (`some`, or `none` past the last)
@@ -33,6 +33,8 @@ use Rattle.format.specs.Names.{knownKind, widerKind, judgeNames}
 use Rattle.format.specs.Metadata.{anyItem, hintItem, judgeMetadata}
 use Rattle.format.specs.Canonical.{rewriteNames, rewriteMetadata}
 use Rattle.format.specs.Older.{judgeOlder, sortedFrom, writeOlder}
+-- `groupRows t` are the rows of a table of tables, one after another, each with its two numbers
+use Rattle.format.specs.Entries.{groupRows}
 -- WHAT THE RULES ACCEPT. The sources' grammar, written down in the crate `grammar` line by line, apart from the library's readers: `NamePayload SourceIds p m`, in the wider edition `NamePayload WiderIds p m`, `CodeMetadata Unknown p m`, `CodeMetadata BranchHint p m`, `OlderHints p m` and `Module p m` say that the bytes p are a name payload, code metadata, branch hints, hints of the older edition or a module, and mean m. `U32 bs n`: the bytes bs are the number n in LEB128. `Subsections SourceIds bs m`: the bytes bs are subsections of a name payload, one after another; `Entries Name n bs t`: they are n entries of a name map, each an index and a name. `Grammar A` are the grammars with meanings in A.
 use Rattle.grammar.specs.Numbers.{Grammar, U32}
 use Rattle.grammar.specs.Names.{Name, SourceIds, WiderIds, Subsections, NamePayload}
@@ -94,8 +96,8 @@ use Rattle.format.specs.declared.Question.{Question}
 use Rattle.format.specs.declared.Question.the-variants.{ModuleName, FunctionName, LocalName, LabelName, TypeName, TableName, MemoryName, GlobalName, ElementName, DataName, FieldName, TagName, KeptContents}
 -- Of metadata and hints: `ItemQuestion` is a function and an offset, each a record of one number; `ItemInRange q` says that both are below 4,294,967,296. `OlderInRange q` says it of a question for a hint of the older edition.
 use Rattle.format.specs.Theorems.{ItemQuestion, ItemInRange, OlderInRange}
--- THE CALLS, each by its promise: `wm-walk bytes a` says that the answer a is one that the promise of wm_walk allows for these bytes. It is the promise itself, the one name that stands in the `ensures` of the call in crates/wakemiono/src. What the promises come to is said below, so that nothing has to be known of how they are put. `wm-name q` is the promise of the call that asks q: wm_module_name asks `ModuleName`, wm_function_name `FunctionName` of its function, wm_type_name `TypeName` of its index, wm_tag_name `TagName` of its tag, wm_local_name `LocalName` of its function and its local, wm_field_name `FieldName` of its index and its field, wm_kept `KeptContents` of its id; `wm-name-in q` is that of the same call with `_in`, which is lent a module. `wm-wide-name q` and `wm-wide-name-in q` are those of the wider edition, wm_wide_module_name and so on, which has six more: wm_wide_label_name asks `LabelName` of its function and its label, wm_wide_table_name `TableName`, wm_wide_memory_name `MemoryName`, wm_wide_global_name `GlobalName`, wm_wide_element_name `ElementName` and wm_wide_data_name `DataName`. The calls that write are promised of the output before and after, too: `old` and `new`. `wm-markers p is os is′ os′ a` is promised of both lists before the call, `is` and `os`, and after it; `wm-quick-function-name p is os end function a` of a payload, two lists, an end and the function asked. `wm-pair q separate own a` is the promise of the call that asks q over two payloads, wm_pair_module_name and so on, and `wm-wide-pair` that of the wider edition; `wm-pair-join separate own old new a` is the join's. `wm-stream-part s p t a` is promised of the state before the call, s, a part, the state after the call, t, and the answer; `wm-stream-finish s t a` of both states and the answer; `wm-stream-begin b` of the state that comes back. `wm-table-start n t` is promised of the length of a store and the table that comes back; `wm-table-open t s customer payload work u r work′ a` of the table, the store and the work buffer before the call and after it, u, r and work′; `wm-table-function-name t s customer hold function out out′ a` of the output before and after, as nothing else is written to, and `wm-table-close t s customer hold u a` of the table.
-use Rattle.wakemiono.specs.Calls.{wm-walk, wm-section, wm-custom, wm-names-judge, wm-name, wm-metadata-judge, wm-metadata, wm-hints-judge, wm-hint, wm-name-in, wm-metadata-in, wm-hint-in, wm-names-canonical, wm-metadata-canonical, wm-hints-canonical, wm-function-names-write, wm-names-is-canonical, wm-metadata-is-canonical, wm-hints-is-canonical, wm-wide-names-judge, wm-wide-name, wm-wide-name-in, wm-wide-names-canonical, wm-wide-names-is-canonical, wm-old-hints-judge, wm-old-hint, wm-old-hint-in, wm-old-hints-canonical, wm-old-hints-is-canonical, wm-why-function, wm-why-local, wm-markers, wm-quick-function-name, wm-pair, wm-wide-pair, wm-pair-join, wm-wide-pair-join, wm-stream-begin, wm-stream-part, wm-stream-finish, wm-hints-on-branches, wm-table-start, wm-table-open, wm-table-function-name, wm-table-close, wm-table-compact}
+-- THE CALLS, each by its promise: `wm-walk bytes a` says that the answer a is one that the promise of wm_walk allows for these bytes. It is the promise itself, the one name that stands in the `ensures` of the call in crates/wakemiono/src. What the promises come to is said below, so that nothing has to be known of how they are put. `wm-name q` is the promise of the call that asks q: wm_module_name asks `ModuleName`, wm_function_name `FunctionName` of its function, wm_type_name `TypeName` of its index, wm_tag_name `TagName` of its tag, wm_local_name `LocalName` of its function and its local, wm_field_name `FieldName` of its index and its field, wm_kept `KeptContents` of its id; `wm-name-in q` is that of the same call with `_in`, which is lent a module. `wm-wide-name q` and `wm-wide-name-in q` are those of the wider edition, wm_wide_module_name and so on, which has six more: wm_wide_label_name asks `LabelName` of its function and its label, wm_wide_table_name `TableName`, wm_wide_memory_name `MemoryName`, wm_wide_global_name `GlobalName`, wm_wide_element_name `ElementName` and wm_wide_data_name `DataName`. The calls that write are promised of the output before and after, too: `old` and `new`. `wm-markers p is os is′ os′ a` is promised of both lists before the call, `is` and `os`, and after it; `wm-old-hints-list p lists lists′ a` of its three lists before the call and after it; `wm-quick-function-name p is os end function a` of a payload, two lists, an end and the function asked. `wm-pair q separate own a` is the promise of the call that asks q over two payloads, wm_pair_module_name and so on, and `wm-wide-pair` that of the wider edition; `wm-pair-join separate own old new a` is the join's. `wm-stream-part s p t a` is promised of the state before the call, s, a part, the state after the call, t, and the answer; `wm-stream-finish s t a` of both states and the answer; `wm-stream-begin b` of the state that comes back. `wm-table-start n t` is promised of the length of a store and the table that comes back; `wm-table-open t s customer payload work u r work′ a` of the table, the store and the work buffer before the call and after it, u, r and work′; `wm-table-function-name t s customer hold function out out′ a` of the output before and after, as nothing else is written to, and `wm-table-close t s customer hold u a` of the table.
+use Rattle.wakemiono.specs.Calls.{wm-walk, wm-section, wm-custom, wm-names-judge, wm-name, wm-metadata-judge, wm-metadata, wm-hints-judge, wm-hint, wm-name-in, wm-metadata-in, wm-hint-in, wm-names-canonical, wm-metadata-canonical, wm-hints-canonical, wm-function-names-write, wm-names-is-canonical, wm-metadata-is-canonical, wm-hints-is-canonical, wm-wide-names-judge, wm-wide-name, wm-wide-name-in, wm-wide-names-canonical, wm-wide-names-is-canonical, wm-old-hints-judge, wm-old-hint, wm-old-hint-in, wm-old-hints-canonical, wm-old-hints-is-canonical, wm-old-hints-list, wm-why-function, wm-why-local, wm-markers, wm-quick-function-name, wm-pair, wm-wide-pair, wm-pair-join, wm-wide-pair-join, wm-stream-begin, wm-stream-part, wm-stream-finish, wm-hints-on-branches, wm-table-start, wm-table-open, wm-table-function-name, wm-table-close, wm-table-compact}
 -- HINTS ON BRANCHES, by crates/branches/specs: `hintsOnBranches m` is the check of a module; `importedFunctions` counts the functions that are imported, and `functionBodies` are the bodies. `Placed` has a `number`, where it stands, `at`, and its `value`: of hints, by function and then by offset. The rule without a step stands in Rule.antt, over the grammar of core specification 1.0 in Grammar.antt: `HasHints m`: walk and hint payload of m are accepted; `Hinted m first parts fs`: so are its import list and its list of bodies, `first` functions are imported, `parts` are the bodies and fs the hints. `AllSit first parts fs`: every hint of fs has a body of which a br_if or an if begins at its offset. `ModuleRefused m n at`: the walk, the payload, the import list, the list of bodies or the first hint that does not sit is refused with n at that offset.
 use Rattle.branches.specs.Branches.{importedFunctions, functionBodies, hintsOnBranches}
 use Rattle.branches.specs.Hints.{Placed, Hints}
@@ -150,7 +152,7 @@ pub data HintReply : WmAnswer → Type 0 where
 -- 10 | bytes left over in a subsection or a metadata payload | first of them: `leftOver` in Parts
 -- 11 | index or offset not above the one before | that number (in lists: its position): `notAbove` in Lists, and in Writing
 -- 12 | hint of size other than 1, or data above 1 | the size number: `otherSize` and `dataAbove` in Metadata; by K2 a kind above 1, at the kind: `kindAbove` in Older
--- 13 | output shorter than needed | the needed length: `tooShort` and `outputTooShort`; `olderTooShort` of K2, `joinTooShort` of K3, `fewIndices` and `fewOffsets` of K8
+-- 13 | output shorter than needed | the needed length: `tooShort` and `outputTooShort`; `olderTooShort` of K2, `joinTooShort` of K3, `fewIndices` and `fewOffsets` of K8, `fewPlaces` of lists of rows
 -- 14 | lists disagree: unequal counts, or lengths that don't add up to the text | 0: `listsDisagree` in Writing
 -- 15 | subsection would exceed 4,294,967,295 bytes | 0: `subsectionTooLarge` in Writing; `olderTooLong` of K2, `joinTooLarge` of K3, `payloadTooLong` of K8
 -- 17 | the byte behind a function of the older hints is not zero | that byte: `notZero` in Older
@@ -557,6 +559,50 @@ pub record K2 : Type 0 where
   pub in-order : (p old new : List ℕ) (a : WmAnswer) → wm-old-hints-canonical p old new a → a .kind ≡ 1 → (m : List OlderEntry) → OlderHints (take (a .length) new) m → InOrder m
   -- the yes or no of K10
   pub told : TellsCanonical wm-old-hints-judge wm-old-hints-canonical wm-old-hints-is-canonical
+
+-- EVERY PAIR AS A ROW. "All rows, in order, at the front of the lent lists: FOUND with offset 0, length = number of rows .. REFUSED as judging does, then 13 with the number of rows as its offset where one of the lists is shorter. A list keeps what stands behind its rows; a refusal changes none. .. Hints: function, code offset, 0 unlikely or 1 likely. Of the older edition: every pair once, by function and offset, with the hint that answers." Proved as `old-hints-listed` in Proved.antt.
+
+-- What a call that lists rows answers
+pub data RowsReply : WmAnswer → Type 0 where
+  rowsListed : (rows : ℕ) → RowsReply (wmFound 0 0 rows)
+  rowsRefused : (number offset : ℕ) → RowsReply (wmRefused number offset)
+
+-- Which payload it refuses, and how: at its fault; then 13, exactly where one of the lists is shorter than the number of rows, which is its offset
+pub data RowsRefused {A : Type 0} (Fault : (number offset : ℕ) → Type 0) (judged : Judged A) (rows : A → ℕ) (lists : List (List ℕ)) : (number offset : ℕ) → Type 0 where
+  unlisted : {number offset : ℕ} → Fault number offset → RowsRefused Fault judged rows lists number offset
+  fewPlaces : {v : A} {list : List ℕ} → judged ≡ accepted v → Among list lists → length list < rows v → RowsRefused Fault judged rows lists 13 (rows v)
+
+-- The row at a position among the first n of three lists
+pub record RowAt (n : ℕ) (functions offsets likely : List ℕ) (i function offset kind : ℕ) : Type 0 where
+  pub listed : i < n
+  pub function-is : getElem? functions i ≡ some function
+  pub offset-is : getElem? offsets i ≡ some offset
+  pub kind-is : getElem? likely i ≡ some kind
+
+-- The call over three lists, before it and after it
+module _ (p functions offsets likely functions′ offsets′ likely′ : List ℕ) (a : WmAnswer) where
+  abbrev ListsHints : Type 0
+  ListsHints = wm-old-hints-list p (functions ∷ offsets ∷ likely ∷ []) (functions′ ∷ offsets′ ∷ likely′ ∷ []) a
+
+  abbrev ListedRow : (i function offset kind : ℕ) → Type 0
+  ListedRow = RowAt (a .length) functions′ offsets′ likely′
+
+  pub record RowsOfHints : Type 0 where
+    -- demand 1, and what each list holds after the call
+    pub answers : Bytes p → ListsHints → Answers RowsReply (RowsRefused (OlderFault p) (judgeOlder 0 p) (λ es. length (groupRows (sortedFrom nil es))) (functions ∷ offsets ∷ likely ∷ [])) a
+    pub functions-left : ListsHints → Leaves functions functions′ a
+    pub offsets-left : ListsHints → Leaves offsets offsets′ a
+    pub likely-left : ListsHints → Leaves likely likely′ a
+    -- "with the hint that answers": 0 where wm_old_hint says unlikely of the pair, and 1 where it says likely
+    pub told : ListsHints → (i function offset kind : ℕ) → ListedRow i function offset kind → (b : WmAnswer) → wm-old-hint function offset p b → b .kind ≡ 3 + kind
+    -- "every pair once": every pair that has a hint is listed, of any other the answer is none
+    pub every : ListsHints → a .kind ≡ 1 → (function offset : ℕ) (b : WmAnswer) → wm-old-hint function offset p b → b .kind ≢ 0 → (i kind : ℕ) × ListedRow i function offset kind
+    pub no-other : ListsHints → a .kind ≡ 1 → (function offset : ℕ) (b : WmAnswer) → wm-old-hint function offset p b → ((i kind : ℕ) → ListedRow i function offset kind → ⊥) → b ≡ wmNone
+    -- and none twice, "by function and offset"
+    pub rise : ListsHints → (i j f g o u k l : ℕ) → i < j → ListedRow i f o k → ListedRow j g u l → (f < g) ⊎ ((f ≡ g) × (o < u))
+
+abbrev pub OldHintsListed : Type 0
+OldHintsListed = (p functions offsets likely functions′ offsets′ likely′ : List ℕ) (a : WmAnswer) → RowsOfHints p functions offsets likely functions′ offsets′ likely′ a
 
 -- K11. "Nothing shorter says the same. Storage asks whether another tool could save a byte. Show that every other accepted payload giving the same answers to every question is strictly longer than the canonical one, for names in each edition and for the metadata sections. For `branchHints`, whose order is free, show that none is shorter." Proved as `k11` in Proved.antt.
 

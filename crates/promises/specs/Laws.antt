@@ -20,6 +20,7 @@ pub mod Shortest
 pub mod Why
 pub mod FunctionNames
 pub mod Markers
+pub mod OldLists
 pub mod Pairs
 pub mod Joins
 pub mod Arriving

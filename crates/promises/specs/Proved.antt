@@ -1,6 +1,6 @@
 -- The proofs of the three demands in `Demands.antt`, and of the requests, by their names.
 use Prim.Native.Nat.{ℕ, _≤_, _<_}
-use mathlib.Core.List.{List}
+use mathlib.Core.List.{List, [], _∷_}
 use mathlib.Core.Logic.{_↔_, Iff·trans}
 use mathlib.Core.Option.{Option, none, some}
 use mathlib.Core.Path.{_≡_, refl, sym, ap, _∙_}
@@ -66,6 +66,7 @@ use Rattle.promises.specs.Laws.Editions.{none-kept, within-one-edition, 
 use Rattle.promises.specs.Laws.Exactly.{RefusedBy, JudgedThrough, walkRefused, payloadRefused, JudgedOrShort, name-in-exactly, metadata-in-exactly, hint-in-exactly, older-in-exactly, written-exactly, rewritten-exactly}
 use Rattle.promises.specs.Laws.ListsRefused.{lists-refused}
 use Rattle.promises.specs.Laws.Faults.{answers-otherwise, writes-otherwise, faults, or-short, older-or-short, through-faults, format-faults}
+use Rattle.promises.specs.Laws.OldLists.{rows-refused, rows-answered, rows-numbered, functions-listed, offsets-listed, likely-listed, row-told, every-row, no-row, rows-risen}
 use Rattle.promises.specs.Laws.Older.{older-likely, older-unlikely, older-none, older-hint-refused, older-refused, older-never-15, older-ordered, sections-apart, never-empty}
 use Rattle.promises.specs.Laws.Refusing.{Numbered, FairlyJudged, names-fair, any-fair, hint-fair, item-of-fair, items-fair, older-fair, older-fair-by, walk-fair}
 use Rattle.promises.specs.Laws.Rewriting.{WhereWritten, always-written, Asked, names-asked, metadata-asked, hints-asked, older-asked, names-written, metadata-written, hints-written, names-first-judged, metadata-first-judged, hints-first-judged, rewritten-same, rewritten-accepted, rewritten-alike, rewritten-shorter, rewritten-rests, rewritten-fits, rewriting-refused, names-refuse, metadata-refuse, hints-refuse, older-refuse, older-written}
@@ -83,7 +84,7 @@ use Rattle.promises.specs.Laws.Pairs.{asks-pairs, hands-back}
 use Rattle.promises.specs.Laws.Joins.{joins-pairs}
 use Rattle.promises.specs.Laws.Walking.{walked, walk-counts, section-found, section-first, section-none, section-refused, custom-tells, custom-refused}
 use Rattle.wakemiono.specs.Calls.{wm-walk, wm-metadata-judge, wm-hints-judge, wm-metadata-canonical, wm-hints-canonical, wm-function-names-write, wm-old-hints-judge, wm-old-hints-canonical, wm-hints-on-branches}
-use Rattle.promises.specs.Demands.{Verdict, Reply, SectionReply, HintReply, Answers, RefusedThrough, RefusedOrShort, ListsRefused, NeedsRoom, Writing, Demand1, HoldsName, HoldsData, JudgesExactly, AnswersNames, AnswersMetadata, AnswersHints, Walks, Demand2, SameAnswer, Rewritten, Rewrites, Demand3, yes, no, replyNone, replyFound, replyRefused, sectionNone, sectionFound, sectionRefused, hintNone, hintUnlikely, hintLikely, hintRefused, byAFault, tooShort, Faulty, listsFault, outputTooShort, TellsCanonical, K10, K9, OlderRefused, AnswersOlder, K2, olderFault, olderTooLong, olderTooShort, K11, K7, K8, K3, Leaves, K5, K6, K12, K13}
+use Rattle.promises.specs.Demands.{Verdict, Reply, SectionReply, HintReply, Answers, RefusedThrough, RefusedOrShort, ListsRefused, NeedsRoom, Writing, Demand1, HoldsName, HoldsData, JudgesExactly, AnswersNames, AnswersMetadata, AnswersHints, Walks, Demand2, SameAnswer, Rewritten, Rewrites, Demand3, yes, no, replyNone, replyFound, replyRefused, sectionNone, sectionFound, sectionRefused, hintNone, hintUnlikely, hintLikely, hintRefused, byAFault, tooShort, Faulty, listsFault, outputTooShort, TellsCanonical, K10, K9, OlderRefused, AnswersOlder, K2, OldHintsListed, olderFault, olderTooLong, olderTooShort, K11, K7, K8, K3, Leaves, K5, K6, K12, K13}
 use Rattle.branches.specs.Branches.{hintsOnBranches}
 use Rattle.branches.specs.Theorems.{module-exactly, module-refused-exactly, without-hints}
 use Rattle.promises.specs.Answers.{saysVerdict, verdict-said}
@@ -445,6 +446,20 @@ k2 = record {
   room-enough = λ p old new a j l. fits older-written older-refuse older-asked p old new a j (λ acc. older-rewritten .accepts acc l);
   in-order = older-ordered;
   told = told older-written never-empty;
+}
+
+pub old-hints-listed : OldHintsListed
+old-hints-listed = λ p fs os ks fs′ os′ ks′ a. record {
+  answers = λ b w.
+      let exactly = rows-refused p (fs ∷ os ∷ ks ∷ []) b (w .says) in
+      record { answers = rows-answered p (fs ∷ os ∷ ks ∷ []) (w .says); refuses = exactly; numbered = λ n at e. rows-numbered p (fs ∷ os ∷ ks ∷ []) b (exactly n at .0 e) };
+  functions-left = functions-listed p fs os ks fs′ os′ ks′ a;
+  offsets-left = offsets-listed p fs os ks fs′ os′ ks′ a;
+  likely-left = likely-listed p fs os ks fs′ os′ ks′ a;
+  told = row-told p fs os ks fs′ os′ ks′ a;
+  every = every-row p fs os ks fs′ os′ ks′ a;
+  no-other = no-row p fs os ks fs′ os′ ks′ a;
+  rise = rows-risen p fs os ks fs′ os′ ks′ a;
 }
 
 pub k11 : K11

@@ -101,7 +101,7 @@ markers-numbered bytes (fewIndices f short few) = refl
 markers-numbered bytes (fewOffsets f short few) = refl
 
 -- WHAT A LIST HOLDS AFTERWARDS: the markers first, and then what it held
-put-first : (xs old : List ℕ) {new : List ℕ} {a : WmAnswer} (end : ℕ) → length xs ≤ length old → new ≡ xs ++ drop (length xs) old → a ≡ wmFound 0 end (length xs) → Leaves old new a
+pub put-first : (xs old : List ℕ) {new : List ℕ} {a : WmAnswer} (end : ℕ) → length xs ≤ length old → new ≡ xs ++ drop (length xs) old → a ≡ wmFound 0 end (length xs) → Leaves old new a
 put-first xs old {new} {a} end room is e =
     let long : a .length ≡ length xs = ap (λ (a : WmAnswer). a .length) e in
     record {
@@ -117,10 +117,10 @@ first-there [] behind i l = absurd (omega arith)
 first-there (x ∷ xs) behind zero l = refl
 first-there (x ∷ xs) behind (suc i) l = first-there xs behind i (omega arith)
 
-first-of : {new : List ℕ} (xs behind : List ℕ) (i : ℕ) → new ≡ xs ++ behind → i < length xs → getElem? new i ≡ getElem? xs i
+pub first-of : {new : List ℕ} (xs behind : List ℕ) (i : ℕ) → new ≡ xs ++ behind → i < length xs → getElem? new i ≡ getElem? xs i
 first-of xs behind i e l = rw e (first-there xs behind i l)
 
-put-nothing : {old new : List ℕ} {a : WmAnswer} (n at : ℕ) → new ≡ old → a ≡ wmRefused n at → Leaves old new a
+pub put-nothing : {old new : List ℕ} {a : WmAnswer} (n at : ℕ) → new ≡ old → a ≡ wmRefused n at → Leaves old new a
 put-nothing n at is e = record {
   refused-unchanged = λ k. is;
   others-unchanged = λ k. absurd (omega (arith, k, ap (λ (a : WmAnswer). a .kind) e));
