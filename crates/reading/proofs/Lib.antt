@@ -3,6 +3,7 @@ pub mod Laws
 pub mod PartSteps
 pub mod TextLaws
 pub mod TextSteps
+pub mod WordLaws
 pub mod AsciiLaws
 pub mod Same
 pub mod TakenLaws

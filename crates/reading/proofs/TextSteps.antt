@@ -113,9 +113,6 @@ near : {i end : ℕ} → i + 4 ≤ end → i < end
 near p = omega arith
 
 module _ {s : List ℕ} {i end : ℕ} (p : i + 4 ≤ end) (q : end ≤ length s) where
-  pub whole-one : getD s i 0 < 0x80 → Stands s i end 1
-  whole-one h = ascii-stands (near p) q h
-
   pub whole-below : 0x80 ≤ getD s i 0 → getD s i 0 < 0xC0 → Stands s i end 0
   whole-below h k = below-stands (near p) q h k
 
@@ -143,7 +140,7 @@ module _ {s : List ℕ} {i end : ℕ} (p : i + 4 ≤ end) (q : end ≤ length s)
     pub no-four : t ≡ false → Stands s i end 0
     no-four f = four-other (begins (near p) q h k) (omega arith) e f
 
-pub ruleset wholes = (whole-one, whole-below, whole-above, whole-two, no-two, whole-three, no-three, whole-four, no-four, needs)
+pub ruleset wholes = (whole-below, whole-above, whole-two, no-two, whole-three, no-three, whole-four, no-four, needs)
 
 -- From character to character
 pub passes-none : {s : List ℕ} {i end : ℕ} → i ≤ end → Passes s i end i
@@ -156,6 +153,10 @@ module _ {s : List ℕ} {from end i : ℕ} (u : Passes s from end i) where
   pub passed : i ≤ end
   passed = u .within
 
+  -- an ASCII byte, and what was passed behind it
+  pub passes-run : {last next : ℕ} → last ≡ end - 4 → 16 ≤ end → i ≤ last → end ≤ length s → getD s i 0 < 0x80 → Passes s (i + 1) end next → Passes s from end next
+  passes-run e k p q h v = passes-join u (passes-join (ascii-stands (omega arith) q h .one (λ z. absurd (omega arith))) v)
+
   module _ {n : ℕ} (c : Stands s i end n) where
     pub passes-character : (n ≡ 0 → ⊥) → Passes s from end (i + n)
     passes-character p = passes-join u (c .one p)
@@ -166,4 +167,4 @@ module _ {s : List ℕ} {from end i : ℕ} (u : Passes s from end i) where
   pub all-text : end ≤ i → true ≡ utf8 (slice from end s)
   all-text h = let e : i ≡ end = omega (arith, u .within) in sym (u .same ∙ rw (e, slice-empty) text-end)
 
-pub ruleset turns = (passes-none, passes-join, passed, passes-character, no-text, all-text, needs)
+pub ruleset turns = (passes-none, passes-join, passed, passes-run, passes-character, no-text, all-text, needs)

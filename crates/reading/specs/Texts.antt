@@ -1,11 +1,19 @@
--- What the text reader promises of the bytes that it looks at: ASCII in blocks, characters one by one.
-use Prim.Native.Nat.{ℕ, _+_, _%_, _≤_, _<_}
+-- What the text reader promises of the bytes that it looks at: ASCII in words and blocks, characters one by one.
+use Prim.Native.Nat.{ℕ, _+_, _*_, _%_, _≤_, _<_}
 use mathlib.Core.Bool.{Bool, true, false, _&&_}
 use mathlib.Core.List.{List}
 use mathlib.Core.Path.{_≡_}
 use lib.ListN.{length, getD}
 use lib.Seq.{slice}
 use Rattle.format.specs.Text.{leastOfTwo, leastOfThree, leastOfFour, isAllowed, isLater, withLater, utf8}
+
+-- a number that holds the four bytes from `i` on, the first of them lowest
+pub record Holds (s : List ℕ) (i word : ℕ) : Type 0 where
+  pub first : getD s i 0 < 256
+  pub second : getD s (i + 1) 0 < 256
+  pub third : getD s (i + 2) 0 < 256
+  pub fourth : getD s (i + 3) 0 < 256
+  pub all-four : word ≡ getD s i 0 + getD s (i + 1) 0 * 256 + (getD s (i + 2) 0 + getD s (i + 3) 0 * 256) * 65536
 
 -- told so, the `n` bytes from `i` on are ASCII
 pub record SeesAscii (s : List ℕ) (i n : ℕ) (told : Bool) : Type 0 where

@@ -1,11 +1,15 @@
 // Valid UTF-8: each character is worked out from its bytes and compared with the limits, as the definition does.
 ghost use mathlib.Core.Path.{_≡_};
 ghost use Prim.Native.Nat.{_≤_, _<_, _+_};
-ghost use lib.ListN.{length};
+ghost use lib.ListN.{length, getD};
 ghost use Rattle.format.specs.Text.{isLater, withLater};
 ghost use Rattle.reading.specs.Promises.{reading-is-text};
 ghost use Rattle.reading.specs.Texts.{Begins, Passes, Stands, twoComplete, threeComplete, fourComplete};
+use crate::ascii::ASCII_END;
+use crate::ascii::BLOCK;
 use crate::ascii::after_ascii;
+use crate::ascii::after_each_block;
+use crate::ascii::are_four_ascii;
 
 // No character is longer.
 const LONGEST: usize = 4;
@@ -119,15 +123,13 @@ fn character(s: &[u8], i: usize, to: usize) -> usize
     0
 }
 
-// The same where no character can be cut short, so that none looks for the end.
+// The same of several bytes, where no character can be cut short, so that none looks for the end.
 fn whole(s: &[u8], i: usize, to: usize) -> usize
     requires { ⌜ (i + 4 ≤ to) × (to ≤ length (now s)) ⌝ }
+    requires { ⌜ 0x80 ≤ getD (now s) i 0 ⌝ }
     ensures { λ r. ⌜ Stands (now (s .entry)) i to r ⌝ }
 {
     let first = s[i];
-    if first < 0x80 {
-        return 1;
-    }
     if first < 0xE0 {
         if first < 0xC0 {
             return 0;
@@ -151,22 +153,38 @@ fn whole(s: &[u8], i: usize, to: usize) -> usize
     0
 }
 
-// As far as characters go, up to where one could be cut short.
+// Behind an ASCII byte; where four begin a run, as far as it goes.
+fn after_run(s: &[u8], i: usize, to: usize) -> usize
+    requires { ⌜ (i + 4 ≤ to) × (to ≤ length (now s)) ⌝ }
+    requires { ⌜ 16 ≤ to ⌝ }
+    ensures { λ r. ⌜ Passes (now (s .entry)) (i + 1) to r ⌝ }
+{
+    if are_four_ascii(s, i) {
+        return after_each_block(s, i + LONGEST, to);
+    }
+    i + 1
+}
+
+// As far as characters go, up to where one could be cut short. Before the first block's end none is looked at here.
 fn after_characters(s: &[u8], from: usize, to: usize) -> usize
     requires { ⌜ (from ≤ to) × (to ≤ length (now s)) ⌝ }
     ensures { λ r. ⌜ Passes (now (s .entry)) from to r ⌝ }
 {
-    if to < LONGEST {
+    if to < BLOCK {
         return from;
     }
     let last = to - LONGEST;
     let mut i = from;
     while i <= last {
-        let n = whole(s, i, to);
-        if n == 0 {
-            return i;
+        if s[i] < ASCII_END {
+            i = after_run(s, i, to);
+        } else {
+            let n = whole(s, i, to);
+            if n == 0 {
+                return i;
+            }
+            i += n;
         }
-        i += n;
     }
     i
 }

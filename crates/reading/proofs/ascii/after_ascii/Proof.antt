@@ -20,23 +20,8 @@ after-blocks-requires c κs = search runs
 after-each-block-requires : tie.Need-after-each-block-requires
 after-each-block-requires c κs = search runs
 
-sub-is-block-ascii : tie.Need-sub-is-block-ascii
-sub-is-block-ascii c = search runs
-
-is-block-ascii-requires : tie.Need-is-block-ascii-requires
-is-block-ascii-requires c κs = search runs
-
-sub-if4 : tie.Need-sub-if4
-sub-if4 c = search runs
-
 returns-3 : tie.Need-returns-3
 returns-3 c = search runs
-
-returns-4 : tie.Need-returns-4
-returns-4 c = search runs
-
-returns-5 : tie.Need-returns-5
-returns-5 c = search runs
 
 pub after-ascii-spec : {M : Type 1} → statement M
 after-ascii-spec =
@@ -48,9 +33,4 @@ after-ascii-spec =
     returns-2
     after-blocks-requires
     after-each-block-requires
-    sub-is-block-ascii
-    is-block-ascii-requires
-    sub-if4
-    returns-3
-    returns-4
-    returns-5)
+    returns-3)

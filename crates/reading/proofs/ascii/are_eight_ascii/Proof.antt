@@ -1,20 +1,40 @@
-use Rattle.reading.proofs.AsciiLaws.{blocks}
+use Rattle.reading.proofs.AsciiLaws.{words}
 use Rattle.reading.proofs.ascii.are_eight_ascii.Statement.{statement}
 use Rattle.reading.proofs.ascii.are_eight_ascii.Tie as tie
 
-are-four-ascii-requires : tie.Need-are-four-ascii-requires
-are-four-ascii-requires c κs = search blocks
+four-bytes-requires : tie.Need-four-bytes-requires
+four-bytes-requires c κs = search words
 
-add-are-four-ascii : tie.Need-add-are-four-ascii
-add-are-four-ascii c = search blocks
+cast-low : tie.Need-cast-low
+cast-low c = search words
 
-are-four-ascii-requires-2 : tie.Need-are-four-ascii-requires-2
-are-four-ascii-requires-2 c κs = search blocks
+add-four-bytes : tie.Need-add-four-bytes
+add-four-bytes c = search words
+
+four-bytes-requires-2 : tie.Need-four-bytes-requires-2
+four-bytes-requires-2 c κs = search words
+
+cast-high : tie.Need-cast-high
+cast-high c = search words
+
+mul-word : tie.Need-mul-word
+mul-word c = search words
+
+add-word : tie.Need-add-word
+add-word c = search words
 
 returns : tie.Need-returns
-returns c = search blocks
+returns c = search words
 
 pub are-eight-ascii-spec : {M : Type 1} → statement M
 are-eight-ascii-spec =
     tie.close
-    (tie.spec are-four-ascii-requires add-are-four-ascii are-four-ascii-requires-2 returns)
+    (tie.spec
+    four-bytes-requires
+    cast-low
+    add-four-bytes
+    four-bytes-requires-2
+    cast-high
+    mul-word
+    add-word
+    returns)
