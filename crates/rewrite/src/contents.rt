@@ -13,7 +13,7 @@ use reading::Cursor;
 use reading::again::number_here;
 use reading::again::part_here;
 use writing::number_length;
-use writing::put_bytes;
+use writing::put_long;
 use writing::put_number;
 
 // How long contents are, and how many entries or groups they begin by counting; one name and kept contents count none.
@@ -127,7 +127,7 @@ fn put_kept(out: &mut [u8], at: usize, s: &[u8], part: Cursor) -> usize
 {
     let from = part.at;
     let to = part.end;
-    put_bytes(out, at, &s[from..to])
+    put_long(out, at, &s[from..to])
 }
 
 // What is left of contents of a kind, with the count that was found when it was measured.

@@ -1,7 +1,7 @@
 // A payload whose rewriting is as long as it is: nothing was padded and nothing empty was left out, so it is copied whole.
 ghost use Rattle.rewrite.specs.Whole.{FitsWhole, PutsWhole};
 use reading::Cursor;
-use writing::put_bytes;
+use writing::put_long;
 
 // All that the cursor has left, to the output's front.
 pub fn put_whole(out: &mut [u8], s: &[u8], c: Cursor) -> usize
@@ -10,5 +10,5 @@ pub fn put_whole(out: &mut [u8], s: &[u8], c: Cursor) -> usize
 {
     let from = c.at;
     let to = c.end;
-    put_bytes(out, 0, &s[from..to])
+    put_long(out, 0, &s[from..to])
 }

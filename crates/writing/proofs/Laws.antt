@@ -1,13 +1,13 @@
 -- Writes that follow each other are one write; and the turns of the loops that copy bytes and find digits. Assumes nothing.
 use Prim.Native.Nat.{ℕ, zero, suc, _+_, _-_, _/_, _%_, _^_, _≤_, _<_}
-use mathlib.Core.List.{List, [], _∷_, _++_, append-assoc}
+use mathlib.Core.List.{List, [], _∷_, _++_, append-assoc, append-nil}
 use mathlib.Core.Path.{_≡_, refl, ap, _∙_, sym}
 use native.Mathlib.Nat.{pow-succ', add-zero, zero-add}
 use native.Mathlib.Numerals.{add-one}
 use native.Mathlib.Omega.{arith}
 use borrow.Author.Tests.{lt-ltb, le-ltb}
 use lib.ListN.{length, take, drop, set, getD, length-set, length-append, length-take, length-drop, take-append-drop, drop-of-length-le}
-use lib.Seq.{set-split, take-suc, take-all, take-at, drop-at, drop-drop, drop-cons, drop-set-lt, getD-set-same}
+use lib.Seq.{set-split, take-suc, take-add, take-all, take-at, drop-at, drop-drop, drop-cons, drop-set-lt, getD-set-same}
 use Rattle.format.specs.Reading.{Judged, accepted}
 use Rattle.format.specs.Listing.{digits, decimal}
 use Rattle.format.specs.Outputs.{Writes}
@@ -80,6 +80,43 @@ module _ {old : List ℕ} {at : ℕ} {bytes new : List ℕ} {k : ℕ} (t : Copie
 
   pub copied-all : length bytes ≤ k → Wrote old new at (at + k) bytes
   copied-all h = rw (take-all k bytes h) at (t .so-far)
+
+-- The loop that copies blocks: an array takes what is left of the bytes that it has room for, and hands it on
+wrote-whole : {old new bytes : List ℕ} {next : ℕ} → Wrote old new 0 next bytes → length bytes ≡ length old → new ≡ bytes
+wrote-whole {old} {bytes = bytes} {next = next} w e =
+    let behind : drop next old ≡ [] = drop-of-length-le old {i = next} (omega (arith, w .next-is)) in
+    w .written ∙ rw behind (append-nil bytes)
+
+pub record Blocks (old : List ℕ) (at : ℕ) (bytes new : List ℕ) (k : ℕ) : Type 0 where
+  pub copied : Copied old at bytes new k
+  pub within : k ≤ length bytes
+
+pub no-blocks : {old : List ℕ} {at : ℕ} {bytes : List ℕ} → at + length bytes ≤ length old → Blocks old at bytes old 0
+no-blocks h = record { copied = copied-nothing h; within = omega arith }
+
+-- the array's own bytes are those that were put into it
+pub through-array : {empty block bytes old new : List ℕ} {at end next : ℕ} → length empty ≡ 128 → length bytes ≡ 128 → Wrote empty block 0 end bytes → Wrote old new at next block → Wrote old new at next bytes
+through-array {block = block} {bytes = bytes} e f w v =
+    let same : block ≡ bytes = wrote-whole w (f ∙ sym e) in
+    rw same at v
+
+module _ {old : List ℕ} {at : ℕ} {bytes new : List ℕ} {k : ℕ} (t : Blocks old at bytes new k) where
+  pub one-block : {out : List ℕ} {next : ℕ} → 128 ≤ length bytes - k → Wrote new out (at + k) next (take (k + 128 - k) (drop k bytes)) → Blocks old at bytes out (k + 128)
+  one-block {out} {next} h w =
+      let wide : k + 128 - k ≡ 128 = omega arith in
+      let long : length (take 128 (drop k bytes)) ≡ 128 = simp (length-take, length-drop) (omega (arith, t .within)) in
+      let part : Wrote new out (at + k) next (take 128 (drop k bytes)) = rw wide at w in
+      let ends : next ≡ at + (k + 128) = omega (arith, part .next-is, long) in
+      let all : Wrote old out at next (take k bytes ++ take 128 (drop k bytes)) = wrote-join (t .copied .so-far) part in
+      record {
+        copied = record { so-far = rw (take-add k 128 bytes) (rw ends at all); long = wrote-length part ∙ t .copied .long };
+        within = omega (arith, t .within);
+      }
+
+  pub last-bytes : {out : List ℕ} {next : ℕ} → Wrote new out (at + k) next (take (length bytes - k) (drop k bytes)) → Wrote old out at next bytes
+  last-bytes v =
+      let rest : take (length bytes - k) (drop k bytes) ≡ drop k bytes = take-all (length bytes - k) (drop k bytes) (rw length-drop (omega arith)) in
+      rw (take-append-drop k bytes) at (wrote-join (t .copied .so-far) (rw rest at v))
 
 -- Digits: `suc n` bounds those of `n`, and what is left after one of them is bounded so again
 digits-last : (n : ℕ) (after : List ℕ) → n < 10 → digits (suc n) n after ≡ (48 + n) ∷ after

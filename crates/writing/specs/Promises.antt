@@ -14,6 +14,9 @@ writing-put-byte old at b new r = Wrote old new at r (b ∷ [])
 abbrev pub writing-put-bytes : (old : List ℕ) (at : ℕ) (bytes : List ℕ) → List ℕ → ℕ → Type 0
 writing-put-bytes old at bytes new r = Wrote old new at r bytes
 
+abbrev pub writing-put-long : (old : List ℕ) (at : ℕ) (bytes : List ℕ) → List ℕ → ℕ → Type 0
+writing-put-long old at bytes new r = Wrote old new at r bytes
+
 abbrev pub writing-put-decimal : (old : List ℕ) (at n : ℕ) → List ℕ → ℕ → Type 0
 writing-put-decimal old at n new r = Wrote old new at r (decimal n) × (r ≤ at + 20)
 

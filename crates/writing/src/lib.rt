@@ -1,11 +1,16 @@
 // Puts bytes into a lent output, one thing after the other: each function returns where the next one starts.
 ghost use Prim.Native.Nat.{_≤_, _<_, _+_};
+ghost use mathlib.Core.Path.{_≡_};
 ghost use lib.ListN.{length};
 ghost use Rattle.format.specs.Numbers.{shortest};
-ghost use Rattle.writing.specs.Promises.{writing-put-byte, writing-put-bytes, writing-put-decimal, writing-number-length, writing-put-number};
+ghost use Rattle.writing.specs.Wrote.{Wrote};
+ghost use Rattle.writing.specs.Promises.{writing-put-byte, writing-put-bytes, writing-put-long, writing-put-decimal, writing-number-length, writing-put-number};
 
 // As many digits as the greatest 64-bit number has.
 const MOST_DIGITS: usize = 20;
+
+// How many bytes are copied together.
+const BLOCK: usize = 128;
 
 const TEN: u64 = 10;
 
@@ -35,6 +40,31 @@ pub fn put_bytes(out: &mut [u8], at: usize, bytes: &[u8]) -> usize
         k += 1;
     }
     at + k
+}
+
+// A block. It goes through an array of this function, so that it is read whole before any of it is stored, and becomes wide
+// moves without a loop.
+fn put_block(out: &mut [u8], at: usize, bytes: &[u8]) -> usize
+    requires { ⌜ length (now bytes) ≡ 128 ⌝ }
+    requires { ⌜ at + 128 ≤ length (now out) ⌝ }
+    ensures { λ r. ⌜ Wrote (now (out .entry)) (now (out .exit)) at r (now (bytes .entry)) ⌝ }
+{
+    let mut block = [0u8; BLOCK];
+    put_bytes(&mut block, 0, bytes);
+    put_bytes(out, at, &block)
+}
+
+// Bytes of which there may be many, a block at a time.
+pub fn put_long(out: &mut [u8], at: usize, bytes: &[u8]) -> usize
+    requires { ⌜ at + length (now bytes) ≤ length (now out) ⌝ }
+    ensures { λ r. ⌜ writing-put-long (now (out .entry)) at (now (bytes .entry)) (now (out .exit)) r ⌝ }
+{
+    let mut k = 0;
+    while BLOCK <= bytes.len() - k {
+        put_block(out, at + k, &bytes[k..k + BLOCK]);
+        k += BLOCK;
+    }
+    put_bytes(out, at + k, &bytes[k..])
 }
 
 pub fn put_decimal(out: &mut [u8], at: usize, n: u64) -> usize
