@@ -1,4 +1,4 @@
-//! Bytes as the format has them, in the fewest that it allows.
+//! Bytes as the format has them, in the fewest that it allows but for padded numbers.
 
 const PREAMBLE: &[u8] = b"\0asm\x01\0\0\0";
 
@@ -7,6 +7,9 @@ const BITS_IN_A_BYTE: usize = 7;
 
 /// The bit that says that the number goes on in the next byte.
 const GOES_ON: u8 = 1 << BITS_IN_A_BYTE;
+
+/// How many bytes a number may have.
+const MOST_BYTES: usize = 5;
 
 /// A number in its fewest bytes.
 pub fn number(value: usize) -> Vec<u8> {
@@ -17,6 +20,14 @@ pub fn number(value: usize) -> Vec<u8> {
         rest >>= BITS_IN_A_BYTE;
     }
     bytes.push(rest as u8);
+    bytes
+}
+
+/// A number of at most 28 bits in the most bytes that it may have: the last one adds nothing.
+pub fn padded(value: usize) -> Vec<u8> {
+    let group = |place| (value >> (place * BITS_IN_A_BYTE)) as u8 | GOES_ON;
+    let mut bytes: Vec<u8> = (0..MOST_BYTES - 1).map(group).collect();
+    bytes.push(0);
     bytes
 }
 

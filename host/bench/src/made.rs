@@ -2,7 +2,7 @@
 
 use comparison::random::Random;
 
-use crate::bytes::{list, number, sized, subsection};
+use crate::bytes::{list, number, padded, sized, subsection};
 use crate::name_map::{FUNCTIONS, GLOBALS};
 use crate::old_hints;
 use crate::payload::{Kind, Payload};
@@ -12,6 +12,8 @@ use crate::texts;
 pub const LOCALS: u8 = 2;
 pub const LABELS: u8 = 3;
 const DATA: u8 = 9;
+/// An id that no edition knows.
+const KEPT: u8 = 100;
 
 const LABELLED_FUNCTIONS: usize = 2_000;
 const NAMED_GLOBALS: usize = 10_000;
@@ -19,6 +21,7 @@ const NAMED_SEGMENTS: usize = 10_000;
 
 const RUST_BYTES: usize = 172_000;
 const CHARACTERS_BYTES: usize = 100_000;
+const KEPT_BYTES: usize = 600_000;
 
 const HINTED_FUNCTIONS: u32 = 1_000;
 const BRANCHES: u32 = 10;
@@ -38,7 +41,7 @@ struct Recipe {
     make: fn(&mut Random) -> Vec<u8>,
 }
 
-const RECIPES: [Recipe; 17] = [
+const RECIPES: [Recipe; 21] = [
     names("go", |r| functions(&many(14_000, || texts::go(r)))),
     names("c++", |r| functions(&many(1_000, || texts::cpp(r)))),
     names("rust-v0", |r| {
@@ -53,7 +56,18 @@ const RECIPES: [Recipe; 17] = [
     names("four-byte", |r| {
         in_characters(r, '\u{1_0000}', '\u{10_FFFF}')
     }),
+    names("one-letter-beyond", |r| {
+        functions(&many(1_000, || texts::one_letter_beyond(r)))
+    }),
     names("one-long-name", |r| functions(&[texts::ascii(r, 600_000)])),
+    names("kept", |r| one_kept_subsection(r)),
+    names("padded", |r| {
+        padded_functions(&many(14_000, || texts::go(r)))
+    }),
+    names("padded-frame", |r| {
+        let map = name_map(&many(14_000, || texts::go(r)));
+        [&[FUNCTIONS], &padded(map.len())[..], &map].concat()
+    }),
     Recipe {
         name: "hints",
         kind: Kind::Hints,
@@ -106,6 +120,26 @@ pub fn payload(name: &str) -> Option<Payload> {
 /// A payload that names functions and nothing else.
 pub fn functions(texts: &[String]) -> Vec<u8> {
     subsection(FUNCTIONS, &name_map(texts))
+}
+
+/// The same with the size of the subsection and every number of a row in five bytes.
+fn padded_functions(texts: &[String]) -> Vec<u8> {
+    let row = |(index, text): (usize, &String)| {
+        [&padded(index), &padded(text.len()), text.as_bytes()].concat()
+    };
+    let rows = texts
+        .iter()
+        .enumerate()
+        .map(row)
+        .collect::<Vec<_>>()
+        .concat();
+    let map = [padded(texts.len()), rows].concat();
+    [&[FUNCTIONS], &padded(map.len())[..], &map].concat()
+}
+
+/// One subsection that no edition knows.
+fn one_kept_subsection(r: &mut Random) -> Vec<u8> {
+    subsection(KEPT, texts::ascii(r, KEPT_BYTES).as_bytes())
 }
 
 fn name_map(texts: &[String]) -> Vec<u8> {
@@ -238,7 +272,10 @@ mod tests {
             ("two-byte", 1_000, 100),
             ("three-byte", 1_011, 99),
             ("four-byte", 1_000, 100),
+            ("one-letter-beyond", 1_000, 99),
             ("one-long-name", 1, 600_000),
+            ("padded", 14_000, 43),
+            ("padded-frame", 14_000, 43),
         ] {
             let payload = payload(name).expect("there is such a payload");
             let lists = NameMap::of(&payload.bytes, FUNCTIONS)

@@ -114,6 +114,13 @@ pub fn letter(r: &mut Random) -> String {
     ascii(r, 1)
 }
 
+/// Words in ASCII but for one letter of two bytes between them: `readBufferÄflushState`.
+pub fn one_letter_beyond(r: &mut Random) -> String {
+    let (before, behind) = (4 + r.below(9), 4 + r.below(9));
+    let letter = characters(r, 'À', 'ÿ', 1);
+    [words(r, before), letter, words(r, behind)].concat()
+}
+
 pub fn ascii(r: &mut Random, length: usize) -> String {
     characters(r, 'a', 'z', length)
 }
