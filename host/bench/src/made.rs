@@ -60,7 +60,7 @@ const RECIPES: [Recipe; 21] = [
         functions(&many(1_000, || texts::one_letter_beyond(r)))
     }),
     names("one-long-name", |r| functions(&[texts::ascii(r, 600_000)])),
-    names("kept", |r| one_kept_subsection(r)),
+    names("kept", one_kept_subsection),
     names("padded", |r| {
         padded_functions(&many(14_000, || texts::go(r)))
     }),
@@ -272,7 +272,7 @@ mod tests {
             ("two-byte", 1_000, 100),
             ("three-byte", 1_011, 99),
             ("four-byte", 1_000, 100),
-            ("one-letter-beyond", 1_000, 99),
+            ("one-letter-beyond", 1_000, 96),
             ("one-long-name", 1, 600_000),
             ("padded", 14_000, 43),
             ("padded-frame", 14_000, 43),
