@@ -317,6 +317,23 @@ map-bare : (shows : Listed (List ℕ) → ℕ) (xs : List (Listed Part)) → map
 map-bare shows [] = refl
 map-bare shows (x ∷ xs) = ap (λ l. shows (bareRow x) ∷ l) (map-bare shows xs)
 
+-- what the lists give back of the function names of a payload
+record ReadBack (p : List ℕ) (t : Table (List ℕ)) (n : ℕ) (fs os ns : List ℕ) : Type 0 where
+  indices : take n fs ≡ indicesOf t
+  lengths : take n ns ≡ lengthsOf t
+  text : textAt p (take n os) (take n ns) ≡ namesOf t
+
+read-back : {p : List ℕ} {t : Table (List ℕ)} {listed : List (Listed Part)} (n : ℕ) (fs ss os ns fs′ ss′ os′ ns′ : List ℕ) → Meant p (plainRows t) listed → n ≡ length listed → (fs′ ∷ ss′ ∷ os′ ∷ ns′ ∷ []) ≡ overEach placeColumns listed (fs ∷ ss ∷ os ∷ ns ∷ []) → ReadBack p t n fs′ os′ ns′
+unfolding overEach
+read-back {p} {listed = listed} n fs ss os ns fs′ ss′ os′ ns′ meant many put =
+    let third = other-lists (other-lists put) in
+    let sizes = taken (λ e. length (e .held .bytes)) listed ns n (first-list (other-lists third)) many in
+    record {
+      indices = taken (λ e. e .first) listed fs n (first-list put) many ∙ map-bare (λ e. e .first) listed ∙ ap (map (λ e. e .first)) (meant .same);
+      lengths = sizes ∙ map-bare (λ e. length (e .held)) listed ∙ ap (map (λ e. length (e .held))) (meant .same);
+      text = ap₂ (textAt p) (taken (λ e. e .held .at) listed os n (first-list third) many) sizes ∙ text-there (meant .lie) ∙ ap textOf (meant .same);
+    }
+
 module _ {Ids : ℕ → Kind → Type 0} {kindOf : ℕ → Kind} (ids : SameIds Ids kindOf) where
   -- the names of a payload are fine, and their subsection is not too large
   names-fine : (p : List ℕ) (m : Table (Content (List ℕ))) (t : Table (List ℕ)) → NamePayload Ids p m → Has 1 (names t) m → functionNames (indicesOf t) (lengthsOf t) (namesOf t) ≡ accepted (writeSubsections (subsection t))
@@ -333,20 +350,11 @@ module _ {Ids : ℕ → Kind → Type 0} {kindOf : ℕ → Kind} (ids : SameIds 
   alone q t g = let (v, e, is) = names-complete ids 0 q (row 1 (names t) nil) g in rw (e, is)
 
   pub listed-back : (p q fs ss os ns fs′ ss′ os′ ns′ old new new′ : List ℕ) (m : Table (Content (List ℕ))) (t : Table (List ℕ)) (a b c : WmAnswer) → NamePayload Ids p m → Has 1 (names t) m → NamePayload Ids q (row 1 (names t) nil) → WmLists placeColumns (nameRows kindOf 1 p) (fs ∷ ss ∷ os ∷ ns ∷ []) (fs′ ∷ ss′ ∷ os′ ∷ ns′ ∷ []) a → a .kind ≡ 1 → WmWrites (functionNames (take (a .length) fs′) (take (a .length) ns′) (textAt p (take (a .length) os′) (take (a .length) ns′))) old new b → WmWrites (canonicalNames kindOf q) old new′ c → (b ≡ c) × (new ≡ new′)
-  unfolding overEach
   listed-back p q fs ss os ns fs′ ss′ os′ ns′ old new new′ m t a b c g h alone-there w k write canonical =
       let (listed, found, meant) = names-meant ids p m 1 g h refl in
       let (says, put) = all-listed found k (came placeColumns (nameRows kindOf 1 p) (fs ∷ ss ∷ os ∷ ns ∷ []) (fs′ ∷ ss′ ∷ os′ ∷ ns′ ∷ []) a w) in
-      let many : a .length ≡ length listed = ap (λ (a : WmAnswer). a .length) says in
-      let second = other-lists put in
-      let third = other-lists second in
-      let fourth = other-lists third in
-      let indices : take (a .length) fs′ ≡ indicesOf t = taken (λ e. e .first) listed fs (a .length) (first-list put) many ∙ map-bare (λ e. e .first) listed ∙ ap (map (λ e. e .first)) (meant .same) in
-      let offsets = taken (λ e. e .held .at) listed os (a .length) (first-list third) many in
-      let sizes = taken (λ e. length (e .held .bytes)) listed ns (a .length) (first-list fourth) many in
-      let lengths : take (a .length) ns′ ≡ lengthsOf t = sizes ∙ map-bare (λ e. length (e .held)) listed ∙ ap (map (λ e. length (e .held))) (meant .same) in
-      let text : textAt p (take (a .length) os′) (take (a .length) ns′) ≡ namesOf t = ap₂ (textAt p) offsets sizes ∙ text-there (meant .lie) ∙ ap textOf (meant .same) in
-      let wanted : functionNames (take (a .length) fs′) (take (a .length) ns′) (textAt p (take (a .length) os′) (take (a .length) ns′)) ≡ canonicalNames kindOf q = rw (text, indices, lengths) (names-fine p m t g h) ∙ sym (alone q t alone-there) in
+      let r = read-back (a .length) fs ss os ns fs′ ss′ os′ ns′ meant (ap (λ (a : WmAnswer). a .length) says) put in
+      let wanted : functionNames (take (a .length) fs′) (take (a .length) ns′) (textAt p (take (a .length) os′) (take (a .length) ns′)) ≡ canonicalNames kindOf q = rw (r .text, r .indices, r .lengths) (names-fine p m t g h) ∙ sym (alone q t alone-there) in
       let written : WmWrites (canonicalNames kindOf q) old new b = rw wanted at write in
       (written .says ∙ sym (canonical .says), written .leaves ∙ sym (canonical .leaves))
 
