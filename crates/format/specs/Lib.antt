@@ -31,6 +31,7 @@ pub mod Examples
 pub mod Cases
 pub mod MarkerCases
 pub mod PairCases
+pub mod EntryCases
 pub mod Laws
 pub mod Theorems
 pub mod PairTheorems

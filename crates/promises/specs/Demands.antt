@@ -43,9 +43,12 @@ use Rattle.grammar.specs.Metadata.{CodeMetadata, Unknown, BranchHint}
 use Rattle.grammar.specs.Older.{OlderHints}
 use Rattle.grammar.specs.Modules.{Module}
 -- WHAT IT MEANS. Metadata means a table of functions, each with a table of data by offset. A name payload means a table of subsections by id, each with what it holds: `single x` one name, `names t` a table of names by index, `namesBy t` a table of tables, `whole x` contents that are kept. `Has k v t`: the table t has a row with the number k and the value v, as its first, `Has k v (row k v t)`, or further on, `Has k v (row i w t)` from `Has k v t`.
-use Rattle.format.specs.Tables.{Table, nil}
+use Rattle.format.specs.Tables.{Table, nil, row, lookup}
 use Rattle.format.specs.Names.{Kind, Content, single, names, namesBy, whole}
 use Rattle.format.specs.Holding.{Has}
+-- Their rows, in order: `Listed X` is a record of two numbers, `first` and `second`, and what is `held`; `contentRows` and `groupRows` are explained where every entry is listed. `thenSome x f` is f of what x is, and `none` without it; `lookup k t` is the value of t's first row with the number k.
+use Rattle.format.specs.Entries.{Listed, contentRows}
+use Rattle.format.specs.Options.{thenSome}
 -- A module means a list of records: `id`, `contents`, and `custom`, which is `some` of a record of `name` and `payload` or `none`. `Among t ss`: t is one of ss. `Called x s`: s is custom and its name is x.
 use Rattle.grammar.specs.Modules.{Section, Among, Called}
 -- Hints of the older edition mean a list of entries in file order, each a record of its `function` and its `hints`; a hint is a record of its `kind`, `Unlikely` for the number 0 and `Likely` for 1, and its `offset`.
@@ -96,8 +99,8 @@ use Rattle.format.specs.declared.Question.{Question}
 use Rattle.format.specs.declared.Question.the-variants.{ModuleName, FunctionName, LocalName, LabelName, TypeName, TableName, MemoryName, GlobalName, ElementName, DataName, FieldName, TagName, KeptContents}
 -- Of metadata and hints: `ItemQuestion` is a function and an offset, each a record of one number; `ItemInRange q` says that both are below 4,294,967,296. `OlderInRange q` says it of a question for a hint of the older edition.
 use Rattle.format.specs.Theorems.{ItemQuestion, ItemInRange, OlderInRange}
--- THE CALLS, each by its promise: `wm-walk bytes a` says that the answer a is one that the promise of wm_walk allows for these bytes. It is the promise itself, the one name that stands in the `ensures` of the call in crates/wakemiono/src. What the promises come to is said below, so that nothing has to be known of how they are put. `wm-name q` is the promise of the call that asks q: wm_module_name asks `ModuleName`, wm_function_name `FunctionName` of its function, wm_type_name `TypeName` of its index, wm_tag_name `TagName` of its tag, wm_local_name `LocalName` of its function and its local, wm_field_name `FieldName` of its index and its field, wm_kept `KeptContents` of its id; `wm-name-in q` is that of the same call with `_in`, which is lent a module. `wm-wide-name q` and `wm-wide-name-in q` are those of the wider edition, wm_wide_module_name and so on, which has six more: wm_wide_label_name asks `LabelName` of its function and its label, wm_wide_table_name `TableName`, wm_wide_memory_name `MemoryName`, wm_wide_global_name `GlobalName`, wm_wide_element_name `ElementName` and wm_wide_data_name `DataName`. The calls that write are promised of the output before and after, too: `old` and `new`. `wm-markers p is os is′ os′ a` is promised of both lists before the call, `is` and `os`, and after it; `wm-old-hints-list p lists lists′ a` of its three lists before the call and after it; `wm-quick-function-name p is os end function a` of a payload, two lists, an end and the function asked. `wm-pair q separate own a` is the promise of the call that asks q over two payloads, wm_pair_module_name and so on, and `wm-wide-pair` that of the wider edition; `wm-pair-join separate own old new a` is the join's. `wm-stream-part s p t a` is promised of the state before the call, s, a part, the state after the call, t, and the answer; `wm-stream-finish s t a` of both states and the answer; `wm-stream-begin b` of the state that comes back. `wm-table-start n t` is promised of the length of a store and the table that comes back; `wm-table-open t s customer payload work u r work′ a` of the table, the store and the work buffer before the call and after it, u, r and work′; `wm-table-function-name t s customer hold function out out′ a` of the output before and after, as nothing else is written to, and `wm-table-close t s customer hold u a` of the table.
-use Rattle.wakemiono.specs.Calls.{wm-walk, wm-section, wm-custom, wm-names-judge, wm-name, wm-metadata-judge, wm-metadata, wm-hints-judge, wm-hint, wm-name-in, wm-metadata-in, wm-hint-in, wm-names-canonical, wm-metadata-canonical, wm-hints-canonical, wm-function-names-write, wm-names-is-canonical, wm-metadata-is-canonical, wm-hints-is-canonical, wm-wide-names-judge, wm-wide-name, wm-wide-name-in, wm-wide-names-canonical, wm-wide-names-is-canonical, wm-old-hints-judge, wm-old-hint, wm-old-hint-in, wm-old-hints-canonical, wm-old-hints-is-canonical, wm-old-hints-list, wm-why-function, wm-why-local, wm-markers, wm-quick-function-name, wm-pair, wm-wide-pair, wm-pair-join, wm-wide-pair-join, wm-stream-begin, wm-stream-part, wm-stream-finish, wm-hints-on-branches, wm-table-start, wm-table-open, wm-table-function-name, wm-table-close, wm-table-compact}
+-- THE CALLS, each by its promise: `wm-walk bytes a` says that the answer a is one that the promise of wm_walk allows for these bytes. It is the promise itself, the one name that stands in the `ensures` of the call in crates/wakemiono/src. What the promises come to is said below, so that nothing has to be known of how they are put. `wm-name q` is the promise of the call that asks q: wm_module_name asks `ModuleName`, wm_function_name `FunctionName` of its function, wm_type_name `TypeName` of its index, wm_tag_name `TagName` of its tag, wm_local_name `LocalName` of its function and its local, wm_field_name `FieldName` of its index and its field, wm_kept `KeptContents` of its id; `wm-name-in q` is that of the same call with `_in`, which is lent a module. `wm-wide-name q` and `wm-wide-name-in q` are those of the wider edition, wm_wide_module_name and so on, which has six more: wm_wide_label_name asks `LabelName` of its function and its label, wm_wide_table_name `TableName`, wm_wide_memory_name `MemoryName`, wm_wide_global_name `GlobalName`, wm_wide_element_name `ElementName` and wm_wide_data_name `DataName`. The calls that write are promised of the output before and after, too: `old` and `new`. `wm-markers p is os is′ os′ a` is promised of both lists before the call, `is` and `os`, and after it; `wm-old-hints-list p lists lists′ a` of its three lists before the call and after it; `wm-quick-function-name p is os end function a` of a payload, two lists, an end and the function asked. `wm-pair q separate own a` is the promise of the call that asks q over two payloads, wm_pair_module_name and so on, and `wm-wide-pair` that of the wider edition; `wm-pair-join separate own old new a` is the join's. `wm-stream-part s p t a` is promised of the state before the call, s, a part, the state after the call, t, and the answer; `wm-stream-finish s t a` of both states and the answer; `wm-stream-begin b` of the state that comes back. `wm-table-start n t` is promised of the length of a store and the table that comes back; `wm-table-open t s customer payload work u r work′ a` of the table, the store and the work buffer before the call and after it, u, r and work′; `wm-table-function-name t s customer hold function out out′ a` of the output before and after, as nothing else is written to, and `wm-table-close t s customer hold u a` of the table. `wm-names-list p id lists lists′ a`, `wm-wide-names-list`, `wm-metadata-list p lists lists′ a` and `wm-hints-list` are promised of all lists before the call and after it, in the order of the call.
+use Rattle.wakemiono.specs.Calls.{wm-walk, wm-section, wm-custom, wm-names-judge, wm-name, wm-metadata-judge, wm-metadata, wm-hints-judge, wm-hint, wm-name-in, wm-metadata-in, wm-hint-in, wm-names-canonical, wm-metadata-canonical, wm-hints-canonical, wm-function-names-write, wm-names-is-canonical, wm-metadata-is-canonical, wm-hints-is-canonical, wm-wide-names-judge, wm-wide-name, wm-wide-name-in, wm-wide-names-canonical, wm-wide-names-is-canonical, wm-old-hints-judge, wm-old-hint, wm-old-hint-in, wm-old-hints-canonical, wm-old-hints-is-canonical, wm-old-hints-list, wm-why-function, wm-why-local, wm-markers, wm-quick-function-name, wm-pair, wm-wide-pair, wm-pair-join, wm-wide-pair-join, wm-stream-begin, wm-stream-part, wm-stream-finish, wm-hints-on-branches, wm-table-start, wm-table-open, wm-table-function-name, wm-table-close, wm-table-compact, wm-names-list, wm-wide-names-list, wm-metadata-list, wm-hints-list}
 -- HINTS ON BRANCHES, by crates/branches/specs: `hintsOnBranches m` is the check of a module; `importedFunctions` counts the functions that are imported, and `functionBodies` are the bodies. `Placed` has a `number`, where it stands, `at`, and its `value`: of hints, by function and then by offset. The rule without a step stands in Rule.antt, over the grammar of core specification 1.0 in Grammar.antt: `HasHints m`: walk and hint payload of m are accepted; `Hinted m first parts fs`: so are its import list and its list of bodies, `first` functions are imported, `parts` are the bodies and fs the hints. `AllSit first parts fs`: every hint of fs has a body of which a br_if or an if begins at its offset. `ModuleRefused m n at`: the walk, the payload, the import list, the list of bodies or the first hint that does not sit is refused with n at that offset.
 use Rattle.branches.specs.Branches.{importedFunctions, functionBodies, hintsOnBranches}
 use Rattle.branches.specs.Hints.{Placed, Hints}
@@ -1042,3 +1045,71 @@ pub record K13 : Type 0 where
   pub elsewhere : (t u : SharedTable) (s r : List ℕ) → NotTheStore t s → (a : WmAnswer) → wm-table-compact t s u r a → (a ≡ wmRefused 30 0) × (tableOf u ≡ tableOf t) × (r ≡ s)
   pub damaged : (t u : SharedTable) (s r : List ℕ) → (NotTheStore t s → ⊥) → Damage (tableOf t) s → (a : WmAnswer) → wm-table-compact t s u r a → (a ≡ wmRefused 27 0) × (tableOf u ≡ tableOf t) × (r ≡ s)
   pub granted : (t u : SharedTable) (s r : List ℕ) → (NotTheStore t s → ⊥) → (Damage (tableOf t) s → ⊥) → (a : WmAnswer) → wm-table-compact t s u r a → a ≡ wmFound 0 0 0
+
+-- EVERY ENTRY IN ONE PASS. "All rows of one subsection or payload into lent lists; 13 at the number of rows, lists unchanged by a refusal. Proved: exactly the rows of the meaning, in order; for function names, writing them from the lists gives the canonical payload back." Proved as `every-entry` in Proved.antt.
+
+-- `contentRows c` are the rows of contents c, in order, each with its `first` and `second` number and what is `held`: of `single x` one with 0 and 0, of `names t` one for each row of t, its number first and 0 second, of `namesBy t` those of `groupRows t`, one for each row of each group, the group's number first; of contents that are kept there are none.
+
+-- so many rows need room: none, where nothing is listed
+abbrev pub rowCount : {X : Type 0} → Option (List (Listed X)) → ℕ
+rowCount none = 0
+rowCount (some es) = length es
+
+-- Where no rows are found, no list changes; of each list, what stands behind the rows does not
+abbrev pub Unchanged : (lists lists′ : List (List ℕ)) → WmAnswer → Type 0
+Unchanged lists lists′ a = a .kind ≢ 1 → lists′ ≡ lists
+
+-- The row at a position of four lists: its two numbers, and a place in the payload where what it holds lies
+pub record PlaceAt (p firsts seconds offsets lengths : List ℕ) (i : ℕ) (e : Listed (List ℕ)) : Type 0 where
+  pub offset : ℕ
+  pub long : ℕ
+  pub first-is : getElem? firsts i ≡ some (e .first)
+  pub second-is : getElem? seconds i ≡ some (e .second)
+  pub offset-is : getElem? offsets i ≡ some offset
+  pub length-is : getElem? lengths i ≡ some long
+  pub inside : offset + long ≤ length p
+  pub there : take long (drop offset p) ≡ e .held
+
+-- and of three: the data of a hint is the one byte that the third list has, 0 or 1
+pub record HintAt (functions offsets likely : List ℕ) (i : ℕ) (e : Listed (List ℕ)) : Type 0 where
+  pub byte : ℕ
+  pub function-is : getElem? functions i ≡ some (e .first)
+  pub offset-is : getElem? offsets i ≡ some (e .second)
+  pub byte-is : getElem? likely i ≡ some byte
+  pub data-is : e .held ≡ byte ∷ []
+
+-- the bytes at such places, joined
+abbrev pub textAt : (p offsets lengths : List ℕ) → List ℕ
+textAt p [] ns = []
+textAt p (o ∷ os) [] = []
+textAt p (o ∷ os) (n ∷ ns) = take n (drop o p) ++ textAt p os ns
+
+-- One subsection of a name payload over a table of ids, by the promises of the call that lists and of the one that rewrites
+pub record NamesListed (Ids : ℕ → Kind → Type 0) (kindOf : ℕ → Kind) (listing : (p : List ℕ) (id : ℕ) (lists lists′ : List (List ℕ)) → WmAnswer → Type 0) (rewriting : (p old new : List ℕ) → WmAnswer → Type 0) : Type 0 where
+  pub answers : (p : List ℕ) (id : ℕ) (lists lists′ : List (List ℕ)) (a : WmAnswer) → Bytes p → listing p id lists lists′ a → Answers Reply (RowsRefused (NamePayloadFault Ids p) (judgeNames kindOf 0 p) (λ t. rowCount (thenSome (lookup id t) contentRows)) lists) a
+  pub unchanged : (p : List ℕ) (id : ℕ) (lists lists′ : List (List ℕ)) (a : WmAnswer) → listing p id lists lists′ a → Unchanged lists lists′ a
+  pub left : (p : List ℕ) (id : ℕ) (fs ss os ns fs′ ss′ os′ ns′ : List ℕ) (a : WmAnswer) → listing p id (fs ∷ ss ∷ os ∷ ns ∷ []) (fs′ ∷ ss′ ∷ os′ ∷ ns′ ∷ []) a → Leaves fs fs′ a × Leaves ss ss′ a × Leaves os os′ a × Leaves ns ns′ a
+  -- none exactly where the meaning has no such subsection, or it is kept
+  pub none : (p : List ℕ) (id : ℕ) (lists lists′ : List (List ℕ)) (m : Table (Content (List ℕ))) (a : WmAnswer) → NamePayload Ids p m → listing p id lists lists′ a → (a ≡ wmNone) ↔ ((c : Content (List ℕ)) → Has id c m → contentRows c ≡ none)
+  -- else exactly the rows of the meaning, in order, and where each name lies
+  pub rows : (p : List ℕ) (id : ℕ) (fs ss os ns fs′ ss′ os′ ns′ : List ℕ) (m : Table (Content (List ℕ))) (c : Content (List ℕ)) (es : List (Listed (List ℕ))) (a : WmAnswer) → NamePayload Ids p m → Has id c m → contentRows c ≡ some es → listing p id (fs ∷ ss ∷ os ∷ ns ∷ []) (fs′ ∷ ss′ ∷ os′ ∷ ns′ ∷ []) a → a .kind ≡ 1 → (a ≡ wmFound 0 0 (length es)) × ((i : ℕ) (e : Listed (List ℕ)) → getElem? es i ≡ some e → PlaceAt p fs′ ss′ os′ ns′ i e)
+  -- function names from the lists: as every payload q is rewritten that holds these names and nothing else, with the same answer and into the same output
+  pub back : (p q : List ℕ) (fs ss os ns fs′ ss′ os′ ns′ old new new′ : List ℕ) (m : Table (Content (List ℕ))) (t : Table (List ℕ)) (a b c : WmAnswer) → NamePayload Ids p m → Has 1 (names t) m → NamePayload Ids q (row 1 (names t) nil) → listing p 1 (fs ∷ ss ∷ os ∷ ns ∷ []) (fs′ ∷ ss′ ∷ os′ ∷ ns′ ∷ []) a → a .kind ≡ 1 → wm-function-names-write (take (a .length) fs′) (take (a .length) ns′) (textAt p (take (a .length) os′) (take (a .length) ns′)) old new b → rewriting q old new′ c → (b ≡ c) × (new ≡ new′)
+
+pub record MetadataListed : Type 0 where
+  pub answers : (p : List ℕ) (lists lists′ : List (List ℕ)) (a : WmAnswer) → Bytes p → wm-metadata-list p lists lists′ a → Answers RowsReply (RowsRefused (MetadataFault Unknown AnyItemFault p) (judgeMetadata anyItem 0 p) (λ t. length (groupRows t)) lists) a
+  pub unchanged : (p : List ℕ) (lists lists′ : List (List ℕ)) (a : WmAnswer) → wm-metadata-list p lists lists′ a → Unchanged lists lists′ a
+  pub left : (p fs ss os ns fs′ ss′ os′ ns′ : List ℕ) (a : WmAnswer) → wm-metadata-list p (fs ∷ ss ∷ os ∷ ns ∷ []) (fs′ ∷ ss′ ∷ os′ ∷ ns′ ∷ []) a → Leaves fs fs′ a × Leaves ss ss′ a × Leaves os os′ a × Leaves ns ns′ a
+  pub rows : (p fs ss os ns fs′ ss′ os′ ns′ : List ℕ) (m : Table (Table (List ℕ))) (a : WmAnswer) → CodeMetadata Unknown p m → wm-metadata-list p (fs ∷ ss ∷ os ∷ ns ∷ []) (fs′ ∷ ss′ ∷ os′ ∷ ns′ ∷ []) a → a .kind ≡ 1 → (a ≡ wmFound 0 0 (length (groupRows m))) × ((i : ℕ) (e : Listed (List ℕ)) → getElem? (groupRows m) i ≡ some e → PlaceAt p fs′ ss′ os′ ns′ i e)
+
+pub record HintsListed : Type 0 where
+  pub answers : (p : List ℕ) (lists lists′ : List (List ℕ)) (a : WmAnswer) → Bytes p → wm-hints-list p lists lists′ a → Answers RowsReply (RowsRefused (MetadataFault BranchHint HintFault p) (judgeMetadata hintItem 0 p) (λ t. length (groupRows t)) lists) a
+  pub unchanged : (p : List ℕ) (lists lists′ : List (List ℕ)) (a : WmAnswer) → wm-hints-list p lists lists′ a → Unchanged lists lists′ a
+  pub left : (p fs os ls fs′ os′ ls′ : List ℕ) (a : WmAnswer) → wm-hints-list p (fs ∷ os ∷ ls ∷ []) (fs′ ∷ os′ ∷ ls′ ∷ []) a → Leaves fs fs′ a × Leaves os os′ a × Leaves ls ls′ a
+  pub rows : (p fs os ls fs′ os′ ls′ : List ℕ) (m : Table (Table (List ℕ))) (a : WmAnswer) → CodeMetadata BranchHint p m → wm-hints-list p (fs ∷ os ∷ ls ∷ []) (fs′ ∷ os′ ∷ ls′ ∷ []) a → a .kind ≡ 1 → (a ≡ wmFound 0 0 (length (groupRows m))) × ((i : ℕ) (e : Listed (List ℕ)) → getElem? (groupRows m) i ≡ some e → HintAt fs′ os′ ls′ i e)
+
+pub record EveryEntry : Type 0 where
+  pub names : NamesListed SourceIds knownKind wm-names-list wm-names-canonical
+  pub wide-names : NamesListed WiderIds widerKind wm-wide-names-list wm-wide-names-canonical
+  pub metadata : MetadataListed
+  pub hints : HintsListed

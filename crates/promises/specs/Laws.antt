@@ -21,6 +21,9 @@ pub mod Why
 pub mod FunctionNames
 pub mod Markers
 pub mod OldLists
+pub mod EntryRows
+pub mod WrittenBack
+pub mod Entries
 pub mod Pairs
 pub mod Joins
 pub mod Arriving

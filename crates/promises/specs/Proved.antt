@@ -64,6 +64,7 @@ use Rattle.promises.specs.Laws.Lookups.{tells-as, asked-tells, asked-ref
 use Rattle.promises.specs.Laws.Outputs.{wrote-leaves, wrote-short, wrote-again}
 use Rattle.promises.specs.Laws.Editions.{none-kept, within-one-edition, accepted-by-both, answered-alike}
 use Rattle.promises.specs.Laws.Exactly.{RefusedBy, JudgedThrough, walkRefused, payloadRefused, JudgedOrShort, name-in-exactly, metadata-in-exactly, hint-in-exactly, older-in-exactly, written-exactly, rewritten-exactly}
+use Rattle.promises.specs.Laws.Entries.{lists-names, lists-metadata, lists-hints}
 use Rattle.promises.specs.Laws.ListsRefused.{lists-refused}
 use Rattle.promises.specs.Laws.Faults.{answers-otherwise, writes-otherwise, faults, or-short, older-or-short, through-faults, format-faults}
 use Rattle.promises.specs.Laws.OldLists.{rows-refused, rows-answered, rows-numbered, functions-listed, offsets-listed, likely-listed, row-told, every-row, no-row, rows-risen}
@@ -84,7 +85,7 @@ use Rattle.promises.specs.Laws.Pairs.{asks-pairs, hands-back}
 use Rattle.promises.specs.Laws.Joins.{joins-pairs}
 use Rattle.promises.specs.Laws.Walking.{walked, walk-counts, section-found, section-first, section-none, section-refused, custom-tells, custom-refused}
 use Rattle.wakemiono.specs.Calls.{wm-walk, wm-metadata-judge, wm-hints-judge, wm-metadata-canonical, wm-hints-canonical, wm-function-names-write, wm-old-hints-judge, wm-old-hints-canonical, wm-hints-on-branches}
-use Rattle.promises.specs.Demands.{Verdict, Reply, SectionReply, HintReply, Answers, RefusedThrough, RefusedOrShort, ListsRefused, NeedsRoom, Writing, Demand1, HoldsName, HoldsData, JudgesExactly, AnswersNames, AnswersMetadata, AnswersHints, Walks, Demand2, SameAnswer, Rewritten, Rewrites, Demand3, yes, no, replyNone, replyFound, replyRefused, sectionNone, sectionFound, sectionRefused, hintNone, hintUnlikely, hintLikely, hintRefused, byAFault, tooShort, Faulty, listsFault, outputTooShort, TellsCanonical, K10, K9, OlderRefused, AnswersOlder, K2, OldHintsListed, olderFault, olderTooLong, olderTooShort, K11, K7, K8, K3, Leaves, K5, K6, K12, K13}
+use Rattle.promises.specs.Demands.{Verdict, Reply, SectionReply, HintReply, Answers, RefusedThrough, RefusedOrShort, ListsRefused, NeedsRoom, Writing, Demand1, HoldsName, HoldsData, JudgesExactly, AnswersNames, AnswersMetadata, AnswersHints, Walks, Demand2, SameAnswer, Rewritten, Rewrites, Demand3, yes, no, replyNone, replyFound, replyRefused, sectionNone, sectionFound, sectionRefused, hintNone, hintUnlikely, hintLikely, hintRefused, byAFault, tooShort, Faulty, listsFault, outputTooShort, TellsCanonical, K10, K9, OlderRefused, AnswersOlder, K2, OldHintsListed, olderFault, olderTooLong, olderTooShort, K11, K7, K8, K3, Leaves, K5, K6, K12, K13, EveryEntry}
 use Rattle.branches.specs.Branches.{hintsOnBranches}
 use Rattle.branches.specs.Theorems.{module-exactly, module-refused-exactly, without-hints}
 use Rattle.promises.specs.Answers.{saysVerdict, verdict-said}
@@ -568,3 +569,6 @@ k13 = record {
   damaged = compact-damaged;
   granted = compact-granted;
 }
+
+pub every-entry : EveryEntry
+every-entry = record { names = lists-names source-ids; wide-names = lists-names wider-ids; metadata = lists-metadata; hints = lists-hints }

@@ -25,7 +25,7 @@ use Rattle.format.specs.declared.FunctionIndex.{FunctionIndex}
 use Rattle.format.specs.declared.CodeOffset.{CodeOffset}
 
 -- Names
-data ContentIn (all : List ℕ) : Content Part → Type 0 where
+pub data ContentIn (all : List ℕ) : Content Part → Type 0 where
   singleIn : {p : Part} → PartIn all p → ContentIn all (single p)
   namesIn : {t : Table Part} → Rows (PartIn all) t → ContentIn all (names t)
   namesByIn : {t : Table (Table Part)} → Rows (Rows (PartIn all)) t → ContentIn all (namesBy t)
@@ -49,6 +49,11 @@ subsections-in kindOf (suc most) least all o (id ∷ bs) l e =
     (contents-in (kindOf id) all (p .at) (p .bytes) (sized-located .value all (suc o) bs l₁ e₁) e₂)
     (subsections-in kindOf most (suc id) all o₁ r₁ (sized-located .after all (suc o) bs p o₁ r₁ l₁ e₁) e₃))
 
+-- what an accepted payload holds under an id lies in it
+pub content-lies : (kindOf : ℕ → Kind) (id : ℕ) (all : List ℕ) (o : ℕ) (bs : List ℕ) {t : Table (Content Part)} {c : Content Part} → Lies all o bs → judgeNames kindOf o bs ≡ accepted t → lookup id t ≡ some c → ContentIn all c
+unfolding judgeNames payload
+content-lies kindOf id all o bs l e f = judged (payload kindOf o bs) e λ o′ rest e₁. rows-found id (subsections-in kindOf (length bs) 0 all o bs l e₁) f
+
 answer-in : {all : List ℕ} {c : Content Part} (q : Query) → ContentIn all c → {p : Part} → answerIn q c ≡ some p → PartIn all p
 answer-in ItsName (singleIn h) e = rw (← some-is e) h
 answer-in ItsName (namesIn h) e = absurd (not-some e)
@@ -68,18 +73,21 @@ answer-in (NameWithin k j) (namesByIn {t = t} h) e = inThen (lookup k t) _ e λ 
 answer-in (NameWithin k j) (wholeIn h) e = absurd (not-some e)
 
 pub name-lies : (kindOf : ℕ → Kind) (id : ℕ) (q : Query) (all : List ℕ) (o : ℕ) (bs : List ℕ) {p : Part} → Lies all o bs → asked kindOf id q o bs ≡ accepted (some p) → PartIn all p
-unfolding asked judgeNames payload answer
+unfolding asked answer
 name-lies kindOf id q all o bs l e =
-    mapped (answer id q) (judgeNames kindOf o bs) e λ t e₁ e₂. judged (payload kindOf o bs) e₁ λ o′ rest e₃.
-    inThen (lookup id t) _ e₂ λ c e₄ e₅. answer-in q (rows-found id (subsections-in kindOf (length bs) 0 all o bs l e₃) e₄) e₅
+    mapped (answer id q) (judgeNames kindOf o bs) e λ t e₁ e₂.
+    inThen (lookup id t) _ e₂ λ c e₃ e₄. answer-in q (content-lies kindOf id all o bs l e₁ e₃) e₄
 
 -- Metadata
+pub items-lie : {item : Reader Part} → Located item PartIn → (all : List ℕ) (o : ℕ) (bs : List ℕ) {t : Table (Table Part)} → Lies all o bs → judgeMetadata item o bs ≡ accepted t → Rows (Rows (PartIn all)) t
+unfolding judgeMetadata metadata
+items-lie {item} located all o bs l e = judged (metadata item o bs) e λ o′ rest e₁. filling-in (table-located (table-located located)) all o bs l e₁
+
 pub item-lies : {item : Reader Part} → Located item PartIn → (f : FunctionIndex) (at : CodeOffset) (all : List ℕ) (o : ℕ) (bs : List ℕ) {p : Part} → Lies all o bs → askMetadata item f at o bs ≡ accepted (some p) → PartIn all p
-unfolding askMetadata judgeMetadata metadata itemAt
+unfolding askMetadata itemAt
 item-lies {item} located f at all o bs l e =
-    mapped (itemAt f at) (judgeMetadata item o bs) e λ t e₁ e₂. judged (metadata item o bs) e₁ λ o′ rest e₃.
-    let r = filling-in (table-located (table-located located)) all o bs l e₃ in
-    inThen (lookup (f .0) t) _ e₂ λ u e₄ e₅. rows-found (at .0) (rows-found (f .0) r e₄) e₅
+    mapped (itemAt f at) (judgeMetadata item o bs) e λ t e₁ e₂.
+    inThen (lookup (f .0) t) _ e₂ λ u e₃ e₄. rows-found (at .0) (rows-found (f .0) (items-lie located all o bs l e₁) e₃) e₄
 
 -- Sections of a module, and their payloads
 pub record SectionIn (all : List ℕ) (s : Section) : Type 0 where

@@ -40,7 +40,7 @@ at-there [] i h = absurd (omega arith)
 at-there (x ∷ xs) zero h = (x, refl)
 at-there (x ∷ xs) (suc i) h = at-there xs i (omega arith)
 
-at-inside : {A : Type 0} (xs : List A) (i : ℕ) {x : A} → getElem? xs i ≡ some x → i < length xs
+pub at-inside : {A : Type 0} (xs : List A) (i : ℕ) {x : A} → getElem? xs i ≡ some x → i < length xs
 at-inside [] i e = absurd (not-some e)
 at-inside (x ∷ xs) zero e = omega arith
 at-inside (x ∷ xs) (suc i) e = let h = at-inside xs i e in omega (arith, h)
@@ -62,7 +62,7 @@ on-the-right : {A : Type 0} (a b : List A) (i : ℕ) {x : A} → getElem? b i �
 on-the-right [] b i e = (i, e)
 on-the-right (y ∷ a) b i e = let (j, q) = on-the-right a b i e in (suc j, q)
 
-map-at : {A : Type 0} (f : A → ℕ) (xs : List A) (i : ℕ) {x : A} → getElem? xs i ≡ some x → getElem? (map f xs) i ≡ some (f x)
+pub map-at : {A : Type 0} (f : A → ℕ) (xs : List A) (i : ℕ) {x : A} → getElem? xs i ≡ some x → getElem? (map f xs) i ≡ some (f x)
 map-at f [] i e = absurd (not-some e)
 map-at f (y ∷ xs) zero e = ap (λ z. some (f z)) (some-is e)
 map-at f (y ∷ xs) (suc i) e = map-at f xs i e
