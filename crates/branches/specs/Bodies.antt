@@ -1,3 +1,4 @@
+-- Rules R15.7, R15.9 and R15.13 to R15.15 of docs/RULES.md.
 -- K6. The list of sized bodies, and what stands at an offset of one body: "step over its locals, then its instructions by the immediates of core specification 1.0 .. `else` and `end` are stepped over like others; only the body's end stops." Assumes nothing.
 use Prim.Native.Nat.{ℕ, zero, suc, _+_, _-_}
 use mathlib.Core.Bool.{Bool, cond, _||_}

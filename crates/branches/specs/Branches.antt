@@ -1,3 +1,4 @@
+-- Rules R15.1 to R15.3, R15.8 and R15.16 of docs/RULES.md.
 -- K6. Hints that sit on a branch: "a check over the whole module: count imported functions, find each hinted body, step over its locals, then its instructions .., and accept when every hint's offset begins one of those two." Assumes nothing.
 use Prim.Native.Nat.{ℕ}
 use mathlib.Core.Bool.{cond}

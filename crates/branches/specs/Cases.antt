@@ -1,4 +1,4 @@
--- K6. Cases of hints on branches (docs/DECISIONS.md). Computed by the checker. Assumes nothing.
+-- K6. Cases of hints on branches (docs/RULES.md). Computed by the checker. Assumes nothing.
 use Prim.Native.Nat.{ℕ}
 use Prim.Native.String.{String}
 use mathlib.Core.List.{List, [], _∷_, _++_, map}

@@ -1,3 +1,4 @@
+-- Rules R15.4 to R15.7 of docs/RULES.md.
 -- K6. The import list and the list of bodies (core specification 1.0, 5.5.5 Import Section and 5.5.13 Code Section), by their grammar, and their faults: "faults in the import list, then in the list of sized bodies, as 2, 3, 4 and 10, with 29 for an import kind above 3 or a limits flag above 1, at that byte (a missing byte is 2 at its place; other type bytes go unchecked)". Assumes nothing.
 use Prim.Native.Nat.{ℕ, zero, suc}
 use Rattle.grammar.specs.Numbers.{Grammar, U32}
@@ -21,7 +22,7 @@ BoundsFault (suc flag) = ThenFault U32 NumberFault (λ _. NumberFault)
 abbrev pub Limits : Grammar ℕ
 Limits = Then (ByteUpTo 1) Bounds
 
--- "29 for .. a limits flag above 1, at that byte"
+-- R18.29: "29 for .. a limits flag above 1, at that byte"
 abbrev pub LimitsFault : Faults
 LimitsFault = ThenFault (ByteUpTo 1) (UpToFault 1 29) BoundsFault
 
@@ -42,7 +43,7 @@ DescriptionFault (suc (suc (suc kind))) = ThenFault AnyByte ByteFault (λ _. Byt
 abbrev pub ImportKind : Grammar ℕ
 ImportKind = Then Name (λ _. Then Name (λ _. ByteUpTo 3))
 
--- "29 for an import kind above 3 .., at that byte"
+-- R18.29: "29 for an import kind above 3 .., at that byte"
 abbrev pub ImportKindFault : Faults
 ImportKindFault = ThenFault Name NameFault (λ _. ThenFault Name NameFault (λ _. UpToFault 3 29))
 

@@ -1,3 +1,4 @@
+-- Rules R15.9 to R15.11 of docs/RULES.md.
 -- K6. A function's body, as core specification 1.0 has it in its binary format (5.2.2 Integers, 5.3 Types, 5.4 Instructions, 5.5.13 Code Section), apart from the step over it: which bytes are its locals, which are its instructions, and where one of these begins. Assumes nothing.
 use Prim.Native.Nat.{ℕ, _+_, _-_, _^_, _≤_, _<_}
 use mathlib.Core.List.{List, [], _∷_, _++_}

@@ -1,3 +1,4 @@
+-- Rule R15.2 of docs/RULES.md.
 -- K6. The hints of an accepted payload in section order, each number with its place: refusal 19 points to the function index, 20 and 21 to the hint's offset number. Assumes nothing.
 use Prim.Native.Nat.{ℕ}
 use mathlib.Core.List.{List}

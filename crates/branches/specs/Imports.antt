@@ -1,3 +1,4 @@
+-- Rules R15.4 to R15.6 of docs/RULES.md.
 -- K6. The import list (core specification 1.0, 5.5.5 Import Section), read to count the functions that are imported. "Faults in the import list .. as 2, 3, 4 and 10, with 29 for an import kind above 3 or a limits flag above 1, at that byte (a missing byte is 2 at its place; other type bytes go unchecked)". Assumes nothing.
 use Prim.Native.Nat.{ℕ, zero, suc, _+_}
 use mathlib.Core.List.{[], _∷_}

@@ -1,3 +1,4 @@
+-- Rules R15.1, R15.2, R15.8 and R15.13 to R15.16 of docs/RULES.md.
 -- K6. The rule of hints on branches once more, by the grammar and without a step: what is true of a place in a body, which hint is refused, and how. Assumes nothing.
 use Prim.Native.Nat.{ℕ, _+_, _<_}
 use mathlib.Core.Bool.{true, false}

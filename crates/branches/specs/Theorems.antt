@@ -1,3 +1,4 @@
+-- Rules R15.1 and R15.2 of docs/RULES.md.
 -- K6 on definitions: "accept when every hint's offset begins one of those two", by the grammar of core specification 1.0, and else the refusal that comes first.
 use Prim.Native.Nat.{ℕ, _+_}
 use mathlib.Core.List.{List}

@@ -1,3 +1,4 @@
+-- Rule R1.1 of docs/RULES.md.
 -- Bytes are numbers below 256, and what is lent is a list of them. Assumes nothing.
 use Prim.Native.Nat.{ℕ, _<_}
 use Prim.Native.Char.{code}

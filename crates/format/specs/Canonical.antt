@@ -1,3 +1,4 @@
+-- Rules R8.1 to R8.4, R8.7 and R8.8 of docs/RULES.md.
 -- Canonical means: each number in its fewest bytes; no name map without entries; no group without entries; no subsection left empty by that; no function without items. Module name and kept subsections stay, even if empty. Kept contents are unchanged. Assumes nothing.
 use Prim.Native.Nat.{ℕ}
 use mathlib.Core.List.{List, [], _∷_, _++_}

@@ -1,4 +1,4 @@
--- Further cases: what the rules say beside the sixteen examples, and where two careful readers could differ (docs/DECISIONS.md). Computed by the checker, as the examples are. Assumes nothing.
+-- Further cases: what the rules say beside the sixteen examples, and where two careful readers could differ (docs/RULES.md). Computed by the checker, as the examples are. Assumes nothing.
 use Prim.Native.Nat.{ℕ}
 use Prim.Native.String.{String}
 use mathlib.Core.Bool.{Bool, true, false}
@@ -565,7 +565,7 @@ pub reasons-hold : map computed reasons ≡ map stated reasons
 unfolding reasons computed stated whyFunctionIs whyLocalIs farApart twoGroups P hex digit of number groups utf8 characters character sized name remaining lookup rows table known knownKind contents subsections payload judgeNames whyFrom whyIn whyFunction whyLocal
 reasons-hold = refl
 
--- The listing
+-- The listing; the first row is R17.6
 pub listings : List Example
 listings =
     -- the 36-byte module's listing; an empty payload; a refusal alone; 65,536 bytes are read and one more is refused

@@ -1,3 +1,4 @@
+-- Rule R21.4 of docs/RULES.md.
 -- A promise determines what comes back: two results that meet it are equal. What comes back of a call with an output is its answer and the output's bytes after it, and of one with lists all of them; of a call that hands back a part of what was lent, the part's bytes and where in memory they begin.
 use Prim.Native.Nat.{ℕ}
 use mathlib.Core.List.{List}

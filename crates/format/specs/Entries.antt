@@ -1,3 +1,4 @@
+-- Rules R12.1 to R12.8 of docs/RULES.md.
 -- Entries. "All rows, in order, at the front of the lent lists: found with offset 0, length = number of rows; none without such a subsection. Refused as judging does, then 13 with the number of rows as its offset where one of the lists is shorter. A list keeps what stands behind its rows; a refusal changes none. A refused payload is refused whatever id is asked, and metadata or hints without rows are found with length 0." Assumes nothing.
 use Prim.Native.Nat.{ℕ}
 use mathlib.Core.Bool.{Bool, true, cond, _&&_}

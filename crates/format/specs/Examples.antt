@@ -1,3 +1,4 @@
+-- Rules R20.1 to R20.16 of docs/RULES.md.
 -- The sixteen examples, one table under one statement that the checker computes. Assumes nothing.
 use Prim.Native.Nat.{ℕ, _+_, _*_, _-_}
 use Prim.Native.Char.{code}
@@ -24,7 +25,7 @@ use Rattle.format.specs.declared.Whose.{Whose}
 use Rattle.format.specs.declared.Hint.{Hint}
 use Rattle.format.specs.declared.Hint.the-variants.{Unlikely, Likely}
 
--- bytes as the document writes them: two digits each, in base 16, and a space between them
+-- bytes as the rules write them: two digits each, in base 16, and a space between them
 unfoldable pub digit : ℕ → ℕ
 digit c = cond (leb c 57) (c - 48) (c - 55)
 

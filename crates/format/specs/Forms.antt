@@ -1,3 +1,4 @@
+-- Rule R8.10 of docs/RULES.md.
 -- What is told step by step, while a payload is judged: a reading by its canonical form, which it is as long as, or not. Assumes nothing.
 use Prim.Native.Nat.{ℕ}
 use mathlib.Core.Bool.{Bool, true, false, cond}

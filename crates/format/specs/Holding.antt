@@ -1,3 +1,4 @@
+-- Rules R5.2 to R5.4 of docs/RULES.md.
 -- What a payload holds, said without any search: the answers are compared with it. Assumes nothing.
 use Prim.Native.Nat.{ℕ, suc, _+_, _≤_}
 use mathlib.Core.List.{List, [], _∷_}

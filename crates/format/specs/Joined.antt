@@ -1,3 +1,4 @@
+-- Rules R10.5 and R10.6 of docs/RULES.md.
 -- K3. "Add a writer of one canonical payload that answers every question, kept subsections too, as the pair does. Refusals: the separate payload's first, the answer saying whose; 15 for a joined subsection too large, then 13." Assumes nothing.
 use Prim.Native.Nat.{ℕ}
 use mathlib.Core.Bool.{Bool, true, cond, _&&_}

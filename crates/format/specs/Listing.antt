@@ -1,3 +1,4 @@
+-- Rules R17.2 to R17.5 of docs/RULES.md.
 -- The listing that a program prints of the module on its standard input. Every line ends in one line feed. Assumes nothing.
 use Prim.Native.Nat.{ℕ, zero, suc, _+_, _%_, _/_}
 use Prim.Native.String.{String}

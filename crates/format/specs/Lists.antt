@@ -1,3 +1,4 @@
+-- Rules R9.5 to R9.10 of docs/RULES.md.
 -- Function names written from three lent lists: indices, name lengths in bytes, and the text of all names joined. Refusals in this order: 14, all of 11, all of 4, 15; 13 comes after them, with the output. Assumes nothing.
 use Prim.Native.Nat.{ℕ, suc, _+_, _<_}
 use mathlib.Core.Bool.{Bool, true, false, cond, _&&_}

@@ -1,4 +1,4 @@
--- K8. Cases of markers and of the quick question (docs/DECISIONS.md). Computed by the checker, as the examples are. Assumes nothing.
+-- K8. Cases of markers and of the quick question (docs/RULES.md). Computed by the checker, as the examples are. Assumes nothing.
 use Prim.Native.Nat.{ℕ, zero, suc, _+_, _*_}
 use mathlib.Core.List.{List, [], _∷_, map}
 use mathlib.Core.Path.{_≡_, refl}

@@ -1,3 +1,4 @@
+-- Rules R13.4 to R13.11 of docs/RULES.md.
 -- K8. The rule of the quick question, said without any search: of any bytes, any lists and any end. "With the markers made from this payload the answer equals the full one; with others it still follows this rule." Assumes nothing.
 use Prim.Native.Nat.{ℕ, suc, _≤_, _<_}
 use mathlib.Core.List.{List}

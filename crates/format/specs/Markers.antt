@@ -1,3 +1,4 @@
+-- Rules R13.1 to R13.10 of docs/RULES.md.
 -- K8. A marker list beside large maps. "From an accepted payload we want two lists of numbers, the function index and the offset of every sixteenth function entry, the first included, with the offset where their subsection ends (0 if there is no such subsection). A quick question is given these and doesn't judge the payload." Assumes nothing.
 use Prim.Native.Nat.{ℕ, zero, suc, _+_}
 use mathlib.Core.Bool.{cond, _&&_}

@@ -1,3 +1,4 @@
+-- Rules R6.1 to R6.8 and R19.4 of docs/RULES.md.
 -- Code metadata: a list of (function index, list of (offset, size, data)). Function indices strictly increase; offsets within one function strictly increase. The list fills the payload. Assumes nothing.
 use Prim.Native.Nat.{ℕ, zero, suc}
 use mathlib.Core.List.{List, [], _∷_}

@@ -1,3 +1,4 @@
+-- Rules R4.1 to R4.8 and R19.2 of docs/RULES.md.
 -- The name payload: a sequence of subsections, each an id byte, a size number and contents. Ids strictly increase. Assumes nothing.
 use Prim.Native.Nat.{ℕ, zero, suc}
 use mathlib.Core.List.{List, [], _∷_}
@@ -15,7 +16,7 @@ use Rattle.format.specs.declared.Reason.the-variants.{SubsectionOrder}
 pub data Kind : Type 0 where
   oneName nameMap indirectMap kept : Kind
 
--- the table of ids; any other is kept
+-- R4.3, the first edition: the table of ids; any other is kept
 unfoldable pub known : Table Kind
 known =
     row 0 oneName
@@ -32,7 +33,7 @@ orKept (some k) = k
 unfoldable pub knownKind : ℕ → Kind
 knownKind id = orKept (lookup id known)
 
--- K9. "Ids 3 labels (indirect, by function), 5 tables, 6 memories, 7 globals, 8 element segments, 9 data segments (name maps). We want it as a second edition, the caller choosing, the first unchanged"
+-- R4.3, the wider edition. K9: "Ids 3 labels (indirect, by function), 5 tables, 6 memories, 7 globals, 8 element segments, 9 data segments (name maps). We want it as a second edition, the caller choosing, the first unchanged"
 unfoldable pub wider : Table Kind
 wider =
     row 0 oneName
@@ -63,7 +64,7 @@ pub data Content (X : Type 0) : Type 0 where
   namesBy : Table (Table X) → Content X
   whole : X → Content X
 
--- known contents fill the stated size exactly
+-- R4.4 to R4.8: known contents fill the stated size exactly
 unfoldable pub contents : Kind → Reader (Content Part)
 contents oneName = filling name >>= λ x. return (single x)
 contents nameMap = filling (table name) >>= λ t. return (names t)
@@ -72,7 +73,7 @@ contents kept = remaining >>= λ x. return (whole x)
 
 -- Everything from here on is said over any table of ids
 module _ (kindOf : ℕ → Kind) where
-  -- subsections up to the end, the first id at least `least`; refusal 9 gives the id byte. `most` bounds their number and is never met
+  -- R4.1 and R4.2: subsections up to the end, the first id at least `least`; refusal 9 gives the id byte. `most` bounds their number and is never met
   unfoldable pub subsections : (most least : ℕ) → Reader (Table (Content Part))
   subsections zero least o bs = got nil o bs
   subsections (suc most) least o [] = got nil o []

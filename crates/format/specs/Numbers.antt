@@ -1,3 +1,4 @@
+-- Rules R1.4 to R1.7 of docs/RULES.md.
 -- Unsigned 32-bit numbers are LEB128, low seven bits first, at most 5 bytes. Padding with zero groups is accepted. The fifth byte is at most 0x0F. Assumes nothing.
 use Prim.Native.Nat.{ℕ, zero, suc, _+_, _*_, _%_, _/_}
 use mathlib.Core.Bool.{cond}

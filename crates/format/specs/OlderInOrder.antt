@@ -1,3 +1,4 @@
+-- Rule R8.5 of docs/RULES.md.
 -- K2. Hints of the older edition that stand in order already, each entry's by offset and the entries by function, and the bytes that such entries are rewritten to. Assumes nothing.
 use Prim.Native.Nat.{ℕ, suc}
 use mathlib.Core.Bool.{Bool, true, false, cond}

@@ -1,3 +1,4 @@
+-- Rules R9.1 to R9.4 of docs/RULES.md.
 -- Writing into a lent output. After a write the output holds the payload first and its other bytes unchanged; the answer is the length. A refusal changes nothing. Assumes nothing.
 use Prim.Native.Nat.{ℕ}
 use mathlib.Core.Bool.{cond}

@@ -1,4 +1,4 @@
--- K3. Cases of questions to two payloads and of their join (docs/DECISIONS.md). Computed by the checker, as the examples are. Assumes nothing.
+-- K3. Cases of questions to two payloads and of their join (docs/RULES.md). Computed by the checker, as the examples are. Assumes nothing.
 use Prim.Native.Nat.{ℕ}
 use Prim.Native.String.{String}
 use mathlib.Core.List.{List, [], _∷_, map}

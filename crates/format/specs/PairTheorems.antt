@@ -1,3 +1,4 @@
+-- Rules R10.3 and R10.5 of docs/RULES.md.
 -- K3. What users demand of two name payloads that are lent together, as types, each under the sentence that it comes from; below each stands its proof, by the laws that it rests on. As in Theorems they are said of the definitions.
 use Prim.Native.Nat.{ℕ, _+_, _≤_, _<_}
 use mathlib.Core.List.{List, []}

@@ -1,3 +1,4 @@
+-- Rules R10.1 to R10.4 of docs/RULES.md.
 -- K3. Names that travel beside a stripped module. "We are sent a name payload apart. One question goes over the two lent payloads: the separate one answers unless it gives none, else the module's; a name found says which, and is handed back as a part of the payload that supplied it. .. Refusals: the separate payload's first, the answer saying whose". Assumes nothing.
 use Prim.Native.Nat.{ℕ, _+_}
 use mathlib.Core.List.{List, []}

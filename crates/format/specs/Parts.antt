@@ -1,3 +1,4 @@
+-- Rules R1.8, R1.9, R1.12 and R1.14 of docs/RULES.md.
 -- Sized parts and names. A name is a number (its length in bytes) and that many bytes of valid UTF-8. Assumes nothing.
 use Prim.Native.Nat.{ℕ, _+_}
 use mathlib.Core.List.{List, []}

@@ -1,3 +1,4 @@
+-- Rules R5.1 to R5.6, R5.8 and R5.10 of docs/RULES.md.
 -- Questions to a name payload. Each answer is none, or the part of what was lent that is asked for, or a refusal. Assumes nothing.
 use Prim.Native.Nat.{ℕ, _<_}
 use mathlib.Core.List.{List, []}
@@ -42,7 +43,7 @@ module _ {X : Type 0} where
   unfoldable pub answer : ℕ → Query → Table (Content X) → Option X
   answer id q t = thenSome (lookup id t) (answerIn q)
 
--- What may be asked over a table of ids: of an id what its kind holds, and of any id its contents as kept. An index has 32 bits, and an id is a byte
+-- R5.8: what may be asked over a table of ids: of an id what its kind holds, and of any id its contents as kept. An index has 32 bits, and an id is a byte
 pub data Allowed (kindOf : ℕ → Kind) : ℕ → Query → Type 0 where
   anId : {id : ℕ} → kindOf id ≡ oneName → Allowed kindOf id ItsName
   anIndex : {id k : ℕ} → kindOf id ≡ nameMap → k < limit32 → Allowed kindOf id (NameOf k)
@@ -53,7 +54,7 @@ pub data Allowed (kindOf : ℕ → Kind) : ℕ → Query → Type 0 where
 unfoldable pub asked : (ℕ → Kind) → ℕ → Query → ℕ → List ℕ → Judged (Option Part)
 asked kindOf id q at bs = mapJudged (answer id q) (judgeNames kindOf at bs)
 
--- The document's questions: of which subsection each asks, and what
+-- R5.2 to R5.4: the questions, of which subsection each asks, and what
 abbrev pub idOf : Question → ℕ
 idOf ModuleName = 0
 idOf (FunctionName k) = 1
@@ -95,7 +96,7 @@ askAt kindOf q at bs = asked kindOf (idOf q) (queryOf q) at bs
 unfoldable pub ask : (ℕ → Kind) → Question → List ℕ → Judged (Option Part)
 ask kindOf q bs = askAt kindOf q 0 bs
 
--- The answer as a place; as bytes, which are no bytes for none and for a refusal; and without its offset, as answers are compared
+-- R5.5, R5.6 and R5.10: the answer as a place; as bytes, which are no bytes for none and for a refusal; and without its offset, as answers are compared
 unfoldable pub asPlace : Judged (Option Part) → Judged (Option Place)
 asPlace j = mapJudged (mapSome placeOf) j
 

@@ -1,3 +1,4 @@
+-- Rules R1.2, R1.3, R1.14, R5.1 and R19.6 of docs/RULES.md.
 -- Reading is left to right, and each check is made once the bytes it needs are read. A reader is given the offset where it stands and the bytes that the innermost part has left: nothing else can be read. Assumes nothing.
 use Prim.Native.Nat.{ℕ}
 use mathlib.Core.Bool.{Bool, true, false}

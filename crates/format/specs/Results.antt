@@ -1,3 +1,4 @@
+-- Rule R21.2 of docs/RULES.md.
 -- Demand 2, said of the results of calls: what a call that meets its promise hands back.
 use Prim.Native.Nat.{ℕ, _+_, _≤_}
 use mathlib.Core.List.{List}

@@ -1,3 +1,4 @@
+-- Rules R1.13 and R19.3 of docs/RULES.md.
 -- A list is a number n and n elements. Here each element is a number, above the one before, and a value: name maps, indirect maps and code metadata are such lists. Assumes nothing.
 use Prim.Native.Nat.{ℕ, zero, suc}
 use mathlib.Core.Bool.{cond}

@@ -1,3 +1,4 @@
+-- Rules R1.15 and R8.10 of docs/RULES.md.
 -- K10. Whether a number took its fewest bytes, and whether a payload is its own canonical rewriting. Assumes nothing.
 use Prim.Native.Nat.{ℕ, _+_}
 use mathlib.Core.Bool.{Bool, false}

@@ -1,3 +1,4 @@
+-- Rule R1.10 of docs/RULES.md.
 -- Valid UTF-8: characters one after another, each worked out from its bytes and compared with the limits. "Overlong forms, surrogates (U+D800 to U+DFFF) and anything above U+10FFFF are invalid." Assumes nothing.
 use Prim.Native.Nat.{ℕ, zero, suc, _+_, _-_, _*_, _%_}
 use mathlib.Core.Bool.{Bool, true, false, cond, _&&_, _||_}

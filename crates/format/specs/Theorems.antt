@@ -1,3 +1,4 @@
+-- Rules R8.9 and R8.11 of docs/RULES.md.
 -- What users of the library demand, as types, each under the sentence that it comes from; below each stands its proof, by the laws that it rests on. Here they are said of the definitions; the crates above say them again of their calls.
 use Prim.Native.Nat.{ℕ, _+_, _≤_, _<_}
 use mathlib.Core.Bool.{true}
@@ -180,7 +181,7 @@ module _ (kindOf : ℕ → Kind) where
         });
   }
 
-  -- as the document's questions ask for them
+  -- as the questions of R5.2 to R5.4 ask for them
   pub questions-answered : Answers (judgeNames kindOf 0) (ask kindOf) (λ t q x. Holds (idOf q) (queryOf q) (mapTable bare t) x)
   unfolding ask askAt
   questions-answered = record {

@@ -1,3 +1,4 @@
+-- Rules R3.6 to R3.8, R6.9, R7.6 and R19.7 of docs/RULES.md.
 -- Questions through a module: the walk first; then the payload is judged and asked, and its offsets count from the module's start. An accepted module without the section gets none. Assumes nothing.
 use Prim.Native.Nat.{ℕ}
 use mathlib.Core.Bool.{cond}

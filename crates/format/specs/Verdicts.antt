@@ -1,3 +1,4 @@
+-- Rule R5.9 of docs/RULES.md.
 -- What a verdict says, as the code hands it back. Assumes nothing.
 use Rattle.format.specs.Refusals.{numberOf}
 use Rattle.format.specs.Reading.{Judged, accepted, refused}

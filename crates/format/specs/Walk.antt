@@ -1,3 +1,4 @@
+-- Rules R2.1 to R2.12, R3.1 to R3.5 and R19.1 of docs/RULES.md.
 -- The framing of a module. The first 8 bytes are 00 61 73 6D 01 00 00 00. Then sections to the end: id byte, size number, that many bytes of contents. Assumes nothing.
 use Prim.Native.Nat.{ℕ, zero, suc}
 use mathlib.Core.Bool.{Bool, true, false, not, cond, _&&_, _||_}
@@ -14,13 +15,13 @@ use Rattle.format.specs.declared.Reason.the-variants.{NoPreamble, Sectio
 unfoldable pub preamble : List ℕ
 preamble = 0x00 ∷ 0x61 ∷ 0x73 ∷ 0x6D ∷ 0x01 ∷ 0x00 ∷ 0x00 ∷ 0x00 ∷ []
 
--- refusal 1 gives offset 0
+-- R2.1: refusal 1 gives offset 0
 unfoldable pub begins : List ℕ → Reader (Unit {0})
 begins [] o bs = got tt o bs
 begins (x ∷ xs) o [] = refuse NoPreamble 0 o []
 begins (x ∷ xs) o (b ∷ bs) = cond (eqb x b) (begins xs (suc o) bs) (refuse NoPreamble 0 o bs)
 
--- The order of sections: type, import, function, table, memory, tag (13), global, export, start, element, data count (12), code, data. Ids run to 13: id 0 is custom, the others occur at most once, in this order
+-- R2.3 to R2.5: the order of sections: type, import, function, table, memory, tag (13), global, export, start, element, data count (12), code, data. Ids run to 13: id 0 is custom, the others occur at most once, in this order
 abbrev pub order : List ℕ
 order = 1 ∷ 2 ∷ 3 ∷ 4 ∷ 5 ∷ 13 ∷ 6 ∷ 7 ∷ 8 ∷ 9 ∷ 12 ∷ 10 ∷ 11 ∷ []
 
@@ -49,7 +50,7 @@ isCode id = eqb id 10
 unfoldable pub isData : ℕ → Bool
 isData id = eqb id 11
 
--- a custom section's contents begin with a name; the rest is its payload
+-- R2.6: a custom section's contents begin with a name; the rest is its payload
 pub record Custom : Type 0 where
   pub name : Part
   pub payload : Part
@@ -61,7 +62,7 @@ custom zero = do
   return (some (record { name = n; payload = p }))
 custom (suc id) = return none
 
--- the bytes of the name are compared exactly
+-- R2.7: the bytes of the name are compared exactly
 unfoldable pub isCalled : List ℕ → Option Custom → Bool
 isCalled x none = false
 isCalled x (some c) = same x (c .name .bytes)
@@ -83,7 +84,7 @@ hintSection = metadataPrefix ++ branchHint
 abbrev pub olderHintSection : List ℕ
 olderHintSection = ascii "branchHints"
 
--- The custom sections that the walk tracks, a row each: what they are called, and whether they must stand before code
+-- R2.8 to R2.11: the custom sections that the walk tracks, a row each: what they are called, and whether they must stand before code
 pub record Tracked : Type 0 where
   pub name : List ℕ
   pub beforeCode : Bool
@@ -138,14 +139,14 @@ seeing seen s = record {
   there = λ row. seen .there row || isRow (rowOf (s .custom)) row;
 }
 
--- What the id decides, before the size is read: no data after `name`. Refusals 5, 6 and 8 give the id byte
+-- R2.3, R2.5 and R2.9: what the id decides, before the size is read: no data after `name`. Refusals 5, 6 and 8 give the id byte
 unfoldable pub idRules : Seen → ℕ → ℕ → Reader (Unit {0})
 idRules seen at id = do
   checked (leb id greatestId) SectionUnknown at
   checked (isCustom id || ltb (seen .rank) (rank id)) SectionOrder at
   checked (not (isData id && seen .there nameRow)) SectionTooLate at
 
--- What a custom section's row decides, once its name is read. Refusals 7 and 8 give the id byte
+-- R2.8 and R2.10: what a custom section's row decides, once its name is read. Refusals 7 and 8 give the id byte
 unfoldable pub nameRules : Seen → ℕ → Option ℕ → Reader (Unit {0})
 nameRules seen at none = return tt
 nameRules seen at (some row) = do
@@ -187,7 +188,7 @@ walk m = judge (framing 0 m)
 unfoldable pub walkFrom : List ℕ → Seen → ℕ → Judged (List Section)
 walkFrom m seen o = judge (sections (length (drop o m)) seen o (drop o m))
 
--- The walk answers: the count of sections; the section at a position, counted from 0; the payload of the first custom section of a name
+-- R3.2 to R3.5: the walk answers: the count of sections; the section at a position, counted from 0; the payload of the first custom section of a name
 unfoldable pub sectionCount : List ℕ → Judged ℕ
 sectionCount m = mapJudged length (walk m)
 

@@ -1,3 +1,4 @@
+-- Rules R11.1 to R11.6 of docs/RULES.md.
 -- K7. Why a function or a local has no name, and where a name that is found stands. "For an accepted payload and a function or local question answered none, a tool names one reason: no such subsection; a subsection without a group for that function; or a map without that index, with the nearest mapped index below and above, if any. For a name found it gives the subsection and the entry's position in its map, from 0. Exactly one reason is true of each such question, and it is the one given." Assumes nothing.
 use Prim.Native.Nat.{ℕ, suc, _≤_, _<_}
 use mathlib.Core.Bool.{cond}

@@ -4,7 +4,7 @@ ghost use Rattle.format.specs.Promises.{format-refusal-of, format-reason
 // A byte offset, counted from the start of what was lent.
 pub struct Offset(pub usize);
 
-// One type for each index space, so that one is not accepted for another.
+// R5.7: one type for each index space, so that one is not accepted for another.
 pub struct FunctionIndex(pub u32);
 
 pub struct LocalIndex(pub u32);

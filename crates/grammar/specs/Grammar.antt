@@ -1,3 +1,4 @@
+-- Rule R21.2 of docs/RULES.md.
 -- What is accepted, said a second way: the files beside this one write the sources' grammar down, apart from the readers, and here stands that the library accepts exactly what that grammar has a meaning for, with that meaning. A reader that accepts too little or too much by a mistaken definition would differ from the grammar, which can be held against the sources line by line.
 use Prim.Native.Nat.{ℕ, _+_}
 use mathlib.Core.Bool.{true}

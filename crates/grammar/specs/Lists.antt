@@ -1,3 +1,4 @@
+-- Rules R1.8, R1.13 and R4.4 of docs/RULES.md.
 -- Sized contents, and lists of numbered entries (WebAssembly specification, 5.1.3 Vectors, now called lists, and the appendix on custom sections, Name Maps). Assumes nothing.
 use Prim.Native.Nat.{ℕ, zero, suc, _<_}
 use mathlib.Core.List.{List, [], _++_}

@@ -1,3 +1,4 @@
+-- Rules R6.1 to R6.5 of docs/RULES.md.
 -- Code metadata and branch hints (WebAssembly Code Metadata Specification, 2 Binary Format). Assumes nothing.
 use Prim.Native.Nat.{ℕ}
 use mathlib.Core.List.{List, [], _∷_}

@@ -1,3 +1,4 @@
+-- Rules R2.1 to R2.11 of docs/RULES.md.
 -- The frame of a module (WebAssembly specification, 5.5 Modules), with the order of its sections as the rules want it. Assumes nothing.
 use Prim.Native.Nat.{ℕ}
 use mathlib.Core.Bool.{true}

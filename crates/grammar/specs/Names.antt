@@ -1,3 +1,4 @@
+-- Rules R1.9 and R4.1 to R4.8 of docs/RULES.md.
 -- The name payload (WebAssembly specification, appendix on custom sections, Name Section). What is said of a text is its bytes. Assumes nothing.
 use Prim.Native.Nat.{ℕ, _≤_}
 use mathlib.Core.List.{List, [], _∷_, _++_}

@@ -1,3 +1,4 @@
+-- Rules R1.4 to R1.6 of docs/RULES.md.
 -- Numbers (WebAssembly specification, 5.2.2 Integers). Assumes nothing.
 use Prim.Native.Nat.{ℕ, _+_, _-_, _*_, _^_, _≤_, _<_}
 use mathlib.Core.List.{List, [], _∷_}

@@ -1,4 +1,5 @@
--- K2: the older edition of hints (source document 000, Branch Hints Section). Assumes nothing.
+-- Rules R7.1 to R7.5 of docs/RULES.md.
+-- K2: the older edition of hints (the older branch hinting proposal, Branch Hints Section). Assumes nothing.
 use Prim.Native.Nat.{ℕ, zero, suc}
 use mathlib.Core.List.{List, [], _∷_, _++_}
 use Rattle.format.specs.Older.{OlderHint, OlderEntry}

@@ -1,3 +1,4 @@
+-- Rule R1.11 of docs/RULES.md.
 -- Valid UTF-8 once more, by byte ranges, as the Unicode Standard's table of well-formed UTF-8 gives them. Overlong forms, surrogates and anything above U+10FFFF are in no row. `byRanges` and `utf8` in `format` say the same of all bytes. Assumes nothing.
 use Prim.Native.Nat.{ℕ}
 use mathlib.Core.Bool.{Bool, true, false, cond, _&&_}

@@ -1,3 +1,4 @@
+-- Rule R21.1 of docs/RULES.md.
 -- What is refused, said a second way: the files in Faults/ write down the table of refusals and the order of checks as faults, apart from the readers, and here stands that the library refuses exactly what has a fault, with its number and at its place. A reader that checks in another order, or gives another number or offset, by a mistaken definition would differ from the faults, which can be held against the table row by row.
 use Prim.Native.Nat.{ℕ, _+_, _≤_}
 use mathlib.Core.List.{List, _++_}

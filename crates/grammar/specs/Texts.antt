@@ -1,3 +1,4 @@
+-- Rule R1.10 of docs/RULES.md.
 -- Text: characters, and UTF-8 as their encoding (WebAssembly specification, 5.2.4 Names). Assumes nothing.
 use Prim.Native.Nat.{ℕ, _+_, _/_, _%_, _^_, _≤_, _<_}
 use mathlib.Core.List.{List, [], _∷_, _++_}

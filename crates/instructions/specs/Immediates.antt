@@ -1,3 +1,4 @@
+-- Rules R15.11 and R15.12 of docs/RULES.md.
 -- K6. One instruction: an opcode, and the immediates of its shape (core specification 1.0, 5.4). What version 1.0 cannot read is a stop, whatever its number and offset. Reading is not validation. Assumes nothing.
 use Prim.Native.Nat.{ℕ, zero, suc}
 use mathlib.Core.Bool.{Bool, cond, _&&_, _||_}

@@ -1,3 +1,4 @@
+-- Rule R15.10 of docs/RULES.md.
 -- K6. The locals of a function's body (core specification 1.0, 5.5.13 Code Section): a list of (number, value type), whose numbers add up to less than 2^32. Assumes nothing.
 use Prim.Native.Nat.{ℕ, zero, suc, _+_}
 use lib.Dec.{ltb}

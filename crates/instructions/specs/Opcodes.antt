@@ -1,3 +1,4 @@
+-- Rule R15.11 of docs/RULES.md.
 -- K6. Which immediates stand behind an opcode (core specification 1.0, 5.4 Instructions), as the specification lists them: from, to, shape. Assumes nothing.
 use Prim.Native.Nat.{ℕ}
 use mathlib.Core.Bool.{Bool, cond, _&&_}

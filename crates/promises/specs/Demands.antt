@@ -1,4 +1,5 @@
 -- THE FRONT DOOR. What users of the library demand, as types about its C calls, each under the sentence that it comes from, with the name of its proof in Proved.antt. A call is known by its promise alone: what is said here is said of every answer that meets the promise; that the call's own answer meets it is proved of its code.
+-- The rules are those of docs/RULES.md, named by its numbers. What stands in quotes is the users' own wording: "document 01" in it is what RULES says in the chapters 1 to 9 and 17 to 20.
 use Prim.Native.Nat.{ℕ, suc, _+_, _*_, _/_, _≤_, _<_}
 use mathlib.Core.List.{List, [], _∷_, _++_}
 -- `cond t x y` is x where the test t holds, and y where it does not; `eqb m n` tests m ≡ n, and `s || t` is either test
@@ -114,7 +115,7 @@ use Rattle.reading.specs.declared.NumberRead.the-variants.{Value}
 -- THE PART that is handed back in Rattle, by the promise of `pairs::ask_bytes`: of two payloads that begin at two places in memory, each a block and an offset in it, the part's bytes and the place where it begins.
 use Rattle.pairs.specs.Promises.{pairs-ask-bytes}
 
--- DEMAND 1. "Any bytes may be lent as a module, a section or a set of lists. Each public call ends, does nothing undefined and asks no prior check. Bad input gets a refusal number and the offset document 01 gives with it, and every lent buffer is unchanged." Proved as `demand-1` in Proved.antt.
+-- DEMAND 1 (R21.1). "Any bytes may be lent as a module, a section or a set of lists. Each public call ends, does nothing undefined and asks no prior check. Bad input gets a refusal number and the offset document 01 gives with it, and every lent buffer is unchanged." Proved as `demand-1` in Proved.antt.
 
 -- That a call ends and does nothing undefined is what the checker proves of its code before it says `proved`, and a call without a `requires` asks nothing: none of the C calls has one. What is lent to be read is lent as `&[u8]` or `&[u32]`, which cannot be written to. What is left to say is what the answers are, which input is refused with which number and offset, and what an output holds after the call.
 
@@ -256,7 +257,7 @@ pub record Demand1 : Type 0 where
   pub function-names-write : (indices lengths text : List ℕ) → Writing (ListsRefused indices lengths text) (wm-function-names-write indices lengths text)
   pub faults : Faulty
 
--- DEMAND 2. "Exactly what the rules accept is accepted. A lookup gives the mapped name as the very bytes of the section, or none exactly when the index has no name. Walk, hints and kept parts are what the rules make them. Names written from lists read back as those lists." Proved as `demand-2` in Proved.antt.
+-- DEMAND 2 (R21.2). "Exactly what the rules accept is accepted. A lookup gives the mapped name as the very bytes of the section, or none exactly when the index has no name. Walk, hints and kept parts are what the rules make them. Names written from lists read back as those lists." Proved as `demand-2` in Proved.antt.
 
 -- Found: a place inside what was lent, and the bytes that lie there are x. Where the same bytes stand at two places this does not say which of them is told; the promises do, by the place at which each name was read
 abbrev pub FoundIn : List ℕ → WmAnswer → List ℕ → Type 0
@@ -409,7 +410,7 @@ pub record Demand2 : Type 0 where
   pub fine-written : (indices lengths text old new : List ℕ) (a : WmAnswer) → wm-function-names-write indices lengths text old new a → FineLists indices lengths text → contentsLength indices lengths ≤ 4_294_967_295 → payloadLength indices lengths ≤ length old → a ≡ wmFound 0 0 (payloadLength indices lengths)
   pub lists : (indices lengths text old new : List ℕ) (a : WmAnswer) → Indices indices → wm-function-names-write indices lengths text old new a → a .kind ≡ 1 → WritesLists indices lengths text (take (a .length) new) a
 
--- DEMAND 3. "Canonical rewritings of two accepted payloads are equal byte by byte exactly when every allowed question gets the same answer from both. A rewriting is accepted, answers as its original, is never longer, and rewriting it again changes nothing." Proved as `demand-3` in Proved.antt.
+-- DEMAND 3 (R8.9, R21.3). "Canonical rewritings of two accepted payloads are equal byte by byte exactly when every allowed question gets the same answer from both. A rewriting is accepted, answers as its original, is never longer, and rewriting it again changes nothing." Proved as `demand-3` in Proved.antt.
 
 -- Two answers, of the payloads x and y, are the same: of one kind, and with the same bytes
 abbrev pub SameAnswer : (x y : List ℕ) (a b : WmAnswer) → Type 0
@@ -444,7 +445,7 @@ pub record Demand3 : Type 0 where
   -- hints are the same where the whole answers are, none, likely or unlikely
   pub hints : Rewrites wm-hints-judge (λ q. wm-hint (q .0 .0) (q .1 .0)) ItemInRange (λ _ _ a b. a ≡ b) wm-hints-canonical
 
--- K10. "The number reader should also say whether the number took its fewest bytes, and its promise and every caller's change with it. On top comes a yes or no for a payload: yes exactly when it is accepted and equals its canonical rewriting." Proved as `k10` in Proved.antt.
+-- K10 (R1.15, R8.10). "The number reader should also say whether the number took its fewest bytes, and its promise and every caller's change with it. On top comes a yes or no for a payload: yes exactly when it is accepted and equals its canonical rewriting." Proved as `k10` in Proved.antt.
 
 -- A call that tells: yes is 1 and no is 0
 module _ (judging : List ℕ → WmAnswer → Type 0) (rewriting : (payload old new : List ℕ) → WmAnswer → Type 0) (telling : List ℕ → ℕ → Type 0) where
@@ -461,7 +462,7 @@ pub record K10 : Type 0 where
   pub metadata : TellsCanonical wm-metadata-judge wm-metadata-canonical wm-metadata-is-canonical
   pub hints : TellsCanonical wm-hints-judge wm-hints-canonical wm-hints-is-canonical
 
--- K9. "Toolchains follow the extended name section proposal: ids 3 labels (indirect, by function), 5 tables, 6 memories, 7 globals, 8 element segments, 9 data segments (name maps). We want it as a second edition, the caller choosing, the first unchanged; there these six get questions by index and are none as kept. .. Demand 3 holds within one edition only: an empty map of id 7 is dropped by one and kept by the other. .. Refusals as for the known ids." Proved as `k9` in Proved.antt.
+-- K9 (R4.3, R4.9, R8.8). "Toolchains follow the extended name section proposal: ids 3 labels (indirect, by function), 5 tables, 6 memories, 7 globals, 8 element segments, 9 data segments (name maps). We want it as a second edition, the caller choosing, the first unchanged; there these six get questions by index and are none as kept. .. Demand 3 holds within one edition only: an empty map of id 7 is dropped by one and kept by the other. .. Refusals as for the known ids." Proved as `k9` in Proved.antt.
 
 -- The questions that both editions have
 pub data InBoth : Question → Type 0 where
@@ -494,7 +495,7 @@ pub record K9 : Type 0 where
   pub accepted-by-both : (p : List ℕ) (a b : WmAnswer) → wm-wide-names-judge p a → wm-names-judge p b → a .kind ≡ 1 → b ≡ a
   pub answered-alike : (q : Question) → InBoth q → (p : List ℕ) (a b j : WmAnswer) → wm-wide-names-judge p j → j .kind ≡ 1 → wm-wide-name q p a → wm-name q p b → b ≡ a
 
--- K2. "Builds from the older compiler. They carry hints in a section called `branchHints`: a list of (function index, one zero byte, list of (kind, offset)), kind and offset both numbers. That edition demands no order and allows repeats, so the first hint in the file for a pair answers: unlikely for kind 0, likely for kind 1, however the kind is padded, and none without one. It counts offsets from the first instruction, so the editions are kept and asked apart. Add reader, lookup, and a canonical rewriting, also sorted by function and offset, shadowed hints dropped, one entry per function. Demand 3 holds for it, with its own rule and questions; a payload whose rewriting is refused 15 has none, and demand 3 leaves it out. .. Refusals: 17, the byte is not zero, at that byte (missing: 2 at its place); 12 also for a kind above 1, at the kind, before the offset is read; 10 as before; for the rewriting 15, a payload above 4,294,967,295 bytes, then 13; 7 and 8 for `branchHints` counted by itself." Proved as `k2` in Proved.antt.
+-- K2 (R7.1 to R7.7, R8.5, R8.6). "Builds from the older compiler. They carry hints in a section called `branchHints`: a list of (function index, one zero byte, list of (kind, offset)), kind and offset both numbers. That edition demands no order and allows repeats, so the first hint in the file for a pair answers: unlikely for kind 0, likely for kind 1, however the kind is padded, and none without one. It counts offsets from the first instruction, so the editions are kept and asked apart. Add reader, lookup, and a canonical rewriting, also sorted by function and offset, shadowed hints dropped, one entry per function. Demand 3 holds for it, with its own rule and questions; a payload whose rewriting is refused 15 has none, and demand 3 leaves it out. .. Refusals: 17, the byte is not zero, at that byte (missing: 2 at its place); 12 also for a kind above 1, at the kind, before the offset is read; 10 as before; for the rewriting 15, a payload above 4,294,967,295 bytes, then 13; 7 and 8 for `branchHints` counted by itself." Proved as `k2` in Proved.antt.
 
 -- The numbers that a payload is refused with: 2 and 3 are those of numbers that are cut off or too large
 abbrev pub olderNumbers : List ℕ
@@ -563,7 +564,7 @@ pub record K2 : Type 0 where
   -- the yes or no of K10
   pub told : TellsCanonical wm-old-hints-judge wm-old-hints-canonical wm-old-hints-is-canonical
 
--- EVERY PAIR AS A ROW. "All rows, in order, at the front of the lent lists: FOUND with offset 0, length = number of rows .. REFUSED as judging does, then 13 with the number of rows as its offset where one of the lists is shorter. A list keeps what stands behind its rows; a refusal changes none. .. Hints: function, code offset, 0 unlikely or 1 likely. Of the older edition: every pair once, by function and offset, with the hint that answers." Proved as `old-hints-listed` in Proved.antt.
+-- EVERY PAIR AS A ROW (R12.1, R12.5 to R12.8). "All rows, in order, at the front of the lent lists: FOUND with offset 0, length = number of rows .. REFUSED as judging does, then 13 with the number of rows as its offset where one of the lists is shorter. A list keeps what stands behind its rows; a refusal changes none. .. Hints: function, code offset, 0 unlikely or 1 likely. Of the older edition: every pair once, by function and offset, with the hint that answers." Proved as `old-hints-listed` in Proved.antt.
 
 -- What a call that lists rows answers
 pub data RowsReply : WmAnswer → Type 0 where
@@ -607,7 +608,7 @@ module _ (p functions offsets likely functions′ offsets′ likely′ : List �
 abbrev pub OldHintsListed : Type 0
 OldHintsListed = (p functions offsets likely functions′ offsets′ likely′ : List ℕ) (a : WmAnswer) → RowsOfHints p functions offsets likely functions′ offsets′ likely′ a
 
--- K11. "Nothing shorter says the same. Storage asks whether another tool could save a byte. Show that every other accepted payload giving the same answers to every question is strictly longer than the canonical one, for names in each edition and for the metadata sections. For `branchHints`, whose order is free, show that none is shorter." Proved as `k11` in Proved.antt.
+-- K11 (R8.11). "Nothing shorter says the same. Storage asks whether another tool could save a byte. Show that every other accepted payload giving the same answers to every question is strictly longer than the canonical one, for names in each edition and for the metadata sections. For `branchHints`, whose order is free, show that none is shorter." Proved as `k11` in Proved.antt.
 
 module _ {Q : Type 0} (judging : List ℕ → WmAnswer → Type 0) (asking : Q → List ℕ → WmAnswer → Type 0) (Allowed : Q → Type 0) (Same : (x y : List ℕ) (a b : WmAnswer) → Type 0) (rewriting : (payload old new : List ℕ) → WmAnswer → Type 0) where
   -- "accepted payload giving the same answers to every question": y is any bytes, of any length, that the judging call accepts and that answer as x does
@@ -648,7 +649,7 @@ pub record K11 : Type 0 where
   -- likely at offset 5 of function 0 and unlikely at offset 7 of function 3, the functions the other way round: as long, and not canonical
   pub other-old-hints : Another wm-old-hints-judge (λ q. wm-old-hint (q .0 .0) (q .1 .0)) OlderInRange (λ _ _ a b. a ≡ b) wm-old-hints-canonical (hex "02 00 00 01 01 05 03 00 01 00 07") (hex "02 03 00 01 00 07 00 00 01 01 05") 11 11
 
--- K6. "Hints that sit on a branch. .. Add a check over the whole module: count imported functions, find each hinted body, step over its locals, then its instructions by the immediates of core specification 1.0, and accept when every hint's offset begins one of those two. .. Hints go in section order. An accepted module without the hint section is accepted, imports unread. Refusals, after all of document 01's for module and payload: faults in the import list, then in the list of sized bodies, as 2, 3, 4 and 10, with 29 for an import kind above 3 or a limits flag above 1, at that byte ..; then per hint 19, no body for that function, at the function index; at the hint's offset number 20, the locals or an instruction starting before the hinted place can't be read by version 1.0, else 21, not on a branch." Proved as `k6` in Proved.antt.
+-- K6 (R15.1 to R15.16). "Hints that sit on a branch. .. Add a check over the whole module: count imported functions, find each hinted body, step over its locals, then its instructions by the immediates of core specification 1.0, and accept when every hint's offset begins one of those two. .. Hints go in section order. An accepted module without the hint section is accepted, imports unread. Refusals, after all of document 01's for module and payload: faults in the import list, then in the list of sized bodies, as 2, 3, 4 and 10, with 29 for an import kind above 3 or a limits flag above 1, at that byte ..; then per hint 19, no body for that function, at the function index; at the hint's offset number 20, the locals or an instruction starting before the hinted place can't be read by version 1.0, else 21, not on a branch." Proved as `k6` in Proved.antt.
 
 -- The numbers that the import list is refused with, and the list of bodies
 abbrev pub importNumbers : List ℕ
@@ -668,7 +669,7 @@ pub record K6 : Type 0 where
   pub imports-numbered : (m : List ℕ) → HasHints m → (number offset : ℕ) → importedFunctions m ≡ refused number offset → isAmong importNumbers number ≡ true
   pub bodies-numbered : (m : List ℕ) → HasHints m → (number offset : ℕ) → functionBodies m ≡ refused number offset → isAmong bodyNumbers number ≡ true
 
--- K7. "Why has this function no name? For an accepted payload and a function or local question answered none, a tool names one reason: no such subsection; a subsection without a group for that function; or a map without that index, with the nearest mapped index below and above, if any. For a name found it gives the subsection and the entry's position in its map, from 0. Exactly one reason is true of each such question, and it is the one given." Proved as `k7` in Proved.antt.
+-- K7 (R11.1 to R11.5). "Why has this function no name? For an accepted payload and a function or local question answered none, a tool names one reason: no such subsection; a subsection without a group for that function; or a map without that index, with the nearest mapped index below and above, if any. For a name found it gives the subsection and the entry's position in its map, from 0. Exactly one reason is true of each such question, and it is the one given." Proved as `k7` in Proved.antt.
 
 -- What is answered: the place of a name, one of the reasons, or a refusal
 pub data WhyReply : WmWhy → Type 0 where
@@ -694,7 +695,7 @@ pub record K7 : Type 0 where
   pub functions : (function : ℕ) → SaysWhy (wm-why-function function) (TrueOfFunction function) (wm-name (FunctionName (record { 0 = function })))
   pub locals : (function local : ℕ) → SaysWhy (wm-why-local function local) (TrueOfLocal function local) (wm-name (LocalName (record { 0 = function }) (record { 0 = local })))
 
--- K8. "A marker list beside large maps. Charts ask for thousands of names a minute. From an accepted payload we want two lists of numbers, the function index and the offset of every sixteenth function entry, the first included, with the offset where their subsection ends (0 if there is no such subsection). A quick question is given these and doesn't judge the payload. It starts at the last marker not above the index asked (no such marker: none), reads at most sixteen entries, none past the end, and the first with that index answers. A number of refusal 3, or an entry that doesn't fit before the end, met first, is answered none; text isn't checked. With the markers made from this payload the answer equals the full one; with others it still follows this rule. Refusals: 15 for a payload above 4,294,967,295 bytes (first in the quick question); 13 for short lists; 22, lists of unequal length (at the shorter's length), then an end outside the payload (at the list's length), then either list not strictly rising or an offset not below the end (at the first such position)." Proved as `k8` in Proved.antt.
+-- K8 (R13.1 to R13.11). "A marker list beside large maps. Charts ask for thousands of names a minute. From an accepted payload we want two lists of numbers, the function index and the offset of every sixteenth function entry, the first included, with the offset where their subsection ends (0 if there is no such subsection). A quick question is given these and doesn't judge the payload. It starts at the last marker not above the index asked (no such marker: none), reads at most sixteen entries, none past the end, and the first with that index answers. A number of refusal 3, or an entry that doesn't fit before the end, met first, is answered none; text isn't checked. With the markers made from this payload the answer equals the full one; with others it still follows this rule. Refusals: 15 for a payload above 4,294,967,295 bytes (first in the quick question); 13 for short lists; 22, lists of unequal length (at the shorter's length), then an end outside the payload (at the list's length), then either list not strictly rising or an offset not below the end (at the first such position)." Proved as `k8` in Proved.antt.
 
 -- The map of function names in a payload, by the grammar: behind other subsections stand the id 1, the size of its contents, the count of its entries, and the entries. `first` is the offset of the first entry, and `end` is where they end
 abbrev pub FunctionMap : (p entries : List ℕ) (n first end : ℕ) → Type 0
@@ -755,7 +756,7 @@ pub record K8 : Type 0 where
   -- "with others it still follows this rule", and nothing else does
   pub rule : (p is os : List ℕ) (end function : ℕ) (a : WmAnswer) → wm-quick-function-name p is os end function a → (j : Judged (Option Part)) × Follows p is os end function j × (a ≡ wmPlace (asPlace j)) × ((other : Judged (Option Part)) → Follows p is os end function other → other ≡ j)
 
--- K3. "Names that travel beside a stripped module. We are sent a name payload apart. One question goes over the two lent payloads: the separate one answers unless it gives none, else the module's; a name found says which, and is handed back as a part of the payload that supplied it. Add a writer of one canonical payload that answers every question, kept subsections too, as the pair does. Refusals: the separate payload's first, the answer saying whose; 15 for a joined subsection too large, then 13." Proved as `k3` in Proved.antt.
+-- K3 (R10.1 to R10.6). "Names that travel beside a stripped module. We are sent a name payload apart. One question goes over the two lent payloads: the separate one answers unless it gives none, else the module's; a name found says which, and is handed back as a part of the payload that supplied it. Add a writer of one canonical payload that answers every question, kept subsections too, as the pair does. Refusals: the separate payload's first, the answer saying whose; 15 for a joined subsection too large, then 13." Proved as `k3` in Proved.antt.
 
 -- What a question over two payloads is answered: none; or a place, or a refusal, and whose it is
 pub data PairReply : WmPairAnswer → Type 0 where
@@ -834,7 +835,7 @@ pub record K3 : Type 0 where
   pub joins : JoinsPairs knownKind wm-names-judge wm-name wm-pair wm-names-canonical wm-names-is-canonical wm-pair-join
   pub wide-joins : JoinsPairs widerKind wm-wide-names-judge wm-wide-name wm-wide-pair wm-wide-names-canonical wm-wide-names-is-canonical wm-wide-pair-join
 
--- K5. "Reading an upload as it arrives. A module comes in parts, cut anywhere, some of no length. The reader's state is small and is updated by each part without being copied by the caller; no part is kept. At the finish the answer is the module walk's on all of it joined: section count, places of the name payload and of both editions' hint payloads, or the refusal and offset. Accepted parts that join to the same bytes leave the same state however cut. Refusals, offset 0 and state unchanged: 18, a part or a finish after the finish; then 28, a part that takes the total above 18,446,744,073,709,551,615 bytes." Proved as `k5` in Proved.antt.
+-- K5 (R14.1 to R14.9). "Reading an upload as it arrives. A module comes in parts, cut anywhere, some of no length. The reader's state is small and is updated by each part without being copied by the caller; no part is kept. At the finish the answer is the module walk's on all of it joined: section count, places of the name payload and of both editions' hint payloads, or the refusal and offset. Accepted parts that join to the same bytes leave the same state however cut. Refusals, offset 0 and state unchanged: 18, a part or a finish after the finish; then 28, a part that takes the total above 18,446,744,073,709,551,615 bytes." Proved as `k5` in Proved.antt.
 
 -- Parts one after the other, from one state to another: each is lent to the call, and is found (taken) or refused. Those that were taken are listed
 pub data Arrives : (before : Stream) → (taken : List (List ℕ)) → (after : Stream) → Type 0 where
@@ -881,7 +882,7 @@ pub record K5 : Type 0 where
   pub part-unchanged : (s t : Stream) (p : List ℕ) (a : WmAnswer) → wm-stream-part s p t a → a .kind ≡ 2 → t ≡ s
   pub finish-unchanged : (s t u : Stream) (a c : WmStreamAnswer) → wm-stream-finish s t a → wm-stream-finish t u c → u ≡ t
 
--- K12. "The shared table itself. A second crate: 16 customers (0 to 15), 8 holds each (0 to 7), over one lent store of 1 to 128 blocks of 512 bytes: 508 of payload, zeros behind its end, then the check, the wrapping sum of those 127 little-endian words, in that byte order. A customer opens a name payload (first edition), lending a work buffer for its canonical form, and gets their lowest unused hold; asks a function name through it, copied to a lent buffer; closes it, the store unchanged. Equal canonical payloads are stored once, in the first run of free blocks long enough, an empty one in one block. Each payload's users at any time are the granted opens less the granted closes of the history; at none its blocks are free and are used again. No answer holds a place in the store. If two histories agree on one customer's calls but for the store, lend at each call the store they started with, of 1 to 128 blocks, written by nothing else, and never refuse that customer for room, the customer's answers are the same. Refusals in this order: 30, a store of another length than at the start, or not 1 to 128 blocks; 23, no such customer; 24, hold not open or above 7; document 01's for the payload, with 13 for the work buffer; 25, eight holds in use; 27, a needed block's check is wrong (an open needs all used blocks, a question those of its payload, a close none), or a question's payload is no longer accepted; 26, payload not yet stored and no free run long enough; for a question, 13 last. The new ones give offset 0. Each changes nothing, save that after 27 or 26 on an open, as after a grant, the work buffer begins with the canonical payload." Proved as `k12` in Proved.antt.
+-- K12 (R16.1 to R16.17). "The shared table itself. A second crate: 16 customers (0 to 15), 8 holds each (0 to 7), over one lent store of 1 to 128 blocks of 512 bytes: 508 of payload, zeros behind its end, then the check, the wrapping sum of those 127 little-endian words, in that byte order. A customer opens a name payload (first edition), lending a work buffer for its canonical form, and gets their lowest unused hold; asks a function name through it, copied to a lent buffer; closes it, the store unchanged. Equal canonical payloads are stored once, in the first run of free blocks long enough, an empty one in one block. Each payload's users at any time are the granted opens less the granted closes of the history; at none its blocks are free and are used again. No answer holds a place in the store. If two histories agree on one customer's calls but for the store, lend at each call the store they started with, of 1 to 128 blocks, written by nothing else, and never refuse that customer for room, the customer's answers are the same. Refusals in this order: 30, a store of another length than at the start, or not 1 to 128 blocks; 23, no such customer; 24, hold not open or above 7; document 01's for the payload, with 13 for the work buffer; 25, eight holds in use; 27, a needed block's check is wrong (an open needs all used blocks, a question those of its payload, a close none), or a question's payload is no longer accepted; 26, payload not yet stored and no free run long enough; for a question, 13 last. The new ones give offset 0. Each changes nothing, save that after 27 or 26 on an open, as after a grant, the work buffer begins with the canonical payload." Proved as `k12` in Proved.antt.
 
 -- A history: a table started over a store of 1 to 128 blocks of 512 bytes, and calls one after the other, each lent the table and the store as the one before left them; K13's step is one of them. Each call is an event, with its answer and with the lent buffer after it; the latest comes first
 abbrev pub TableEvent : Type 0
@@ -1002,7 +1003,7 @@ pub record K12 : Type 0 where
   pub ask-elsewhere : (t : SharedTable) (s : List ℕ) → NotTheStore t s → (customer hold function : ℕ) (out out′ : List ℕ) (a : WmAnswer) → wm-table-function-name t s customer hold function out out′ a → (a ≡ wmRefused 30 0) × (out′ ≡ out)
   pub close-elsewhere : (t u : SharedTable) (s : List ℕ) → NotTheStore t s → (customer hold : ℕ) (a : WmAnswer) → wm-table-close t s customer hold u a → (a ≡ wmRefused 30 0) × (tableOf u ≡ tableOf t)
 
--- K13. "Close the gaps. After a busy week the store refuses 26 though half of it is free. Add a step that moves stored blocks to the front, in their present order; blocks behind them keep their bytes. Every customer's next answers are as before, save that an open refused 26 may now be granted; for the first open after the step that reaches that check, with no close between, 26 is given exactly when the payload isn't stored and too few blocks are free in all. K12's rule on two histories counts the step as nobody's call. Refusals: 30, then 27 if any used block's check is wrong, offset 0, found before anything is moved." Proved as `k13` in Proved.antt.
+-- K13 (R16.19 to R16.22). "Close the gaps. After a busy week the store refuses 26 though half of it is free. Add a step that moves stored blocks to the front, in their present order; blocks behind them keep their bytes. Every customer's next answers are as before, save that an open refused 26 may now be granted; for the first open after the step that reaches that check, with no close between, 26 is given exactly when the payload isn't stored and too few blocks are free in all. K12's rule on two histories counts the step as nobody's call. Refusals: 30, then 27 if any used block's check is wrong, offset 0, found before anything is moved." Proved as `k13` in Proved.antt.
 
 -- Calls from a table and a store on, as in a history
 pub data Onward (t : SharedTable) (s : List ℕ) : List TableEvent → SharedTable → (store : List ℕ) → Type 0 where

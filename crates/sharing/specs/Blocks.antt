@@ -1,3 +1,4 @@
+-- Rules R16.2 and R16.6 of docs/RULES.md.
 -- A payload in blocks of 512 bytes: 508 of payload, zeros behind its end, then the check.
 use Prim.Native.Nat.{ℕ, zero, suc, _+_, _-_, _*_, _/_, _%_}
 use mathlib.Core.Bool.{Bool, true, false, _&&_}

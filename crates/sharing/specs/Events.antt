@@ -1,3 +1,4 @@
+-- Rules R16.9 and R16.12 of docs/RULES.md.
 -- Histories by their events, the latest first: each call with its answer as somebody sees it. `says` is what can be seen of it: whether the call was granted, and with which number, which of an open is the hold.
 use Prim.Native.Nat.{ℕ, suc, _+_, _*_, _≤_, _<_}
 use mathlib.Core.Path.{_≡_}

@@ -1,3 +1,4 @@
+-- Rule R16.21 of docs/RULES.md.
 -- Whose call it is. K13's step is nobody's.
 use Prim.Native.Nat.{ℕ}
 use mathlib.Core.Bool.{Bool, false}

@@ -1,3 +1,4 @@
+-- Rules R16.1, R16.4, R16.7, R16.11 and R16.13 of docs/RULES.md.
 -- The model: no blocks and no table. Sixteen customers with eight holds each, in one list of 128; a hold is empty or has a payload. What a customer's call answers, and what it changes, follows from that customer's own eight holds.
 use Prim.Native.Nat.{ℕ, suc, _+_, _*_}
 use mathlib.Core.Path.{_≡_}

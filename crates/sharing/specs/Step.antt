@@ -1,4 +1,5 @@
--- What each call leaves of ANY table and store, its refusals in the order of document 02.
+-- Rules R16.4 to R16.10, R16.13 to R16.18 and R16.22 of docs/RULES.md.
+-- What each call leaves of ANY table and store, its refusals in the order of R16.13.
 use Prim.Native.Nat.{ℕ, zero, suc, _+_, _-_, _*_}
 use mathlib.Core.Bool.{Bool, cond}
 use mathlib.Core.List.{List, [], map}

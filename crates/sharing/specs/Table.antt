@@ -1,3 +1,4 @@
+-- Rules R16.1, R16.3, R16.5, R16.6 and R16.14 of docs/RULES.md.
 -- The shared table and its walks. A row is known by its first block: the table has a mark for each block, and a hold is 0 or one more than the first block of its row.
 use Prim.Native.Nat.{ℕ, zero, suc, _+_, _-_, _/_, _%_, pred, max}
 use mathlib.Core.Bool.{Bool, true, false, not, cond, _&&_}

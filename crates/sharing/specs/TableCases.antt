@@ -1,4 +1,4 @@
--- K12. Cases of the shared table (docs/DECISIONS.md), each a history from the start: what its calls answer, with the lent buffers, and what table and store are then. Computed by the checker. Assumes nothing.
+-- K12. Cases of the shared table (docs/RULES.md), each a history from the start: what its calls answer, with the lent buffers, and what table and store are then. Computed by the checker. Assumes nothing.
 use Prim.Native.Nat.{ℕ, suc, _+_, _-_, _*_}
 use lib.Dec.{ltb}
 use mathlib.Core.Bool.{Bool, true, false, cond}

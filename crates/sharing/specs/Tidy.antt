@@ -1,3 +1,4 @@
+-- Rule R16.19 of docs/RULES.md.
 -- K13: the blocks that rows have move to the front, in their order; marks and holds go with them.
 use Prim.Native.Nat.{ℕ, zero, suc, _+_, _-_}
 use mathlib.Core.Bool.{Bool, true, false}

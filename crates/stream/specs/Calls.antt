@@ -1,3 +1,4 @@
+-- Rules R14.6 to R14.10 of docs/RULES.md.
 -- K5: a part and the finish, with what they refuse. "Refusals, offset 0 and state unchanged: 18, a part or a finish after the finish; then 28, a part that takes the total above 18,446,744,073,709,551,615 bytes." A state that nobody began and that the code cannot count with is answered as one that is over. Assumes nothing.
 use Prim.Native.Nat.{ℕ, _+_}
 use mathlib.Core.Bool.{Bool, true, false, cond, not, _&&_}

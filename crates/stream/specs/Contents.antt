@@ -1,3 +1,4 @@
+-- Rule R14.4 of docs/RULES.md.
 -- The contents of a custom section as they arrive: the number of the name's bytes, the name, the payload. What is wrong with them is known early and told late: the section's size may yet be what is refused. Assumes nothing.
 use Prim.Native.Nat.{ℕ, zero, suc, _-_}
 use mathlib.Core.Bool.{cond}

@@ -1,3 +1,4 @@
+-- Rule R14.1 of docs/RULES.md, for numbers (R1.4 to R1.7).
 -- A number as its bytes arrive: how many have come, and what they add up to. Assumes nothing.
 use Prim.Native.Nat.{ℕ, zero, suc, _+_, _*_, _%_}
 use mathlib.Core.Bool.{cond}

@@ -1,3 +1,4 @@
+-- Rules R14.2 and R14.5 of docs/RULES.md.
 -- The state as a caller holds it: one struct of numbers, with a number for the phase. What a phase has no use for is 0, so that the struct is a function of the bytes that have come. Assumes nothing.
 use Prim.Native.Nat.{ℕ, zero, suc, _+_, _*_}
 use mathlib.Core.Bool.{Bool, true, false, cond}

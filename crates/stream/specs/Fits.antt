@@ -1,3 +1,4 @@
+-- Rule R14.10 of docs/RULES.md.
 -- Which states the code can count with: their offsets and their count are not above the total, and what is left to come is not nothing. Every state that bytes lead to is one of them. Assumes nothing.
 use Prim.Native.Nat.{ℕ}
 use mathlib.Core.Bool.{Bool, true, _&&_}

@@ -1,3 +1,4 @@
+-- Rule R14.1 of docs/RULES.md, for names of sections (R2.7).
 -- The names of the tracked sections, all compared at once as a name's bytes arrive. Of each: how many of its bytes have been met, all of them in their places; one more than it has once it can be no longer that name. Assumes nothing.
 use Prim.Native.Nat.{ℕ, suc}
 use mathlib.Core.Bool.{Bool, cond, _&&_}

@@ -1,3 +1,4 @@
+-- Rules R14.1 to R14.4 of docs/RULES.md.
 -- K5: a module as it arrives. The state is how many bytes have come and what the reader is in the middle of: numbers and flags. No byte of a part is kept. Assumes nothing.
 use Prim.Native.Nat.{ℕ, zero, suc}
 use mathlib.Core.Bool.{Bool, false, cond, _||_}

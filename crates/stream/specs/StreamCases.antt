@@ -1,4 +1,4 @@
--- K5. Cases of modules as they arrive (docs/DECISIONS.md): cut in awkward places, and what is refused. Computed by the checker. Assumes nothing.
+-- K5. Cases of modules as they arrive (docs/RULES.md): cut in awkward places, and what is refused. Computed by the checker. Assumes nothing.
 use Prim.Native.Nat.{ℕ}
 use mathlib.Core.List.{List, [], _∷_}
 use mathlib.Core.Option.{none, some}

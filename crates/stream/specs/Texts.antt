@@ -1,3 +1,4 @@
+-- Rule R14.1 of docs/RULES.md, for text (R1.10).
 -- Text as its bytes arrive: how many bytes the character still wants, the least code point of its form, and the code point so far. Assumes nothing.
 use Prim.Native.Nat.{ℕ, zero, suc, _%_}
 use mathlib.Core.Bool.{Bool, true, false, cond}

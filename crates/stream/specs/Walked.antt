@@ -1,3 +1,4 @@
+-- Rule R14.3 of docs/RULES.md.
 -- What the walk says of a whole module, as the finish tells it. Assumes nothing.
 use Prim.Native.Nat.{ℕ}
 use mathlib.Core.List.{List}

@@ -1,3 +1,4 @@
+-- Rules R2.1 to R2.10 of docs/RULES.md.
 -- What the walk's types mean. Assumes nothing.
 use Prim.Native.Nat.{ℕ, zero, suc, _/_, _%_, _<_}
 use mathlib.Core.Bool.{Bool, cond, _||_}

@@ -1,3 +1,4 @@
+-- Rules R2.2 and R3.1 of docs/RULES.md.
 -- What a step of the walk says. Assumes nothing.
 use Prim.Native.Nat.{ℕ, _≤_, _<_}
 use mathlib.Core.List.{List, []}

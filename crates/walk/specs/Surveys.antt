@@ -1,3 +1,4 @@
+-- Rules R3.1 to R3.5 of docs/RULES.md.
 -- What one pass over a module gathers. Assumes nothing.
 use Prim.Native.Nat.{ℕ, suc}
 use mathlib.Core.Bool.{Bool, cond}

@@ -1,4 +1,4 @@
--- Answers: in bytes they are the bytes of the part that is answered; what may not be asked gets none; the document's questions are exactly those that its table allows.
+-- Answers: in bytes they are the bytes of the part that is answered; what may not be asked gets none; the rules' questions are exactly those that its table allows.
 use Prim.Native.Nat.{ℕ, zero, suc, _<_}
 use mathlib.Core.List.{List, [], _∷_}
 use mathlib.Core.Logic.{_↔_}

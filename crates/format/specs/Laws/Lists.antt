@@ -114,7 +114,7 @@ module _ {is ns text bs : List ℕ} (w : Written is ns text bs) where
         let a = canonical-accepted kindOf lists-canonical in
         told-is kindOf a id q ∙ ap accepted (ap (answer id q) (canonical-held kindOf lists-canonical a) ∙ norm-answers kindOf one-subsection id q)
 
--- Asked in the document's words
+-- Asked in the rules' words
 answer-listed : (t : Table (List ℕ)) (k : FunctionIndex) → answer (idOf (FunctionName k)) (queryOf (FunctionName k)) (row 1 (names t) nil) ≡ lookup (k .0) t
 unfolding answer lookup
 answer-listed t k = refl

@@ -1,3 +1,4 @@
+-- Rules R1.13 and R19.3 of docs/RULES.md.
 -- Faults of lists of numbered entries. Assumes nothing.
 use Prim.Native.Nat.{ℕ, suc, _+_, _≤_, _<_}
 use mathlib.Core.List.{List, _++_}
@@ -15,7 +16,7 @@ module _ {A : Type 0} (B : Grammar A) (BFault : Faults) where
   -- entries of which n are to come, behind one with the number `last`
   pub data EntriesFault : (n : ℕ) (last : Option ℕ) → List ℕ → (number place : ℕ) → Type 0 where
     inTheNumber : {n : ℕ} {last : Option ℕ} {bs : List ℕ} {m at : ℕ} → NumberFault bs m at → EntriesFault (suc n) last bs m at
-    -- "11 | index or offset not above the one before | that number", once it is read, and before what follows it
+    -- R18.11: "11 | index or offset not above the one before | that number", once it is read, and before what follows it
     notAbove : {n j k : ℕ} {number : List ℕ} (rest : List ℕ) → U32 number k → k ≤ j → EntriesFault (suc n) (some j) (number ++ rest) 11 0
     inTheValue : {n k : ℕ} {last : Option ℕ} {number rest : List ℕ} {m at : ℕ} → U32 number k → Above last k → BFault rest m at → EntriesFault (suc n) last (number ++ rest) m (length number + at)
     furtherOn : {n k : ℕ} {last : Option ℕ} {number value rest : List ℕ} {v : A} {m at : ℕ} → U32 number k → Above last k → B value v → EntriesFault n (some k) rest m at → EntriesFault (suc n) last (number ++ (value ++ rest)) m (length number + (length value + at))

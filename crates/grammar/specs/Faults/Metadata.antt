@@ -1,3 +1,4 @@
+-- Rules R6.2 to R6.5 and R19.4 of docs/RULES.md.
 -- Faults of code metadata and of branch hints. Assumes nothing.
 use Prim.Native.Nat.{ℕ, _<_}
 use mathlib.Core.List.{List, _∷_, _++_}
@@ -17,7 +18,7 @@ AnyItemFault = SizedFault
 -- "In a hint: offset, 11, size, 2, then 12."
 pub data HintFault : List ℕ → (number place : ℕ) → Type 0 where
   inTheSize : {bs : List ℕ} {n at : ℕ} → SizedFault bs n at → HintFault bs n at
-  -- "12 | hint of size other than 1, or data above 1 | the size number"
+  -- R18.12: "12 | hint of size other than 1, or data above 1 | the size number"
   otherSize : {size : List ℕ} (data′ rest : List ℕ) → U32 size (length data′) → length data′ ≢ 1 → HintFault (size ++ (data′ ++ rest)) 12 0
   dataAbove : {size : List ℕ} {b : ℕ} (rest : List ℕ) → U32 size 1 → 1 < b → HintFault (size ++ (b ∷ rest)) 12 0
 

@@ -1,3 +1,4 @@
+-- Rules R2.1 to R2.10 and R19.1 of docs/RULES.md.
 -- Faults of a module's frame. Assumes nothing.
 use Prim.Native.Nat.{ℕ, _+_, _<_}
 use mathlib.Core.Bool.{true}
@@ -23,21 +24,21 @@ pub record IdKept (before : List Section) (id : ℕ) : Type 0 where
   pub no-data : (s : Section) → Among s before → Called nameSection s → id ≢ 11
 
 pub data SectionFault (before : List Section) : List ℕ → (number place : ℕ) → Type 0 where
-  -- "5 | section id above 12 | id byte"; K1: "5 for ids above 13"
+  -- R18.5: "5 | section id above 12 | id byte"; K1: "5 for ids above 13"
   unknownId : {id : ℕ} (rest : List ℕ) → 13 < id → SectionFault before (id ∷ rest) 5 0
-  -- "6 | section repeated or out of order | id byte"; K1: "6 by the new order"
+  -- R18.6: "6 | section repeated or out of order | id byte"; K1: "6 by the new order"
   outOfOrder : {id : ℕ} {s : Section} (rest : List ℕ) → Among id sectionOrder → Among s before → s .id ≢ 0 → (Before (s .id) id sectionOrder → ⊥) → SectionFault before (id ∷ rest) 6 0
-  -- "8 | data after `name`; .. | id byte of the later section"
+  -- R18.8: "8 | data after `name`; .. | id byte of the later section"
   dataAfterName : {s : Section} (rest : List ℕ) → InOrder before 11 → Among s before → Called nameSection s → SectionFault before (11 ∷ rest) 8 0
   inTheSize : {id : ℕ} {rest : List ℕ} {n at : ℕ} → IdKept before id → SizedFault rest n at → SectionFault before (id ∷ rest) n (1 + at)
   inTheName : {size contents : List ℕ} {n at : ℕ} (rest : List ℕ) → U32 size (length contents) → NameFault contents n at → SectionFault before (0 ∷ (size ++ (contents ++ rest))) n (1 + (length size + at))
-  -- "7 | second `name` or `metadata.code.branch_hint` | its id byte"; K2: and `branchHints`, "counted by itself"
+  -- R18.7: "7 | second `name` or `metadata.code.branch_hint` | its id byte"; K2: and `branchHints`, "counted by itself"
   secondOfItsName : {bs : List ℕ} {s t : Section} {x : Tracked} (rest : List ℕ) → Framed bs t → Among x tracked → Called (x .name) t → Among s before → Called (x .name) s → SectionFault before (bs ++ rest) 7 0
-  -- "8 | ..; hints after code | id byte of the later section", where it is no 7
+  -- R18.8: "8 | ..; hints after code | id byte of the later section", where it is no 7
   hintsAfterCode : {bs : List ℕ} {s t : Section} {x : Tracked} (rest : List ℕ) → Framed bs t → Among x tracked → x .beforeCode ≡ true → Called (x .name) t → ((s : Section) → Among s before → Called (x .name) s → ⊥) → Among s before → s .id ≡ 10 → SectionFault before (bs ++ rest) 8 0
 
 pub data ModuleFault : List ℕ → (number place : ℕ) → Type 0 where
-  -- "1 | preamble missing or different | 0"
+  -- R18.1: "1 | preamble missing or different | 0"
   noPreamble : {m : List ℕ} → ((bs : List ℕ) → m ≢ magic ++ version ++ bs) → ModuleFault m 1 0
   -- sections that are well, and a fault of the next
   inASection : {front rest : List ℕ} {ss : List Section} {n at : ℕ} → Sections front ss → Ordered ss → SectionFault ss rest n at → ModuleFault (magic ++ version ++ (front ++ rest)) n (8 + (length front + at))

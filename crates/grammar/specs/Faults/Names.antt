@@ -1,3 +1,4 @@
+-- Rules R4.2, R4.7 and R19.2 of docs/RULES.md.
 -- Faults of name payloads. Assumes nothing.
 use Prim.Native.Nat.{ℕ, _+_, _≤_}
 use mathlib.Core.List.{List, _∷_, _++_}
@@ -27,7 +28,7 @@ pub data ContentsFault : Kind → List ℕ → (number place : ℕ) → Type 0 w
 module _ (Ids : ℕ → Kind → Type 0) where
   -- subsections up to the end, behind one with the id `last`
   pub data SubsectionsFault : (last : Option ℕ) → List ℕ → (number place : ℕ) → Type 0 where
-    -- "9 | subsection id not above the one before | id byte", before the size is read
+    -- R18.9: "9 | subsection id not above the one before | id byte", before the size is read
     idNotAbove : {j id : ℕ} (rest : List ℕ) → id ≤ j → SubsectionsFault (some j) (id ∷ rest) 9 0
     inTheSize : {last : Option ℕ} {id : ℕ} {rest : List ℕ} {n at : ℕ} → Above last id → SizedFault rest n at → SubsectionsFault last (id ∷ rest) n (1 + at)
     inTheContents : {last : Option ℕ} {id : ℕ} {kind : Kind} {size contents : List ℕ} {n at : ℕ} (rest : List ℕ) → Above last id → U32 size (length contents) → Ids id kind → ContentsFault kind contents n at → SubsectionsFault last (id ∷ (size ++ (contents ++ rest))) n (1 + (length size + at))

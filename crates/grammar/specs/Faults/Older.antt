@@ -1,3 +1,4 @@
+-- Rules R7.2 to R7.4 and R19.5 of docs/RULES.md.
 -- K2: faults of the older edition of hints. Assumes nothing.
 use Prim.Native.Nat.{ℕ, suc, _+_, _<_}
 use mathlib.Core.List.{List, _∷_, _++_}
@@ -21,7 +22,7 @@ module _ {A : Type 0} (B : Grammar A) (BFault : Faults) where
 
 pub data OlderKindFault : List ℕ → (number place : ℕ) → Type 0 where
   inTheNumber : {bs : List ℕ} {n at : ℕ} → NumberFault bs n at → OlderKindFault bs n at
-  -- "12 also for a kind above 1, at the kind, before the offset is read"
+  -- R18.12: "12 also for a kind above 1, at the kind, before the offset is read"
   kindAbove : {kind : List ℕ} {k : ℕ} (rest : List ℕ) → U32 kind k → 1 < k → OlderKindFault (kind ++ rest) 12 0
 
 pub data OlderHintFault : List ℕ → (number place : ℕ) → Type 0 where
@@ -30,7 +31,7 @@ pub data OlderHintFault : List ℕ → (number place : ℕ) → Type 0 where
 
 pub data OlderFunctionFault : List ℕ → (number place : ℕ) → Type 0 where
   inTheFunction : {bs : List ℕ} {n at : ℕ} → NumberFault bs n at → OlderFunctionFault bs n at
-  -- "17, the byte is not zero, at that byte (missing: 2 at its place)"
+  -- R18.17: "17, the byte is not zero, at that byte (missing: 2 at its place)"
   missing : {function : List ℕ} {k : ℕ} → U32 function k → OlderFunctionFault function 2 (length function)
   notZero : {function : List ℕ} {k b : ℕ} (rest : List ℕ) → U32 function k → b ≢ 0 → OlderFunctionFault (function ++ (b ∷ rest)) 17 (length function)
   inTheHints : {function rest : List ℕ} {k n at : ℕ} → U32 function k → VectorFault OlderBranchHint OlderHintFault rest n at → OlderFunctionFault (function ++ (0 ∷ rest)) n (length function + (1 + at))

@@ -1,3 +1,4 @@
+-- Rules R1.3 and R15.6 of docs/RULES.md.
 -- One production behind another, and a single byte: their grammar and their faults. Assumes nothing.
 use Prim.Native.Nat.{ℕ, _+_, _≤_, _<_}
 use mathlib.Core.List.{List, [], _∷_, _++_}

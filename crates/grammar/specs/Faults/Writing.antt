@@ -1,3 +1,4 @@
+-- Rules R9.6 to R9.10 of docs/RULES.md.
 -- Faults of the lists that function names are written from. "From lists: 14, all of 11, all of 4, 15, 13": each is given only where none before it is. 13 is the output's and comes behind all of these. Assumes nothing.
 use Prim.Native.Nat.{ℕ, suc, _+_, _<_}
 use mathlib.Core.Bool.{cond}
@@ -47,11 +48,11 @@ abbrev pub FirstFault : (Fine : ℕ → Type 0) → ℕ → Type 0
 FirstFault Fine k = Fine k × (Fine (suc k) → ⊥)
 
 pub data ListsFault (indices lengths text : List ℕ) : (number place : ℕ) → Type 0 where
-  -- "14 | lists disagree: unequal counts, or lengths that don't add up to the text | 0"
+  -- R18.14: "14 | lists disagree: unequal counts, or lengths that don't add up to the text | 0"
   listsDisagree : (Agree indices lengths text → ⊥) → ListsFault indices lengths text 14 0
-  -- "11 | index .. not above the one before | .. (in lists: its position)": the first such
+  -- R18.11: "11 | index .. not above the one before | .. (in lists: its position)": the first such
   notAbove : (k : ℕ) → Agree indices lengths text → FirstFault (λ n. Rise (take n indices)) k → ListsFault indices lengths text 11 k
-  -- "4 | text not UTF-8 | ..", and "refusal 4 gives where the first bad name starts in the joined text"
+  -- R18.4: "4 | text not UTF-8 | ..", and "refusal 4 gives where the first bad name starts in the joined text"
   notText : (k : ℕ) → Agree indices lengths text → Rise indices → FirstFault (λ n. AreText (take n indices) (take n lengths) text) k → ListsFault indices lengths text 4 (sum (take k lengths))
-  -- "15 | subsection would exceed 4,294,967,295 bytes | 0"
+  -- R18.15: "15 | subsection would exceed 4,294,967,295 bytes | 0"
   subsectionTooLarge : FineLists indices lengths text → 4_294_967_295 < contentsLength indices lengths → ListsFault indices lengths text 15 0
