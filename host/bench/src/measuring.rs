@@ -1,5 +1,6 @@
 //! Every operation that a payload allows, put once to each reader, and the two results compared.
 
+mod rows;
 mod shared;
 
 use comparison::library::{self, ToldStream};
@@ -150,6 +151,7 @@ fn names(payload: &[u8]) -> Vec<Compared> {
     compared.push(rewrite(payload));
     let alone = map.filter(|map| map.alone);
     compared.extend(alone.map(|map| write_from_lists(&map.lists, payload.len())));
+    compared.extend(rows::of_names(payload));
     compared
 }
 
@@ -245,6 +247,7 @@ fn wide_names(payload: &[u8]) -> Vec<Compared> {
     let mut compared = vec![wide_judge(payload), wide_tell(payload)];
     compared.extend(last.map(|last| wide_look_up(payload, last)));
     compared.push(wide_rewrite(payload));
+    compared.push(rows::of_wide_names(payload));
     compared
 }
 
@@ -266,11 +269,14 @@ fn wide_rewrite(payload: &[u8]) -> Compared {
 }
 
 fn hints(payload: &[u8]) -> Vec<Compared> {
+    let [metadata_listed, hints_listed] = rows::of_hints(payload);
     vec![
         judge_hints(payload),
         tell_hints(payload),
         look_hint_up(payload, LAST_BRANCH),
         rewrite_hints(payload),
+        hints_listed,
+        metadata_listed,
     ]
 }
 
@@ -301,6 +307,7 @@ fn old_hints(payload: &[u8]) -> Vec<Compared> {
         tell_old_hints(payload),
         look_old_hint_up(payload, GREATEST_BRANCH),
         rewrite_old_hints(payload),
+        rows::of_old_hints(payload),
     ]
 }
 
@@ -448,6 +455,12 @@ mod tests {
             Operation::QuickLast,
             Operation::Why,
             Operation::WriteFromLists,
+            Operation::ListFunctions,
+            Operation::ListLocals,
+            Operation::WideListGlobals,
+            Operation::ListHints,
+            Operation::ListMetadata,
+            Operation::ListOldHints,
             Operation::TellHints,
             Operation::RewriteHints,
             Operation::WideTell,

@@ -46,6 +46,12 @@ pub enum Operation {
     TableLookUp,
     TableClose,
     TableCompact,
+    ListFunctions,
+    ListLocals,
+    WideListGlobals,
+    ListHints,
+    ListMetadata,
+    ListOldHints,
 }
 
 impl Operation {
@@ -94,6 +100,12 @@ impl Operation {
             Operation::TableLookUp => "table, last function",
             Operation::TableClose => "table, close",
             Operation::TableCompact => "table, compact",
+            Operation::ListFunctions => "list functions",
+            Operation::ListLocals => "list locals",
+            Operation::WideListGlobals => "wide list globals",
+            Operation::ListHints => "list hints",
+            Operation::ListMetadata => "list metadata",
+            Operation::ListOldHints => "list old hints",
         }
     }
 }

@@ -1,6 +1,7 @@
 //! Memory that ends where nothing is mapped.
 
 use std::ffi::{c_int, c_void};
+use std::fmt::Debug;
 use std::mem::size_of;
 use std::ptr;
 
@@ -24,6 +25,30 @@ extern "C" {
     ) -> *mut c_void;
     fn mprotect(at: *mut c_void, len: usize, prot: c_int) -> c_int;
     fn munmap(at: *mut c_void, len: usize) -> c_int;
+}
+
+/// A number, of which any bytes are one.
+pub trait Number: Copy + Debug + PartialEq + private::Sealed {
+    /// The one whose bytes are all this.
+    fn of_bytes(byte: u8) -> Self;
+}
+
+mod private {
+    pub trait Sealed {}
+    impl Sealed for u32 {}
+    impl Sealed for u64 {}
+}
+
+impl Number for u32 {
+    fn of_bytes(byte: u8) -> u32 {
+        u32::from_ne_bytes([byte; 4])
+    }
+}
+
+impl Number for u64 {
+    fn of_bytes(byte: u8) -> u64 {
+        u64::from_ne_bytes([byte; 8])
+    }
 }
 
 /// Room for bytes that is followed by memory that cannot be read.
@@ -63,10 +88,10 @@ impl Guarded {
     }
 
     /// The last `len` numbers before the barred page.
-    pub fn last_numbers(&mut self, len: usize) -> &mut [u32] {
-        let place = self.last(len * size_of::<u32>());
+    pub fn last_numbers<N: Number>(&mut self, len: usize) -> &mut [N] {
+        let place = self.last(len * size_of::<N>());
         // SAFETY: the room ends at a page, so this start is aligned; any bytes are numbers, and they are borrowed.
-        unsafe { std::slice::from_raw_parts_mut(place.as_mut_ptr().cast::<u32>(), len) }
+        unsafe { std::slice::from_raw_parts_mut(place.as_mut_ptr().cast::<N>(), len) }
     }
 
     /// The last state of a stream before the barred page.

@@ -1,6 +1,10 @@
 //! The C calls as the header declares them, on slices. They are declared here by themselves, so that a mistake in the
 //! declarations of the safe crate would be seen.
 
+mod rows;
+
+pub use rows::{hints_list, metadata_list, names_list, old_hints_list, wide_names_list};
+
 // The crate that links the library is used for nothing else here.
 use wakemiono as _;
 
@@ -14,7 +18,7 @@ pub struct Told {
     pub code: u32,
     /// Where what was found, or the fault, lies in what was lent; of markers, where their subsection ends.
     pub offset: u64,
-    /// How many bytes were found or written; for the walk, how many sections, and of markers how many.
+    /// How many bytes were found or written; for the walk, how many sections, and of markers and rows how many.
     pub length: u64,
 }
 
@@ -443,16 +447,6 @@ extern "C" {
         out: *mut u8,
         out_len: usize,
     ) -> Told;
-    fn wm_old_hints_list(
-        payload: *const u8,
-        payload_len: usize,
-        functions: *mut u32,
-        functions_len: usize,
-        code_offsets: *mut u32,
-        code_offsets_len: usize,
-        likely: *mut u32,
-        likely_len: usize,
-    ) -> Told;
     fn wm_markers(
         payload: *const u8,
         payload_len: usize,
@@ -539,28 +533,6 @@ pub fn function_names_write(indices: &[u32], lengths: &[u32], text: &[u8], out: 
             text.len(),
             out.as_mut_ptr(),
             out.len(),
-        )
-    }
-}
-
-/// `wm_old_hints_list` of the header, on slices.
-pub fn old_hints_list(
-    payload: &[u8],
-    functions: &mut [u32],
-    offsets: &mut [u32],
-    likely: &mut [u32],
-) -> Told {
-    // SAFETY: all are live slices, no list overlaps another of them, and the call stores into the lists alone.
-    unsafe {
-        wm_old_hints_list(
-            payload.as_ptr(),
-            payload.len(),
-            functions.as_mut_ptr(),
-            functions.len(),
-            offsets.as_mut_ptr(),
-            offsets.len(),
-            likely.as_mut_ptr(),
-            likely.len(),
         )
     }
 }

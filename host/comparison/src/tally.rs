@@ -4,7 +4,7 @@ use std::collections::BTreeMap;
 use std::fmt;
 use std::ops::Range;
 
-use crate::guarded::Guarded;
+use crate::guarded::{Guarded, Number};
 use crate::library::{self, Told, FOUND, NONE, REFUSED, YES};
 use second_reader::Answer;
 
@@ -63,6 +63,8 @@ pub struct Tally {
     pub calls: u64,
     /// What they said of name payloads, by the first edition.
     pub names_said: Said,
+    /// How often each call that lists rows was answered in each way.
+    pub rows_met: BTreeMap<(&'static str, Way), u64>,
     /// How often it was said why there is no name, by the names of the calls and the kinds of the answers.
     pub why_met: BTreeMap<(&'static str, u32), u64>,
     /// How often a map without the index was met, by whether it has one below and one above.
@@ -101,6 +103,7 @@ impl Default for Tally {
         Tally {
             calls: 0,
             names_said: Said::default(),
+            rows_met: BTreeMap::new(),
             why_met: BTreeMap::new(),
             neighbours_met: BTreeMap::new(),
             quick_met: Met::default(),
@@ -202,10 +205,12 @@ mod branches;
 mod markers;
 mod older;
 mod pairs;
+mod rows;
 mod streams;
 mod why;
 mod wide;
 
+pub use rows::{Way, LISTING};
 pub use wide::WIDE_QUESTIONS;
 
 impl Tally {
@@ -280,6 +285,7 @@ impl Tally {
             ask!(self, p, kept, id);
         }
         rewrite!(self, p, names_canonical);
+        self.names_listed(p);
     }
 
     /// Every question to a metadata payload.
@@ -294,6 +300,7 @@ impl Tally {
         }
         rewrite!(self, p, metadata_canonical);
         rewrite!(self, p, hints_canonical);
+        self.metadata_listed(p);
     }
 
     /// Every question to a module.
@@ -470,6 +477,27 @@ pub(crate) fn framed(output: &mut Guarded, room: usize) -> &mut [u8] {
 /// The output holds what is expected, and the guard bytes are as they were.
 fn assert_left(framed: &[u8], expected: &[u8], put: fmt::Arguments<'_>) {
     assert_eq!(guarded_output(framed, put), expected, "the output of {put}");
+}
+
+/// What a list of a length holds before a call.
+fn untouched<N: Number>(room: usize) -> Vec<N> {
+    vec![N::of_bytes(UNTOUCHED); room]
+}
+
+/// A list of a length, untouched, with guard numbers before it and nothing mapped behind it.
+fn framed_numbers<N: Number>(output: &mut Guarded, room: usize) -> &mut [N] {
+    let framed = output.last_numbers(GUARD + room);
+    framed.fill(N::of_bytes(UNTOUCHED));
+    framed[..GUARD].fill(N::of_bytes(GUARD_BYTE));
+    framed
+}
+
+/// The list holds what is expected, and the guard numbers are as they were.
+fn assert_numbers_left<N: Number>(framed: &[N], expected: &[N], put: fmt::Arguments<'_>) {
+    let (guard, list) = framed.split_at(GUARD);
+    assert_eq!(list, expected, "a list of {put}");
+    let unchanged = guard.iter().all(|it| *it == N::of_bytes(GUARD_BYTE));
+    assert!(unchanged, "written before a list of {put}");
 }
 
 /// The output, whose guard bytes are as they were.

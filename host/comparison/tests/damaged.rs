@@ -8,7 +8,7 @@ use comparison::library::{
 use comparison::made;
 use comparison::random::{seed, Random};
 use comparison::spelling::{number, sized, unpadded, with_one_padded, LONGEST_NUMBER};
-use comparison::tally::{Tally, WIDE_QUESTIONS};
+use comparison::tally::{Tally, Way, LISTING, WIDE_QUESTIONS};
 use std::collections::BTreeMap;
 
 /// The id of the subsection with the module's name.
@@ -66,6 +66,10 @@ fn small(make: impl Fn(&mut Random) -> Vec<u8>, r: &mut Random) -> Vec<u8> {
     }
 }
 
+/// How often each call that lists is answered in each of these ways at least.
+const LEAST_LISTED: u64 = 100;
+const WAYS: [Way; 3] = [Way::Rows, Way::Refused, Way::TooShort];
+
 #[test]
 fn name_payloads() {
     let mut r = Random::new(seed());
@@ -76,6 +80,7 @@ fn name_payloads() {
         }
     }
     println!("compared {} calls", tally.calls);
+    tally.assert_rows_met(&LISTING[..2], &WAYS, LEAST_LISTED);
     assert!(
         tally.calls >= 400_000,
         "only {} calls were compared",
@@ -93,6 +98,7 @@ fn metadata_payloads() {
         }
     }
     println!("compared {} calls", tally.calls);
+    tally.assert_rows_met(&LISTING[2..4], &WAYS, LEAST_LISTED);
     assert!(
         tally.calls >= 100_000,
         "only {} calls were compared",
@@ -115,6 +121,7 @@ fn old_hint_payloads() {
     }
     println!("compared {} calls", tally.calls);
     tally.assert_old_met(&[NONE, REFUSED, UNLIKELY, LIKELY], LEAST);
+    tally.assert_rows_met(&LISTING[4..], &WAYS, LEAST_LISTED);
 }
 
 /// A module with hints of both editions, and the same hints in the one and in the other.

@@ -6,7 +6,7 @@ use comparison::library::{
 };
 use comparison::markers::Markers;
 use comparison::random::{seed, Random};
-use comparison::tally::{Judged, Said, Tally, HINTS, NAMES, OLD_HINTS};
+use comparison::tally::{Judged, Said, Tally, Way, HINTS, LISTING, NAMES, OLD_HINTS};
 use second_reader::{Kind, Why};
 use std::collections::BTreeMap;
 use std::fmt::Write;
@@ -33,6 +33,9 @@ const ANSWERED_WIDELY: (usize, usize) = (30, 1_170);
 const ANSWERED_OF_OLD: (usize, usize) = (4, 13);
 /// How many functions and locals are asked why they have no name: 1,087 that have one, and the two beside each.
 const ASKED_WHY: usize = 3 * 1_087;
+
+/// How often each call that lists finds rows at least, is refused the payload, and is refused a list.
+const LEAST_LISTED: u64 = 4;
 
 /// Those with a name section, accepted or not.
 const WITH_NAMES: usize = 60;
@@ -186,6 +189,8 @@ fn calls() {
             }
         }
     }
+    let ways = [Way::Rows, Way::Refused, Way::TooShort];
+    tally.assert_rows_met(&LISTING, &ways, LEAST_LISTED);
     println!("compared {} calls", tally.calls);
 }
 

@@ -5,7 +5,7 @@ use comparison::made;
 use comparison::markers::Markers;
 use comparison::random::{seed, Random};
 use comparison::spelling::{sized, unpadded};
-use comparison::tally::{Tally, WIDE_QUESTIONS};
+use comparison::tally::{Tally, Way, LISTING, WIDE_QUESTIONS};
 
 /// How many inputs of each kind are made.
 const ROUNDS: u64 = 700;
@@ -15,6 +15,9 @@ const LEAST_OF_EACH: u64 = 200;
 
 /// The same in the wider edition, which refuses more; and how often each of its questions is answered in each way.
 const LEAST_WIDE: u64 = 50;
+
+/// How many payloads, or subsections of them, have no rows at least.
+const LEAST_WITHOUT_ROWS: u64 = 30;
 
 /// How often each reason for no name is given at least. The fewest are those for maps without any index.
 const LEAST_REASONS: u64 = 50;
@@ -51,6 +54,9 @@ fn payloads_and_modules() {
         assert!(said.not_canonical >= LEAST_OF_EACH, "{said:?}");
     }
     tally.assert_old_met(&[NONE, UNLIKELY, LIKELY], LEAST_OF_EACH);
+    let ways = [Way::Rows, Way::TooShort];
+    tally.assert_rows_met(&LISTING, &ways, LEAST_OF_EACH);
+    tally.assert_rows_met(&LISTING, &[Way::NoRows], LEAST_WITHOUT_ROWS);
     let told = [FOUND, NO_SUBSECTION, NO_GROUP, NO_ENTRY];
     tally.assert_why_met(&told, LEAST_REASONS);
     let said = tally.wide_said;

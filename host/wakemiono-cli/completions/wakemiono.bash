@@ -8,13 +8,13 @@ _wakemiono() {
     elif [[ $before == '=' ]]; then
         before=${COMP_WORDS[COMP_CWORD - 2]}
     fi
-    local commands='list names name why hints canon join same judge'
+    local commands='list names name why hints metadata canon join same judge'
     COMPREPLY=()
     case $before in
     --kind) choices='module function type tag local field kept table memory global element data label' ;;
     # Files are what bash completes by itself where there are no other choices.
     -o | --beside) return ;;
-    --function | --local | --label | --type | --field | --tag | --table | --memory | --global | --element | --data | --kept)
+    --format | --function | --local | --label | --type | --field | --tag | --table | --memory | --global | --element | --data | --kept)
         compopt +o default
         return
         ;;
@@ -27,6 +27,7 @@ _wakemiono() {
         *:name) choices='--json --wide --module --function --local --label --type --field --tag --table --memory --global --element --data --kept --beside --help' ;;
         *:why) choices='--json --wide --function --local --help' ;;
         *:hints) choices='--json --help' ;;
+        *:metadata) choices='--json --format --help' ;;
         *:canon) choices='--json --wide --old-hints --in-module -o --help' ;;
         *:join) choices='--json --wide -o --help' ;;
         *:same) choices='--json --wide --all --help' ;;

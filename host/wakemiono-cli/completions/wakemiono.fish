@@ -17,12 +17,13 @@ complete -c wakemiono -n __wakemiono_without_command -a names -d 'list all names
 complete -c wakemiono -n __wakemiono_without_command -a name -d 'print one name'
 complete -c wakemiono -n __wakemiono_without_command -a why -d 'say why a function or a local has no name'
 complete -c wakemiono -n __wakemiono_without_command -a hints -d 'list all branch hints, of both editions'
+complete -c wakemiono -n __wakemiono_without_command -a metadata -d 'list all code metadata, of any format'
 complete -c wakemiono -n __wakemiono_without_command -a canon -d 'make the canonical form of the names, or of older hints'
 complete -c wakemiono -n __wakemiono_without_command -a join -d 'join names that came apart from a module and its own'
 complete -c wakemiono -n __wakemiono_without_command -a same -d 'say whether two modules have the same names'
 complete -c wakemiono -n __wakemiono_without_command -a judge -d 'say whether all is accepted, canonical, and hints on branches'
 complete -c wakemiono -n __wakemiono_without_command -a help -d 'say more of one command'
-complete -c wakemiono -n '__wakemiono_with help' -f -a 'list names name why hints canon join same judge'
+complete -c wakemiono -n '__wakemiono_with help' -f -a 'list names name why hints metadata canon join same judge'
 
 complete -c wakemiono -n '__wakemiono_with list' -l json -d 'one JSON value on one line, for programs'
 
@@ -54,6 +55,9 @@ complete -c wakemiono -n '__wakemiono_with why' -l function -x -d 'the function 
 complete -c wakemiono -n '__wakemiono_with why' -l local -x -d 'the local with an index in the function'
 
 complete -c wakemiono -n '__wakemiono_with hints' -l json -d 'one JSON value on one line, for programs'
+
+complete -c wakemiono -n '__wakemiono_with metadata' -l json -d 'one JSON value on one line, for programs'
+complete -c wakemiono -n '__wakemiono_with metadata' -l format -x -d 'only the section of a format'
 
 complete -c wakemiono -n '__wakemiono_with canon' -l json -d 'one JSON value on one line, for programs'
 complete -c wakemiono -n '__wakemiono_with canon' -l wide -d 'ask the wider edition of names'

@@ -25,6 +25,9 @@ const ALL: &str = "--all";
 /// The option that asks for the hints of the older edition.
 const OLD_HINTS: &str = "--old-hints";
 
+/// The option that names a format of code metadata.
+const FORMAT: &str = "--format";
+
 /// The option that asks for the whole module with canonical names in it.
 const IN_MODULE: &str = "--in-module";
 
@@ -63,6 +66,8 @@ pub enum Command {
     Why(OsString, FunctionIndex, Option<LocalIndex>),
     /// All branch hints of a module.
     Hints(OsString),
+    /// All code metadata of a module, or that of one format.
+    Metadata(OsString, Option<OsString>),
     /// The canonical name payload, written to a file where one is given.
     Canon(OsString, Option<OsString>),
     /// The same in the place of the payload: the whole module.
@@ -91,6 +96,8 @@ pub enum Topic {
     Why,
     /// `hints`
     Hints,
+    /// `metadata`
+    Metadata,
     /// `canon`
     Canon,
     /// `join`
@@ -103,12 +110,13 @@ pub enum Topic {
 
 impl Topic {
     /// Every command, in the order in which they are explained.
-    pub const ALL: [Topic; 9] = [
+    pub const ALL: [Topic; 10] = [
         Topic::List,
         Topic::Names,
         Topic::Name,
         Topic::Why,
         Topic::Hints,
+        Topic::Metadata,
         Topic::Canon,
         Topic::Join,
         Topic::Same,
@@ -123,6 +131,7 @@ impl Topic {
             Topic::Name => "name",
             Topic::Why => "why",
             Topic::Hints => "hints",
+            Topic::Metadata => "metadata",
             Topic::Canon => "canon",
             Topic::Join => "join",
             Topic::Same => "same",
@@ -139,6 +148,7 @@ impl Topic {
             Topic::Join => (&["--json", "--wide"], &["-o"]),
             Topic::Same => (&["--json", "--wide", ALL], &[]),
             Topic::Judge => (&["--json", "--wide"], &[]),
+            Topic::Metadata => (&["--json"], &[FORMAT]),
             Topic::List | Topic::Hints => (&["--json"], &[]),
         };
         Takes { flags, valued }
@@ -217,6 +227,7 @@ fn run(topic: Topic, words: &[OsString]) -> Result<Invocation, String> {
         Topic::Name => name(&given, wide)?,
         Topic::Why => why(&given)?,
         Topic::Hints => Command::Hints(one_file(&given)?),
+        Topic::Metadata => metadata(&given)?,
         Topic::Canon => canon(&given)?,
         Topic::Join => join(&given)?,
         Topic::Same => same(&given)?,
@@ -258,6 +269,11 @@ fn why(given: &Given) -> Result<Command, String> {
     let file = one_file(given)?;
     let (function, local) = asked::function_or_local(given)?;
     Ok(Command::Why(file, function, local))
+}
+
+fn metadata(given: &Given) -> Result<Command, String> {
+    let (file, format) = (one_file(given)?, given.value(FORMAT));
+    Ok(Command::Metadata(file, format.map(OsStr::to_owned)))
 }
 
 fn canon(given: &Given) -> Result<Command, String> {

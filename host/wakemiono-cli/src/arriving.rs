@@ -69,7 +69,7 @@ impl<E: Edition> Arrived<E> {
     /// Reads a file, or standard input for `-`, and keeps what is wanted.
     pub fn read(file: &OsStr, wanted: &[Wanted]) -> Result<Arrived<E>, Failure> {
         let source = Source::of(file);
-        let arriving = source.read(|from| Arriving::copied(from, wanted))?;
+        let arriving = source.read(|from, _| Arriving::copied(from, wanted))?;
         Arrived::of(source, arriving)
     }
 

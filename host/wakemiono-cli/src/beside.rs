@@ -2,7 +2,7 @@
 
 use std::ffi::OsStr;
 
-use wakemiono::{NamePayload, Pair, Refusal, Supplied, Whose};
+use wakemiono::{Name, NamePayload, Pair, Refusal, Whose};
 
 use crate::edition::Edition;
 use crate::input::Input;
@@ -57,16 +57,22 @@ impl<E: Edition> Beside<E> {
     ) -> Result<Option<Found<'a>>, Failure> {
         // What was accepted is not refused now.
         let supplied = E::ask_pair(question, pair).map_err(|_| Failure::Misfit)?;
-        Ok(supplied.map(|name| match name {
-            Supplied::Separate(name) => {
-                let answer = Answer::new(question, self.names.bytes(), name);
-                (Whose::Separate, answer)
-            }
-            Supplied::Own(name) => {
-                let answer = Answer::new(question, self.module.bytes(), name);
-                (Whose::Own, answer)
-            }
+        Ok(supplied.map(|name| {
+            let whose = name.whose();
+            (whose, self.answer(question, whose, name.into_inner()))
         }))
+    }
+
+    /// What was found in one of the two files.
+    pub fn answer<'a>(&'a self, question: Question, whose: Whose, found: Name<'a>) -> Answer<'a> {
+        Answer::new(question, self.input(whose).bytes(), found)
+    }
+
+    fn input(&self, whose: Whose) -> &Input<E> {
+        match whose {
+            Whose::Separate => &self.names,
+            Whose::Own => &self.module,
+        }
     }
 
     /// What JSON says first: both files, and the edition where that is said.
@@ -76,13 +82,9 @@ impl<E: Edition> Beside<E> {
     }
 
     fn accepted<T>(&self, whose: Whose, answer: Result<T, Refusal>) -> Result<T, Failure> {
-        let input = match whose {
-            Whose::Separate => &self.names,
-            Whose::Own => &self.module,
-        };
         let members = || [self.members(), vec![member(whose)]].concat();
         answer.map_err(|refusal| {
-            let refused = input.refused(refusal).among(members());
+            let refused = self.input(whose).refused(refusal).among(members());
             Failure::Refused(Box::new(refused))
         })
     }

@@ -1,7 +1,10 @@
 //! The editions of names, with what this program must know of each.
 
-use wakemiono::{First, Module, Name, Pair, PairRefusal, Refusal, SuppliedName, Wider};
+use wakemiono::{
+    First, Module, Name, NamePayload, Pair, PairRefusal, Refusal, SuppliedName, Wider,
+};
 
+use crate::entries::{Rows, Subsection};
 use crate::json::Json;
 use crate::question::{Kind, Question};
 
@@ -21,6 +24,9 @@ pub trait Edition: wakemiono::Edition {
         question: Question,
         pair: Pair<'s, 'o, Self>,
     ) -> Result<Option<SuppliedName<'s, 'o>>, PairRefusal>;
+
+    /// All that a payload has in a subsection. What only another edition knows gets nothing.
+    fn rows(of: Subsection, payload: NamePayload<'_, Self>) -> Result<Rows<'_>, Refusal>;
 
     /// What the subsection with an id holds.
     fn kind(id: u8) -> Kind {
@@ -71,6 +77,52 @@ macro_rules! ask_in_wider {
     };
 }
 
+/// Rows of names that have one index.
+macro_rules! by_index {
+    ($names:expr, $question:path) => {
+        Ok(Box::new(
+            $names?.map(|(index, name)| ($question(index), name)),
+        ))
+    };
+}
+
+/// Rows of names that have an index within another.
+macro_rules! by_two_indices {
+    ($names:expr, $question:path) => {
+        Ok(Box::new($names?.map(|((outer, inner), name)| {
+            ($question(outer, inner), name)
+        })))
+    };
+}
+
+/// Lists a subsection of a kind that both editions have; there is nothing of the others.
+fn list_in_both<E: Edition>(
+    of: Subsection,
+    payload: NamePayload<'_, E>,
+) -> Result<Rows<'_>, Refusal> {
+    match of.kind {
+        Kind::Module => {
+            let name = payload.module_name()?;
+            Ok(Box::new(
+                name.map(|name| (Question::Module, name)).into_iter(),
+            ))
+        }
+        Kind::Function => by_index!(payload.function_names(), Question::Function),
+        Kind::Type => by_index!(payload.type_names(), Question::Type),
+        Kind::Tag => by_index!(payload.tag_names(), Question::Tag),
+        Kind::Local => by_two_indices!(payload.local_names(), Question::Local),
+        Kind::Field => by_two_indices!(payload.field_names(), Question::Field),
+        Kind::Kept => {
+            let contents = payload.kept(of.id)?.map(Name::from);
+            let question = Question::Kept(of.id);
+            Ok(Box::new(
+                contents.map(|contents| (question, contents)).into_iter(),
+            ))
+        }
+        _ => Ok(Box::new([].into_iter())),
+    }
+}
+
 impl Edition for First {
     const KNOWN: &'static [(u8, Kind)] = &[
         (0, Kind::Module),
@@ -92,6 +144,10 @@ impl Edition for First {
         pair: Pair<'s, 'o, First>,
     ) -> Result<Option<SuppliedName<'s, 'o>>, PairRefusal> {
         ask_in_both!(question, pair)
+    }
+
+    fn rows(of: Subsection, payload: NamePayload<'_, First>) -> Result<Rows<'_>, Refusal> {
+        list_in_both(of, payload)
     }
 }
 
@@ -122,6 +178,18 @@ impl Edition for Wider {
         pair: Pair<'s, 'o, Wider>,
     ) -> Result<Option<SuppliedName<'s, 'o>>, PairRefusal> {
         ask_in_wider!(question, pair)
+    }
+
+    fn rows(of: Subsection, payload: NamePayload<'_, Wider>) -> Result<Rows<'_>, Refusal> {
+        match of.kind {
+            Kind::Label => by_two_indices!(payload.label_names(), Question::Label),
+            Kind::Table => by_index!(payload.table_names(), Question::Table),
+            Kind::Memory => by_index!(payload.memory_names(), Question::Memory),
+            Kind::Global => by_index!(payload.global_names(), Question::Global),
+            Kind::Element => by_index!(payload.element_names(), Question::Element),
+            Kind::Data => by_index!(payload.data_names(), Question::Data),
+            _ => list_in_both(of, payload),
+        }
     }
 }
 

@@ -15,6 +15,7 @@ Usage: wakemiono COMMAND FILE [OPTIONS]        FILE may be - for standard input
   name FILE         one name
   why FILE          why a function or a local has no name
   hints FILE        all branch hints, of both editions
+  metadata FILE     all code metadata, of any format
   canon FILE        the canonical form of the names, or of older hints
   join FILE NAMES   names that came apart from a module and its own, in one
   same A B          whether two modules have the same names
@@ -67,10 +68,6 @@ does not know, shown as it is.
 
 Where the first edition has kept 3 and 5 to 9, the wider one has names: label with two indices (its
 function first), and table, memory, global, element and data with one.
-
-Each name is one question to the whole module, so that the time grows with the square of their
-number: on two processors 20,000 names took 3 seconds, and 50,000 took 16. --kind asks for fewer,
-and `wakemiono name` for one.
 
   --kind KIND      only the names of a kind: module, function, type, tag, local, field or kept; with
                    --wide also table, memory, global, element, data or label
@@ -177,6 +174,26 @@ Example: wakemiono hints app.wasm
   2 5 likely
   branchHints
   2 3 unlikely
+";
+
+const METADATA: &str = "\
+Lists all code metadata of a module, that of each format under the name of its section.
+
+Usage: wakemiono metadata FILE [--format NAME] [--json]
+
+The name of a section is a line of its own: `metadata.code.` and the format. Behind it each line is
+`FUNCTION OFFSET PLACE LENGTH BYTES`: the offset is a place in the function's code, counted from its
+declaration of locals; PLACE is where the data lies, counted from the start of the module, and LENGTH
+how many bytes it has, which stand behind it in hexadecimal. Of several sections with one name the
+first is listed. The format branch_hint is judged as branch hints are; `wakemiono hints` says what they
+mean.
+
+  --format NAME   only the section metadata.code.NAME
+
+Example: wakemiono metadata app.wasm
+  metadata.code.trace
+  2 5 35 2 61 62
+  2 9 39 0
 ";
 
 const CANON: &str = "\
@@ -300,6 +317,7 @@ const fn plain(topic: Option<Topic>) -> &'static str {
         Some(Topic::Name) => NAME,
         Some(Topic::Why) => WHY,
         Some(Topic::Hints) => HINTS,
+        Some(Topic::Metadata) => METADATA,
         Some(Topic::Canon) => CANON,
         Some(Topic::Join) => JOIN,
         Some(Topic::Same) => SAME,

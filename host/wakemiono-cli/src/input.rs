@@ -34,17 +34,17 @@ impl<E: Edition> Source<E> {
         }
     }
 
-    /// What is made of all that can be read there.
+    /// What is made of all that can be read there, which may be known to have a length.
     pub fn read<T>(
         &self,
-        reading: impl FnOnce(&mut dyn Read) -> io::Result<T>,
+        reading: impl FnOnce(&mut dyn Read, Option<u64>) -> io::Result<T>,
     ) -> Result<T, Failure> {
         let read = if self.file == STANDARD_STREAM {
-            reading(&mut Counted::new(io::stdin().lock(), None))
+            reading(&mut Counted::new(io::stdin().lock(), None), None)
         } else {
             File::open(&self.file).and_then(|file| {
                 let length = length(&file)?;
-                reading(&mut Counted::new(file, length))
+                reading(&mut Counted::new(file, length), length)
             })
         };
         read.map_err(|error| Failure::Misuse(unreadable(&quoted_label(&self.file), &error)))
@@ -138,8 +138,12 @@ fn quoted_label(file: &OsStr) -> String {
     }
 }
 
-fn read_all(from: &mut dyn Read) -> io::Result<Vec<u8>> {
+fn read_all(from: &mut dyn Read, length: Option<u64>) -> io::Result<Vec<u8>> {
     let mut bytes = Vec::new();
+    // So that nothing is copied while it grows, and a file that is too large for memory is told.
+    if let Some(length) = length.and_then(|length| usize::try_from(length).ok()) {
+        bytes.try_reserve_exact(length)?;
+    }
     from.read_to_end(&mut bytes)?;
     Ok(bytes)
 }

@@ -5,7 +5,7 @@
 //! sections that it lists are found here: plain Rust (`heads.rs`), which steps over a module that the
 //! library accepts and counts, and is held to the library's `wm_section` by tests. So is the place found
 //! where `canon --in-module` puts canonical names (`in_place.rs`), and the library is asked whether what
-//! is made has them. This program only reads and writes files, finds out what there is to ask, and sets the answers in lines or JSON.
+//! is made has them. This program only reads and writes files, asks, and sets the answers in lines or JSON.
 //!
 //! `list` and `judge` give a module to the library as it is read and do not hold it whole
 //! (`arriving.rs`); the others ask more than one question, and read it whole first (`input.rs`).
@@ -16,10 +16,10 @@
 mod arguments;
 mod arriving;
 mod beside;
-mod canonical;
 mod commands;
 mod dump;
 mod edition;
+mod entries;
 mod escape;
 mod excerpt;
 mod heads;
@@ -27,9 +27,9 @@ mod help;
 mod in_place;
 mod input;
 mod json;
+mod listing;
 mod options;
 mod output;
-mod parallel;
 mod payloads;
 mod printer;
 mod progress;
@@ -49,7 +49,7 @@ use report::Report;
 use terminal::Style;
 
 fn main() -> ExitCode {
-    let printer = Printer::new();
+    let mut printer = Printer::new();
     let report = match arguments::parse(env::args_os().skip(1)) {
         Ok(Invocation::Help(topic)) => Report::good(help::text(topic, Style::of_output())),
         Ok(Invocation::Version) => Report::good(format!("wakemiono {}\n", version())),
@@ -57,7 +57,8 @@ fn main() -> ExitCode {
             command,
             wide,
             json,
-        }) => commands::run(&command, wide, json).unwrap_or_else(|failure| failure.report(json)),
+        }) => commands::run(&command, wide, json, &mut printer)
+            .unwrap_or_else(|failure| failure.report(json)),
         Err(misuse) => Report::misuse(&misuse),
     };
     report.deliver(printer)

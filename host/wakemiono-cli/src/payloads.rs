@@ -10,6 +10,9 @@ use crate::report::Failure;
 /// The name of the section with names.
 pub const NAMES: &str = "name";
 
+/// How the names of sections with code metadata begin; the format stands behind it.
+pub const METADATA: &str = "metadata.code.";
+
 /// The name of the section with branch hints.
 pub const HINTS: &str = "metadata.code.branch_hint";
 
@@ -47,12 +50,6 @@ pub fn canonical_names<E: Edition>(
     canonical
         .map(Option::unwrap_or_default)
         .map_err(|_| Failure::Misfit)
-}
-
-/// The canonical form of accepted hints; none without the section.
-pub fn canonical_hints(payload: Option<Hints<'_>>) -> Result<Option<Vec<u8>>, Failure> {
-    let canonical = payload.map(|payload| payload.to_canonical()).transpose();
-    canonical.map_err(|_| Failure::Misfit)
 }
 
 /// The canonical form of accepted hints of the older edition. That of no section is the one that has

@@ -1,4 +1,4 @@
-//! Reading left to right: bytes, numbers and sized parts; and how a number is written.
+//! Reading left to right: bytes and numbers; and how a number is written.
 
 /// The most bytes that a number takes.
 pub const LONGEST_NUMBER: usize = 5;
@@ -16,12 +16,7 @@ const GOES_ON: u8 = 0x80;
 #[derive(Clone, Copy, Debug)]
 pub struct Reader<'a>(pub &'a [u8]);
 
-impl<'a> Reader<'a> {
-    /// Whether there is nothing more.
-    pub fn is_at_end(&self) -> bool {
-        self.0.is_empty()
-    }
-
+impl Reader<'_> {
     /// The next byte.
     pub fn byte(&mut self) -> Option<u8> {
         let (first, rest) = self.0.split_first()?;
@@ -40,14 +35,6 @@ impl<'a> Reader<'a> {
             }
         }
         None
-    }
-
-    /// A number, and that many bytes.
-    pub fn sized(&mut self) -> Option<&'a [u8]> {
-        let length = usize::try_from(self.number()?).ok()?;
-        let part = self.0.get(..length)?;
-        self.0 = &self.0[length..];
-        Some(part)
     }
 }
 

@@ -6,8 +6,8 @@ use std::fs;
 use std::path::Path;
 
 use common::{
-    custom, fed, file, hinted, hinted_code, joined, json, long_named, meaning, named, old_hinted,
-    path, run, BARE, EVERY_KIND, MODULE,
+    custom, fed, file, hinted, hinted_code, joined, json, long_named, named, old_hinted, path, run,
+    told_apart, BARE, EVERY_KIND, MODULE,
 };
 
 #[test]
@@ -154,20 +154,6 @@ fn names_that_are_not_there() {
     );
     let json = "{\"file\":\"-\",\"names\":[]}";
     fed(&["names", "-", "--json"], BARE).is_json(0, json);
-}
-
-#[test]
-fn many_names_are_listed_in_their_order() {
-    let names = (0..500).map(|index| format!("f{index}"));
-    let pairs = (0..).map(wakemiono::FunctionIndex).zip(names.clone());
-    let payload = wakemiono::function_names(pairs).unwrap();
-    let listed = fed(&["names", "-"], &long_named(&payload));
-    assert_eq!(listed.status, 0);
-    let last_words = listed
-        .out()
-        .lines()
-        .map(|line| line.rsplit(' ').next().unwrap());
-    assert!(last_words.eq(names));
 }
 
 #[test]
@@ -396,38 +382,26 @@ fn same_without_a_name_section_is_same_as_no_names() {
     fed(&["same", &bare, "-"], &named(b"\x01\x01\x00")).prints("same\n");
 }
 
-/// The lines for two payloads that are not the same, without the names of the files.
-fn told_apart(name: &str, a: &[u8], b: &[u8]) -> String {
-    let file = file(name, &named(a));
-    let compared = fed(&["same", &file, "-"], &named(b));
-    assert_eq!(compared.status, 1);
-    assert_eq!(compared.said, meaning(compared.out()));
-    compared
-        .out()
-        .replace(&file, "a")
-        .replace("standard input", "b")
-}
-
 #[test]
 fn not_the_same_gives_the_first_question_and_both_answers() {
     let p = &MODULE[15..];
     let other_name = b"\x00\x02\x01m\x01\x07\x02\x00\x01a\x03\x01c";
     let lines = "not the same\nfunction 3\na: b\nb: c\n";
-    assert_eq!(told_apart("apart-name", p, other_name), lines);
+    assert_eq!(told_apart("apart-name", &[], p, other_name), lines);
     let lines = "not the same\nfunction 0\na: none\nb: a\n";
     assert_eq!(
-        told_apart("apart-first", b"\x01\x04\x01\x03\x01b", SHORTEST),
+        told_apart("apart-first", &[], b"\x01\x04\x01\x03\x01b", SHORTEST),
         lines
     );
     let lines = "not the same\nlocal 3 0\na: x\nb: none\n";
-    assert_eq!(told_apart("apart-end", p, &p[..13]), lines);
+    assert_eq!(told_apart("apart-end", &[], p, &p[..13]), lines);
     let lines = "not the same\nkept 3\na: none\nb: \\xFF\n";
     assert_eq!(
-        told_apart("apart-kept", b"\x04\x04\x01\x02\x01t", b"\x03\x01\xFF"),
+        told_apart("apart-kept", &[], b"\x04\x04\x01\x02\x01t", b"\x03\x01\xFF"),
         lines
     );
     let lines = "not the same\nmodule\na: none\nb: \n";
-    assert_eq!(told_apart("apart-empty", b"", b"\x00\x01\x00"), lines);
+    assert_eq!(told_apart("apart-empty", &[], b"", b"\x00\x01\x00"), lines);
 }
 
 #[test]

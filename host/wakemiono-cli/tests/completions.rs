@@ -161,6 +161,9 @@ fn all_are_installed() {
         "completions/_wakemiono",
         "completions/wakemiono.fish",
     ] {
-        assert!(INSTALL.contains(&format!("\nlay {file} ")), "{file}");
+        assert!(
+            INSTALL.contains(&format!("\ncp $of_command/{file} ")),
+            "{file}"
+        );
     }
 }

@@ -21,10 +21,12 @@ fn examples_print_what_they_say() {
     let newer = common::hinted(b"\x01\x02\x01\x05\x01\x01");
     let older = common::old_hinted(b"\x01\x02\x00\x01\x00\x03");
     let hinted = common::joined(&newer, &older);
+    let traced = common::custom("metadata.code.trace", b"\x01\x02\x02\x05\x02ab\x09\x00");
     for (name, module) in [
         ("app.wasm", MODULE),
         ("wide.wasm", WIDE),
         ("hinted.wasm", &hinted),
+        ("traced.wasm", &traced),
         ("bare.wasm", BARE),
         ("later.wasm", NO_SUCH_SECTION),
         ("app.names", NAMES),

@@ -64,7 +64,7 @@ fn version() {
 }
 
 const LIST_OF_COMMANDS: &str =
-    "give one of list, names, name, why, hints, canon, join, same, judge; see `wakemiono --help`.";
+    "give one of list, names, name, why, hints, metadata, canon, join, same, judge; see `wakemiono --help`.";
 
 #[test]
 fn no_such_command() {
@@ -196,7 +196,7 @@ fn files_that_cannot_be_read() {
     let missing = path("there-is-no-such-file");
     let sentence =
         format!("there is no file '{missing}': check the path, or give - for standard input.");
-    for command in ["list", "names", "hints", "canon", "judge"] {
+    for command in ["list", "names", "hints", "metadata", "canon", "judge"] {
         run(&[command, &missing]).is_misuse(&sentence);
     }
     run(&["name", &missing, "--module", "--json"]).is_misuse(&sentence);

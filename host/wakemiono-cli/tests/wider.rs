@@ -5,7 +5,8 @@ mod common;
 use std::fs;
 
 use common::{
-    fed, file, meaning, named, path, run, ASK_NAMES, BARE, COMMANDS, EVERY_WIDE_KIND, MODULE, WIDE,
+    fed, file, named, path, run, told_apart, ASK_NAMES, BARE, COMMANDS, EVERY_WIDE_KIND, MODULE,
+    WIDE,
 };
 
 /// An empty map of globals, which the wider edition drops and the first keeps.
@@ -107,21 +108,6 @@ fn same_compares_within_the_edition() {
     let shortest = named(b"\x07\x04\x01\x03\x01g");
     fed(&["same", &padded, "-", "--wide"], &shortest).prints("same\n");
     assert_eq!(fed(&["same", &padded, "-"], &shortest).status, 1);
-}
-
-/// The lines for two payloads that are not the same, without the names of the files.
-fn told_apart(name: &str, options: &[&str], a: &[u8], b: &[u8]) -> String {
-    let file = file(name, &named(a));
-    let compared = fed(
-        &[&["same", file.as_str(), "-"], options].concat(),
-        &named(b),
-    );
-    assert_eq!(compared.status, 1);
-    assert_eq!(compared.said, meaning(compared.out()));
-    compared
-        .out()
-        .replace(&file, "a")
-        .replace("standard input", "b")
 }
 
 #[test]

@@ -19,8 +19,18 @@ impl Answer {
         Ok(found.then(|| self.place(lent)))
     }
 
+    /// Something found at a place.
+    pub(crate) const fn found(offset: u64, length: u64) -> Answer {
+        Answer {
+            kind: FOUND,
+            code: 0,
+            offset,
+            length,
+        }
+    }
+
     /// Where something lies that was found.
-    fn place(self, lent: &[u8]) -> &[u8] {
+    pub(crate) fn place(self, lent: &[u8]) -> &[u8] {
         let place = || {
             let from = usize::try_from(self.offset).ok()?;
             let length = usize::try_from(self.length).ok()?;
@@ -73,6 +83,24 @@ impl Answer {
     /// The same of a call on lists, whose refusals count other things than bytes.
     pub(crate) fn written_from_lists(self, out_len: usize) -> Result<usize, Refusal> {
         self.written(out_len).map_err(in_lists)
+    }
+
+    /// How many rows there are to list, of a call that was lent no room for any.
+    pub(crate) fn row_count(self) -> Result<usize, Refusal> {
+        match self.is_found() {
+            Ok(false) => Ok(0),
+            Ok(true) if self.length == 0 => Ok(0),
+            Ok(true) => self.misfit(),
+            Err(refusal) if refusal.reason() == Reason::OutputTooShort => {
+                usize::try_from(refusal.offset()).map_err(|_| refusal)
+            }
+            Err(refusal) => Err(refusal),
+        }
+    }
+
+    /// Whether all rows were listed, of which there are so many.
+    pub(crate) fn filled(self, count: usize) -> Result<(), Refusal> {
+        self.taken(count)
     }
 
     /// How many markers were written into lists that have room for so many, and where the subsection
@@ -375,6 +403,27 @@ mod tests {
     #[should_panic(expected = "is it of another version?")]
     fn what_cannot_be_refused_is_not() {
         let _ = answer(REFUSED, 22, 0, 0).part_unrefused(&[1, 2, 3, 4]);
+    }
+
+    #[test]
+    fn rows_are_counted_by_a_refusal() {
+        assert_eq!(answer(REFUSED, 13, 7, 0).row_count(), Ok(7));
+        assert_eq!(answer(FOUND, 0, 0, 0).row_count(), Ok(0));
+        assert_eq!(answer(NONE, 0, 0, 0).row_count(), Ok(0));
+        let refusal = answer(REFUSED, 11, 5, 0).row_count().unwrap_err();
+        assert_eq!((refusal.number(), refusal.offset()), (11, 5));
+    }
+
+    #[test]
+    #[should_panic(expected = "is it of another version?")]
+    fn no_rows_are_listed_without_room() {
+        let _ = answer(FOUND, 0, 0, 1).row_count();
+    }
+
+    #[test]
+    #[should_panic(expected = "is it of another version?")]
+    fn as_many_rows_are_listed_as_were_counted() {
+        let _ = answer(FOUND, 0, 0, 2).filled(3);
     }
 
     #[test]

@@ -1,5 +1,6 @@
 //! The editions of names.
 
+use crate::ffi::entries::ListCalls;
 use crate::ffi::pairs::PairCalls;
 use crate::ffi::NameCalls;
 
@@ -33,7 +34,7 @@ use crate::ffi::NameCalls;
 ///
 /// same(NamePayload::new(&[]), NamePayload::wider(&[]));
 /// ```
-pub trait Edition: NameCalls + PairCalls + Copy + Send + Sync + 'static {}
+pub trait Edition: NameCalls + PairCalls + ListCalls + Copy + Send + Sync + 'static {}
 
 /// The first edition of names. It knows six ids: the module's name (0), functions (1), locals (2),
 /// types (4), fields (10) and tags (11).

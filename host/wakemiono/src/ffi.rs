@@ -1,6 +1,6 @@
 //! The C calls, each behind a safe function on slices. All `unsafe` code of this crate stands here,
-//! and, of the calls on two name payloads, on a module that arrives, on a shared table and of those
-//! that list every entry, in [`pairs`], [`stream`], [`table`] and [`entries`].
+//! and, of the calls on two name payloads, on a module that arrives, on a shared table and that list all
+//! rows, in [`pairs`], [`stream`], [`table`] and [`entries`].
 //!
 //! What every block relies on, as the header `wakemiono.h` states it:
 //!
@@ -12,7 +12,6 @@
 //!   other output overlaps it. A call stores into its outputs and nowhere else, and stores bytes or
 //!   numbers, of which any is a `u8`, a `u32` or a `u64`.
 
-#[allow(dead_code)] // declared as the header has them; the safe functions are to come
 pub(crate) mod entries;
 pub(crate) mod pairs;
 pub(crate) mod stream;

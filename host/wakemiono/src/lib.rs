@@ -22,6 +22,10 @@
 //! [`First`]; [`Module::wider`] and [`NamePayload::wider`] open the [`Wider`], which also has the
 //! names of labels, tables, memories, globals, element segments and data segments.
 //!
+//! All names of a kind are listed by [`NamePayload::function_names`] and its likes, all data by
+//! [`Metadata::items`] and all hints by [`Hints::items`] and [`OldHints::items`]: each judges the payload
+//! first, and gives [`Entries`] to go through.
+//!
 //! Where a function or a local has no name, [`NamePayload::why_function`] and
 //! [`NamePayload::why_local`] say [`Why`], in the first edition.
 //!
@@ -58,6 +62,7 @@
 
 mod answer;
 mod edition;
+mod entries;
 #[allow(unsafe_code)]
 mod ffi;
 mod index;
@@ -78,6 +83,7 @@ mod why;
 mod wider;
 
 pub use edition::{Edition, First, Wider};
+pub use entries::Entries;
 pub use index::{
     CodeOffset, Customer, DataIndex, ElementIndex, FieldIndex, FunctionIndex, GlobalIndex, Hold,
     InstructionOffset, LabelIndex, LocalIndex, MemoryIndex, TableIndex, TagIndex, TypeIndex,

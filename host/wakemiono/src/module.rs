@@ -5,7 +5,8 @@ use std::marker::PhantomData;
 
 use crate::{
     ffi, CodeOffset, Edition, FieldIndex, First, FunctionIndex, Hint, Hints, InstructionOffset,
-    LocalIndex, Name, NamePayload, OldHints, Refusal, Section, Sections, TagIndex, TypeIndex,
+    LocalIndex, Metadata, Name, NamePayload, OldHints, Refusal, Section, Sections, TagIndex,
+    TypeIndex,
 };
 
 /// A whole module, borrowed from the caller, whose names are asked in an [`Edition`]: the first one
@@ -162,6 +163,28 @@ impl<'a, E: Edition> Module<'a, E> {
     /// As [`section_count`](Self::section_count).
     pub fn names(&self) -> Result<Option<NamePayload<'a, E>>, Refusal> {
         Ok(self.custom("name")?.map(NamePayload::in_edition))
+    }
+
+    /// The payload of the first section `metadata.code.T`, where the format is T, not judged yet. Its
+    /// offsets count from its own start.
+    ///
+    /// ```
+    /// use wakemiono::{CodeOffset, FunctionIndex, Module};
+    ///
+    /// let module =
+    ///     Module::new(b"\0asm\x01\0\0\0\x00\x17\x0Fmetadata.code.x\x01\x02\x01\x05\x02ab");
+    /// let metadata = module.code_metadata("x")?.unwrap();
+    /// assert_eq!(metadata.data(FunctionIndex(2), CodeOffset(5))?, Some(&b"ab"[..]));
+    /// assert!(module.code_metadata("y")?.is_none());
+    /// # Ok::<(), wakemiono::Refusal>(())
+    /// ```
+    ///
+    /// # Errors
+    ///
+    /// As [`section_count`](Self::section_count).
+    pub fn code_metadata(&self, format: impl AsRef<[u8]>) -> Result<Option<Metadata<'a>>, Refusal> {
+        let section = [b"metadata.code.", format.as_ref()].concat();
+        Ok(self.custom(section)?.map(Metadata::new))
     }
 
     /// The payload of the section `metadata.code.branch_hint`, not judged yet. Its offsets count

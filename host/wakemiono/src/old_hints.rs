@@ -5,9 +5,6 @@ use std::fmt;
 use crate::answer::is_yes;
 use crate::{ffi, FunctionIndex, Hint, InstructionOffset, Refusal};
 
-/// The fewest bytes of a hint: its kind, and its offset.
-const SHORTEST_HINT: usize = 2;
-
 /// The payload of a section `branchHints`, the older edition of branch hints, borrowed from the
 /// caller.
 ///
@@ -96,41 +93,6 @@ impl<'a> OldHints<'a> {
         at: InstructionOffset,
     ) -> Result<Option<Hint>, Refusal> {
         ffi::old_hint(self.0, function.0, at.0).hint()
-    }
-
-    /// Every place that has a hint, once, by function and then offset, with the hint that
-    /// [`hint`](Self::hint) answers with. All of them are found in one call.
-    ///
-    /// ```
-    /// use wakemiono::{FunctionIndex, Hint, InstructionOffset, OldHints};
-    ///
-    /// let falling = OldHints::new(&[0x01, 0x02, 0x00, 0x03, 0x01, 0x09, 0x00, 0x05, 0x00, 0x09]);
-    /// let entries: Vec<_> = falling.entries()?.collect();
-    /// let at = |at, hint| (FunctionIndex(2), InstructionOffset(at), hint);
-    /// assert_eq!(entries, [at(5, Hint::Unlikely), at(9, Hint::Likely)]);
-    /// # Ok::<(), wakemiono::Refusal>(())
-    /// ```
-    ///
-    /// # Errors
-    ///
-    /// As [`judge`](Self::judge).
-    pub fn entries(
-        &self,
-    ) -> Result<impl Iterator<Item = (FunctionIndex, InstructionOffset, Hint)>, Refusal> {
-        let room = self.0.len() / SHORTEST_HINT;
-        let mut functions = vec![FunctionIndex(0); room];
-        let mut offsets = vec![InstructionOffset(0); room];
-        let mut likely = vec![0; room];
-        let answer =
-            ffi::entries::old_hints_list(self.0, &mut functions, &mut offsets, &mut likely);
-        let rows = answer.written(room)?;
-        let hints = likely.into_iter().map(|likely| match likely {
-            0 => Hint::Unlikely,
-            _ => Hint::Likely,
-        });
-        let pairs = functions.into_iter().zip(offsets).zip(hints);
-        let entries = pairs.map(|((function, at), hint)| (function, at, hint));
-        Ok(entries.take(rows))
     }
 
     /// Writes the canonical form to the front of an output, and answers its length. The rest of the

@@ -51,7 +51,7 @@ pub enum Reason {
     /// size; or one of the older edition has a kind above 1, and the offset is that of the kind.
     NotAHint = 12,
     /// 13: the output is shorter than needed. In place of an offset stands the needed length, of
-    /// markers their number.
+    /// markers and of rows their number.
     OutputTooShort = 13,
     /// 14: the lists disagree: their counts differ, or the lengths do not add up to the text.
     ListsDisagree = 14,

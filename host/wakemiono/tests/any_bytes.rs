@@ -11,9 +11,9 @@ use common::{
     ONLY_WIDER, P, SMALL,
 };
 use wakemiono::{
-    offset_in, CodeOffset, Customer, Edition, First, FunctionIndex, Hints, Hold, LocalIndex,
-    Marked, Metadata, Module, Name, NamePayload, Pair, PairRefusal, Place, Refusal, SharedTable,
-    Stream, SuppliedName, Walked, Whose, Why, Wider,
+    function_names, offset_in, CodeOffset, Customer, Edition, First, FunctionIndex, Hints, Hold,
+    LocalIndex, Marked, Metadata, Module, Name, NamePayload, Pair, PairRefusal, Place, Refusal,
+    SharedTable, Stream, SuppliedName, Walked, Whose, Why, Wider,
 };
 
 type Answers<'a> = Vec<Option<&'a [u8]>>;
@@ -60,7 +60,10 @@ fn names_agree<E: AllQuestions>(bytes: &[u8]) {
         assert_eq!(names_asked(again), Ok(answers));
         assert_eq!(again.to_canonical().as_ref(), Ok(&canonical));
         assert!(again.is_canonical());
+        entries_agree(payload, again);
     }
+    assert_eq!(payload.function_names().map(drop), payload.judge());
+    assert_eq!(payload.field_names().map(drop), payload.judge());
 }
 
 /// What the wider edition accepts is accepted by the first, with the same names and, but for what
@@ -324,6 +327,37 @@ fn branches_agree(module: &Module<'_>) {
             let of_code = [0, 2, 3, 4, 10, 19, 20, 21, 29];
             assert!(of_code.contains(&number), "{number}");
         }
+    }
+}
+
+/// A payload that is accepted and its canonical form have the same entries, in as many as are found when each is asked
+/// for; and the functions among them, written again, are the canonical form of that subsection.
+fn entries_agree<E: AllQuestions>(payload: NamePayload<'_, E>, canonical: NamePayload<'_, E>) {
+    let functions = payload.function_names().expect("it is accepted");
+    assert!(functions
+        .clone()
+        .eq(canonical.function_names().expect("it is accepted")));
+    let locals = payload.local_names().expect("it is accepted");
+    assert!(locals
+        .clone()
+        .eq(canonical.local_names().expect("it is accepted")));
+    let asked = (0..5).map(FunctionIndex).filter_map(|function| {
+        let name = payload.function_name(function).expect("it is accepted")?;
+        Some((function, name))
+    });
+    assert!(asked.eq(functions.clone().filter(|(function, _)| function.0 < 5)));
+    let asked = indices().filter_map(|(function, local)| {
+        let key = (FunctionIndex(function), LocalIndex(local));
+        let name = payload.local_name(key.0, key.1).expect("it is accepted")?;
+        Some((key, name))
+    });
+    assert!(asked.eq(locals.filter(|((function, local), _)| function.0 < 5 && local.0 < 3)));
+    let written = function_names(functions).expect("it was accepted");
+    let mut subsections = canonical.subsections().expect("it is accepted");
+    let contents = subsections.find(|(id, _)| *id == 1);
+    match contents {
+        Some((_, contents)) => assert!(written.ends_with(contents)),
+        None => assert_eq!(written, []),
     }
 }
 

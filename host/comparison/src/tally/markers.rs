@@ -1,18 +1,11 @@
 //! Markers of function names: made into lists of several lengths, and asked by the quick question, by any lists.
 
-use std::fmt;
-
-use super::{Tally, GUARD, GUARD_BYTE, SPARE, UNTOUCHED};
-use crate::guarded::Guarded;
+use super::{assert_numbers_left, framed_numbers, untouched, Tally, GUARD, SPARE};
 use crate::library::{self, Told, FOUND, REFUSED};
 use crate::markers::Markers;
 
 /// The fewest bytes of an entry.
 const SHORTEST_ENTRY: usize = 2;
-
-/// What the lists hold before a call, and the guard numbers before them.
-pub(super) const UNTOUCHED_NUMBER: u32 = u32::from_ne_bytes([UNTOUCHED; 4]);
-const GUARD_NUMBER: u32 = u32::from_ne_bytes([GUARD_BYTE; 4]);
 
 impl Tally {
     /// Makes the markers of a payload, and finds each of these functions by them as in full. They are handed back where
@@ -50,8 +43,8 @@ impl Tally {
         let indices = framed_numbers(&mut self.output, of_indices);
         let offsets = framed_numbers(&mut self.also_output, of_offsets);
         let told = library::markers(lent, &mut indices[GUARD..], &mut offsets[GUARD..]);
-        let mut read_indices = vec![UNTOUCHED_NUMBER; of_indices];
-        let mut read_offsets = vec![UNTOUCHED_NUMBER; of_offsets];
+        let mut read_indices = untouched(of_indices);
+        let mut read_offsets = untouched(of_offsets);
         let read = second_reader::markers(p, &mut read_indices, &mut read_offsets);
         let put = format_args!("markers of {p:02X?} into {of_indices} and {of_offsets}");
         assert_eq!(told, Told::from(read), "{put}");
@@ -107,20 +100,4 @@ impl Tally {
         let fewest = met.found.min(met.none).min(met.refused);
         assert!(fewest >= least, "{met:?}");
     }
-}
-
-/// A list of a length, untouched, with guard numbers before it and nothing mapped behind it.
-pub(super) fn framed_numbers(output: &mut Guarded, room: usize) -> &mut [u32] {
-    let framed = output.last_numbers(GUARD + room);
-    framed.fill(UNTOUCHED_NUMBER);
-    framed[..GUARD].fill(GUARD_NUMBER);
-    framed
-}
-
-/// The list holds what is expected, and the guard numbers are as they were.
-pub(super) fn assert_numbers_left(framed: &[u32], expected: &[u32], put: fmt::Arguments<'_>) {
-    let (guard, list) = framed.split_at(GUARD);
-    assert_eq!(list, expected, "a list of {put}");
-    let unchanged = guard.iter().all(|number| *number == GUARD_NUMBER);
-    assert!(unchanged, "written before a list of {put}");
 }

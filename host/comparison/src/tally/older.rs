@@ -1,8 +1,7 @@
 //! Every call of the older edition of hints.
 
-use super::markers::{assert_numbers_left, framed_numbers, UNTOUCHED_NUMBER};
-use super::{assert_met, judged_in, Judged, Tally, FEW_KEYS, GUARD, OLD_HINTS, SPARE};
-use crate::library::{self, Told};
+use super::{assert_met, judged_in, Judged, Tally, FEW_KEYS, OLD_HINTS};
+use crate::library;
 
 /// Puts one question to both readers, and counts how it was answered.
 macro_rules! meet {
@@ -29,51 +28,7 @@ impl Tally {
             }
         }
         rewrite!(self, p, old_hints_canonical);
-        self.list_old_hints(p);
-    }
-
-    /// Every place that has a hint, into lists that have room for them, that lack room for one, and that have some to
-    /// spare.
-    fn list_old_hints(&mut self, p: &[u8]) {
-        let most = vec![0; p.len()];
-        let [mut functions, mut offsets, mut likely] = [most.clone(), most.clone(), most];
-        let needed = second_reader::old_hints_list(p, &mut functions, &mut offsets, &mut likely);
-        let needed = needed.length as usize;
-        let short = needed.saturating_sub(1);
-        for rooms in [
-            [0, 0, 0],
-            [short, needed, needed],
-            [needed, short, needed],
-            [needed, needed, short],
-            [needed, needed + 1, needed + SPARE],
-        ] {
-            self.list_old_hints_into(p, rooms);
-        }
-    }
-
-    /// The same into three lists of these lengths.
-    fn list_old_hints_into(&mut self, p: &[u8], rooms: [usize; 3]) {
-        let lent = self.lent.lend(p);
-        let functions = framed_numbers(&mut self.output, rooms[0]);
-        let offsets = framed_numbers(&mut self.also_output, rooms[1]);
-        let likely = framed_numbers(&mut self.text, rooms[2]);
-        let told = library::old_hints_list(
-            lent,
-            &mut functions[GUARD..],
-            &mut offsets[GUARD..],
-            &mut likely[GUARD..],
-        );
-        let [mut its_functions, mut its_offsets, mut its_likely] =
-            rooms.map(|room| vec![UNTOUCHED_NUMBER; room]);
-        let read =
-            second_reader::old_hints_list(p, &mut its_functions, &mut its_offsets, &mut its_likely);
-        let put = format_args!("old_hints_list of {p:02X?} into {rooms:?}");
-        assert_eq!(told, Told::from(read), "{put}");
-        assert_numbers_left(functions, &its_functions, put);
-        assert_numbers_left(offsets, &its_offsets, put);
-        assert_numbers_left(likely, &its_likely, put);
-        assert_eq!(lent, p, "what was lent changed: {put}");
-        self.calls += 1;
+        self.old_hints_listed(p);
     }
 
     /// The rewriting of a small payload of older hints into outputs of every length, up to one more than it needs.

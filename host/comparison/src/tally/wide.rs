@@ -57,6 +57,7 @@ impl Tally {
             meet!(self, p, wide_kept, id);
         }
         rewrite!(self, p, wide_names_canonical);
+        self.wide_names_listed(p);
     }
 
     /// Every question of the wider edition through a module.

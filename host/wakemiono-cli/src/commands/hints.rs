@@ -2,108 +2,94 @@
 
 use wakemiono::{FunctionIndex, Hint};
 
-use crate::canonical;
 use crate::input::Input;
 use crate::json::Json;
-use crate::parallel;
+use crate::listing::Listing;
 use crate::payloads;
-use crate::report::{Failure, Report, Status};
+use crate::printer::Printer;
+use crate::report::{Failure, Report};
+use crate::terminal::Style;
 
 /// A hint: its function, its place there, which each edition counts from another start, and what it
 /// says.
-struct Row {
-    function: FunctionIndex,
-    offset: u32,
-    hint: Hint,
-}
+type Row = (FunctionIndex, u32, Hint);
 
 /// The hints of one edition.
 struct Shown {
     section: &'static str,
+    /// What JSON calls them.
+    key: &'static str,
     /// None without the section.
     rows: Option<Vec<Row>>,
 }
 
 /// Lists the hints.
-pub fn run(input: &Input, json: bool) -> Result<Report, Failure> {
-    let newer = Shown {
-        section: payloads::HINTS,
-        rows: newer(input)?,
-    };
-    let older = Shown {
-        section: payloads::OLD_HINTS,
-        rows: older(input)?,
-    };
-    if json {
-        return Ok(Report::json(Status::Good, &document(input, &newer, &older)));
+pub fn run(input: &Input, json: bool, out: &mut Printer) -> Result<Report, Failure> {
+    let shown = [
+        Shown {
+            section: payloads::HINTS,
+            key: "hints",
+            rows: newer(input)?,
+        },
+        Shown {
+            section: payloads::OLD_HINTS,
+            key: "old_hints",
+            rows: older(input)?,
+        },
+    ];
+    let mut listing = Listing::begin(out, json.then(|| input.members()));
+    for edition in &shown {
+        edition.list(&mut listing);
     }
-    let lines = newer.lines() + &older.lines();
-    Ok(Report::good(lines).saying(note(&[newer, older])))
+    listing.end();
+    let note = if json { String::new() } else { note(&shown) };
+    Ok(Report::good("").saying(note))
 }
 
 fn newer(input: &Input) -> Result<Option<Vec<Row>>, Failure> {
-    let payload = input.accepted(payloads::hints(input.module()))?;
-    let Some(canonical) = payloads::canonical_hints(payload)? else {
+    let Some(payload) = input.accepted(payloads::hints(input.module()))? else {
         return Ok(None);
     };
-    let places = canonical::hint_places(&canonical).ok_or(Failure::Misfit)?;
-    asked(&places, |&(function, at)| {
-        let hint = input.accepted(input.module().hint(function, at))?;
-        Ok((function, at.0, hint))
-    })
+    // What was accepted is not refused now, nor below.
+    let hints = payload.items().map_err(|_| Failure::Misfit)?;
+    let row = |((function, at), hint): ((_, wakemiono::CodeOffset), _)| (function, at.0, hint);
+    Ok(Some(hints.map(row).collect()))
 }
 
 fn older(input: &Input) -> Result<Option<Vec<Row>>, Failure> {
     let Some(payload) = input.accepted(payloads::old_hints(input.module()))? else {
         return Ok(None);
     };
-    let places = canonical::old_hint_places(payload.as_bytes()).ok_or(Failure::Misfit)?;
-    asked(&places, |&(function, at)| {
-        let hint = input.accepted(input.module().old_hint(function, at))?;
-        Ok((function, at.0, hint))
-    })
-}
-
-/// Asks the library through the module for each place that a payload holds.
-fn asked<Place: Sync>(
-    places: &[Place],
-    ask: impl Fn(&Place) -> Result<(FunctionIndex, u32, Option<Hint>), Failure> + Sync,
-) -> Result<Option<Vec<Row>>, Failure> {
-    let rows = parallel::map(places, |place| {
-        let (function, offset, hint) = ask(place)?;
-        Ok(Row {
-            function,
-            offset,
-            // The place was read from the payload itself, so that there is one.
-            hint: hint.ok_or(Failure::Misfit)?,
-        })
-    });
-    rows.into_iter()
-        .collect::<Result<Vec<Row>, Failure>>()
-        .map(Some)
+    let hints = payload.items().map_err(|_| Failure::Misfit)?;
+    let row =
+        |((function, at), hint): ((_, wakemiono::InstructionOffset), _)| (function, at.0, hint);
+    Ok(Some(hints.map(row).collect()))
 }
 
 impl Shown {
-    /// The section's name and a line for each hint; nothing without the section.
-    fn lines(&self) -> String {
-        let Some(rows) = &self.rows else {
-            return String::new();
-        };
-        let line = |row: &Row| format!("{} {} {}\n", row.function, row.offset, row.hint);
-        let lines: String = rows.iter().map(line).collect();
-        format!("{}\n{lines}", self.section)
+    /// The section's name and a line for each hint; no lines without the section.
+    fn list(&self, listing: &mut Listing<'_>) {
+        if self.rows.is_some() {
+            listing.line(&Style::of_output().heading(self.section));
+        }
+        listing.list(self.key, |listing| {
+            let mut rows = self.rows.iter().flatten();
+            // Until there is no use in another.
+            rows.all(|row| listing.row(|| line(row), || object(row)))
+        });
     }
+}
 
-    fn json(&self) -> Json {
-        let row = |row: &Row| {
-            Json::Object(vec![
-                ("function", row.function.0.into()),
-                ("offset", row.offset.into()),
-                ("hint", Json::text(row.hint.to_string())),
-            ])
-        };
-        self.rows.iter().flatten().map(row).collect()
-    }
+fn line((function, offset, hint): &Row) -> String {
+    format!("{function} {offset} {hint}\n")
+}
+
+fn object((function, offset, hint): &Row) -> Json {
+    Json::Object(vec![
+        ("function", function.0.into()),
+        ("offset", (*offset).into()),
+        ("hint", Json::text(hint.to_string())),
+    ])
 }
 
 /// What is said of sections that are not there, or have nothing in them.
@@ -116,12 +102,4 @@ fn note(shown: &[Shown]) -> String {
     empty
         .map(|edition| format!("wakemiono: the section {} has no hints.\n", edition.section))
         .collect()
-}
-
-fn document(input: &Input, newer: &Shown, older: &Shown) -> Json {
-    Json::Object(vec![
-        ("file", input.file()),
-        ("hints", newer.json()),
-        ("old_hints", older.json()),
-    ])
 }

@@ -1,11 +1,12 @@
 //! The commands, each in a file of its own. A command reads, asks and sets the answers in lines or
-//! JSON; it prints nothing itself.
+//! JSON. One with many answers prints them as they come; what the others have to say is their report.
 
 mod canon;
 mod hints;
 mod join;
 mod judge;
 mod list;
+mod metadata;
 mod name;
 mod names;
 pub mod same;
@@ -17,23 +18,29 @@ use crate::arguments::Command;
 use crate::beside::Beside;
 use crate::edition::Edition;
 use crate::input::Input;
+use crate::printer::Printer;
 use crate::report::{Failure, Report};
 
 /// Runs a command, in the wider edition of names or in the first.
-pub fn run(command: &Command, wide: bool, json: bool) -> Result<Report, Failure> {
+pub fn run(
+    command: &Command,
+    wide: bool,
+    json: bool,
+    out: &mut Printer,
+) -> Result<Report, Failure> {
     if wide {
-        run_in::<Wider>(command, json)
+        run_in::<Wider>(command, json, out)
     } else {
-        run_in::<First>(command, json)
+        run_in::<First>(command, json, out)
     }
 }
 
-fn run_in<E: Edition>(command: &Command, json: bool) -> Result<Report, Failure> {
+fn run_in<E: Edition>(command: &Command, json: bool, out: &mut Printer) -> Result<Report, Failure> {
     match command {
         Command::List(file) => list::run(file, json),
-        Command::Names(file, kind) => names::run(&Input::<E>::read(file)?, *kind, json),
+        Command::Names(file, kind) => names::run(&Input::<E>::read(file)?, *kind, json, out),
         Command::NamesBeside(file, names, kind) => {
-            names::run_beside(&Beside::<E>::read(file, names)?, *kind, json)
+            names::run_beside(&Beside::<E>::read(file, names)?, *kind, json, out)
         }
         Command::Name(file, question) => name::run(&Input::<E>::read(file)?, *question, json),
         Command::NameBeside(file, names, question) => {
@@ -42,7 +49,10 @@ fn run_in<E: Edition>(command: &Command, json: bool) -> Result<Report, Failure> 
         Command::Why(file, function, local) => {
             why::run(&Input::<E>::read(file)?, *function, *local, json)
         }
-        Command::Hints(file) => hints::run(&Input::read(file)?, json),
+        Command::Hints(file) => hints::run(&Input::read(file)?, json, out),
+        Command::Metadata(file, format) => {
+            metadata::run(&Input::read(file)?, format.as_deref(), json, out)
+        }
         Command::Canon(file, out) => canon::names::<E>(file, out.as_deref(), json),
         Command::CanonInModule(file, out) => canon::in_module::<E>(file, out.as_deref(), json),
         Command::CanonOldHints(file, out) => canon::old_hints(file, out.as_deref(), json),

@@ -1,17 +1,21 @@
 //! `names`: all names of a module, or of a module beside names that came apart from it.
 
-use wakemiono::Whose;
+use wakemiono::{NamePayload, Pair, Whose};
 
 use crate::beside::{self, Beside};
-use crate::canonical::{self, Entry};
 use crate::edition::Edition;
+use crate::entries::Subsection;
 use crate::escape;
 use crate::input::Input;
 use crate::json::Json;
-use crate::parallel;
+use crate::listing::Listing;
 use crate::payloads;
+use crate::printer::Printer;
 use crate::question::{Answer, Kind, Question, KEPT_MEANS};
-use crate::report::{Failure, Report, Status};
+use crate::report::{Failure, Report};
+
+/// The member of JSON with the names.
+const NAMES: &str = "names";
 
 /// A name in the listing.
 struct Row<'a> {
@@ -26,23 +30,21 @@ pub fn run<E: Edition>(
     input: &Input<E>,
     kind: Option<Kind>,
     json: bool,
+    out: &mut Printer,
 ) -> Result<Report, Failure> {
     let payload = input.accepted(payloads::names(input.module()))?;
-    let canonical = payloads::canonical_names(payload)?;
-    let rows = rows::<E>(&canonical, kind, |question| {
-        let answer = input.accepted(question.ask(input.module()))?;
-        Ok(answer.map(|answer| Row {
-            question,
-            whose: None,
-            answer,
-        }))
+    let mut listing = Listing::begin(out, json.then(|| input.members()));
+    let listed = listing.list(NAMES, |listing| match payload {
+        Some(payload) => list(input, payload, kind, listing),
+        None => Ok(Listed::default()),
     })?;
+    listing.end();
     let none = match (payload, kind) {
         (None, _) => "wakemiono: the module has no name section.\n",
         (Some(_), None) => "wakemiono: the name section has no names.\n",
         (Some(_), Some(_)) => "wakemiono: the name section has no such names.\n",
     };
-    Ok(reported(input.members(), &rows, none, json))
+    Ok(listed.report(none, json))
 }
 
 /// The same of a module beside its names, with whose each name is.
@@ -50,60 +52,109 @@ pub fn run_beside<E: Edition>(
     beside: &Beside<E>,
     kind: Option<Kind>,
     json: bool,
+    out: &mut Printer,
 ) -> Result<Report, Failure> {
     let pair = beside.pair()?;
     let joined = beside.joined(pair)?;
-    let rows = rows::<E>(&joined, kind, |question| {
-        let found = beside.ask(question, pair)?;
-        Ok(found.map(|(whose, answer)| Row {
-            question,
-            whose: Some(whose),
-            answer,
-        }))
+    let mut listing = Listing::begin(out, json.then(|| beside.members()));
+    let listed = listing.list(NAMES, |listing| {
+        let joined = NamePayload::in_edition(&joined);
+        list_beside(beside, pair, joined, kind, listing)
     })?;
+    listing.end();
     let none = match kind {
         None => "wakemiono: neither of the two files has names.\n",
         Some(_) => "wakemiono: neither of the two files has such names.\n",
     };
-    Ok(reported(beside.members(), &rows, none, json))
+    Ok(listed.report(none, json))
 }
 
-/// Asks the library for each entry that a canonical payload holds.
-fn rows<'a, E: Edition>(
-    canonical: &[u8],
+fn list<E: Edition>(
+    input: &Input<E>,
+    payload: NamePayload<'_, E>,
     kind: Option<Kind>,
-    ask: impl Fn(Question) -> Result<Option<Row<'a>>, Failure> + Sync,
-) -> Result<Vec<Row<'a>>, Failure> {
-    let entries = canonical::name_entries::<E>(canonical).ok_or(Failure::Misfit)?;
-    let wanted = |question: &Question| kind.is_none() || kind == Some(question.kind());
-    let questions = entries.iter().map(|entry: &Entry<'_>| entry.question);
-    let questions: Vec<Question> = questions.filter(wanted).collect();
-    // The rewriting keeps every answer, and so does the join, so that there is one.
-    let asked = parallel::map(&questions, |question| {
-        ask(*question)?.ok_or(Failure::Misfit)
-    });
-    asked.into_iter().collect()
+    listing: &mut Listing<'_>,
+) -> Result<Listed, Failure> {
+    let mut listed = Listed::default();
+    for subsection in Subsection::all(payload, kind)? {
+        for (question, name) in subsection.rows(payload)? {
+            let row = Row {
+                question,
+                whose: None,
+                answer: Answer::new(question, input.bytes(), name),
+            };
+            if !listed.take(&row, listing) {
+                return Ok(listed);
+            }
+        }
+    }
+    Ok(listed)
 }
 
-/// The rows in JSON or as lines, and a sentence for a person who sees none of these, or sees kept ones.
-fn reported(
-    members: Vec<(&'static str, Json)>,
-    rows: &[Row<'_>],
-    none: &str,
-    json: bool,
-) -> Report {
-    if json {
-        let names = vec![("names", rows.iter().map(object).collect())];
-        let document = Json::Object([members, names].concat());
-        return Report::json(Status::Good, &document);
+/// The library says by the joined payload what there is. A name is of those that came apart where they have it, and
+/// else of the module's own.
+fn list_beside<E: Edition>(
+    beside: &Beside<E>,
+    pair: Pair<'_, '_, E>,
+    joined: NamePayload<'_, E>,
+    kind: Option<Kind>,
+    listing: &mut Listing<'_>,
+) -> Result<Listed, Failure> {
+    let mut listed = Listed::default();
+    for subsection in Subsection::all(joined, kind)? {
+        let mut separate = subsection.rows(pair.separate())?.peekable();
+        let mut own = subsection.rows(pair.own())?.peekable();
+        for (question, name) in subsection.rows(joined)? {
+            let of_separate = separate.next_if(|(it, _)| *it == question);
+            let of_own = own.next_if(|(it, _)| *it == question);
+            let (whose, answer) = match (of_separate, of_own) {
+                (Some((_, name)), _) => (Whose::Separate, name),
+                (None, Some((_, name))) => (Whose::Own, name),
+                (None, None) => return Err(Failure::Misfit),
+            };
+            if answer != name {
+                return Err(Failure::Misfit);
+            }
+            let row = Row {
+                question,
+                whose: Some(whose),
+                answer: beside.answer(question, whose, answer),
+            };
+            if !listed.take(&row, listing) {
+                return Ok(listed);
+            }
+        }
     }
-    let has_kept = rows.iter().any(|row| row.question.kind() == Kind::Kept);
-    let said = match rows {
-        [] => none,
-        _ if has_kept => KEPT_MEANS,
-        _ => "",
-    };
-    Report::good(rows.iter().map(line).collect::<String>()).saying(said)
+    Ok(listed)
+}
+
+/// What has been listed.
+#[derive(Default)]
+struct Listed {
+    has_names: bool,
+    has_kept: bool,
+}
+
+impl Listed {
+    /// Prints a row, and answers whether there is any use in another.
+    fn take(&mut self, row: &Row<'_>, listing: &mut Listing<'_>) -> bool {
+        self.has_names = true;
+        self.has_kept |= row.question.kind() == Kind::Kept;
+        listing.row(|| line(row), || object(row))
+    }
+
+    /// A sentence for a person who sees no names, or sees kept ones. JSON needs none.
+    fn report(&self, none: &str, json: bool) -> Report {
+        let said = match self {
+            _ if json => "",
+            Listed {
+                has_names: false, ..
+            } => none,
+            Listed { has_kept: true, .. } => KEPT_MEANS,
+            Listed { .. } => "",
+        };
+        Report::good("").saying(said)
+    }
 }
 
 fn line(row: &Row<'_>) -> String {

@@ -1,10 +1,14 @@
 //! `same`: whether two modules have the same names.
 
-use crate::canonical::{self, Entry};
+use std::cmp::Ordering;
+use std::iter::Peekable;
+
+use wakemiono::NamePayload;
+
 use crate::edition::Edition;
+use crate::entries::Subsection;
 use crate::input::Input;
 use crate::json::Json;
-use crate::parallel;
 use crate::payloads;
 use crate::question::{self, Answer, Kind, Question, KEPT_MEANS};
 use crate::report::{Failure, Report, Status};
@@ -41,47 +45,103 @@ fn differences<'a, E: Edition>(
     b: &'a Input<E>,
     shown: Shown,
 ) -> Result<Vec<Difference<'a>>, Failure> {
-    let (in_a, in_b) = (canonical_of(a)?, canonical_of(b)?);
-    let mut questions = all_that_differ::<E>(&in_a, &in_b).ok_or(Failure::Misfit)?;
+    let of_a = input_names(a)?;
+    let of_b = input_names(b)?;
+    let both = Both {
+        a: entries(a, of_a)?.into_iter().peekable(),
+        b: entries(b, of_b)?.into_iter().peekable(),
+    };
+    let mut differing = both.filter(|it| it.answers_differ());
+    let differences: Vec<Difference<'a>> = match shown {
+        Shown::First => differing.next().into_iter().collect(),
+        Shown::All => differing.collect(),
+    };
     // Canonical payloads are equal exactly where every answer is.
-    if questions.is_empty() != (in_a == in_b) {
+    let are_equal = payloads::canonical_names(of_a)? == payloads::canonical_names(of_b)?;
+    if differences.is_empty() != are_equal {
         return Err(Failure::Misfit);
     }
-    if shown == Shown::First {
-        questions.truncate(1);
+    Ok(differences)
+}
+
+fn input_names<E: Edition>(input: &Input<E>) -> Result<Option<NamePayload<'_, E>>, Failure> {
+    input.accepted(payloads::names(input.module()))
+}
+
+/// An answer, and the id of the subsection that has it.
+struct Entry<'a> {
+    subsection: u8,
+    question: Question,
+    answer: Answer<'a>,
+}
+
+impl Entry<'_> {
+    /// Its place in the order of payloads: the subsection's id, and then the indices.
+    fn order(&self) -> (u8, Vec<u32>) {
+        (self.subsection, self.question.indices())
     }
-    let asked = parallel::map(&questions, |question| Difference::asked(*question, a, b));
-    asked.into_iter().collect()
 }
 
-fn canonical_of<E: Edition>(input: &Input<E>) -> Result<Vec<u8>, Failure> {
-    payloads::canonical_names(input.accepted(payloads::names(input.module()))?)
+/// All that an accepted payload has, in its order; nothing without one.
+fn entries<'a, E: Edition>(
+    input: &'a Input<E>,
+    payload: Option<NamePayload<'a, E>>,
+) -> Result<Vec<Entry<'a>>, Failure> {
+    let mut entries = Vec::new();
+    let Some(payload) = payload else {
+        return Ok(entries);
+    };
+    for subsection in Subsection::all(payload, None)? {
+        entries.extend(subsection.rows(payload)?.map(|(question, name)| Entry {
+            subsection: subsection.id,
+            question,
+            answer: Answer::new(question, input.bytes(), name),
+        }));
+    }
+    Ok(entries)
 }
 
-/// A question that tells two modules apart, and both answers.
+/// The entries of two payloads side by side, in the order of payloads.
+struct Both<A: Iterator, B: Iterator> {
+    a: Peekable<A>,
+    b: Peekable<B>,
+}
+
+impl<'a, A, B> Iterator for Both<A, B>
+where
+    A: Iterator<Item = Entry<'a>>,
+    B: Iterator<Item = Entry<'a>>,
+{
+    type Item = Difference<'a>;
+
+    fn next(&mut self) -> Option<Difference<'a>> {
+        let order = match (self.a.peek(), self.b.peek()) {
+            (Some(a), Some(b)) => a.order().cmp(&b.order()),
+            (Some(_), None) => Ordering::Less,
+            (None, _) => Ordering::Greater,
+        };
+        let of_a = order.is_le().then(|| self.a.next()).flatten();
+        let of_b = order.is_ge().then(|| self.b.next()).flatten();
+        let question = of_a.as_ref().or(of_b.as_ref())?.question;
+        Some(Difference {
+            question,
+            of_a: of_a.map(|it| it.answer),
+            of_b: of_b.map(|it| it.answer),
+        })
+    }
+}
+
+/// A question, and the answers of two modules, which may tell them apart.
 struct Difference<'a> {
     question: Question,
     of_a: Option<Answer<'a>>,
     of_b: Option<Answer<'a>>,
 }
 
-impl<'a> Difference<'a> {
-    /// The answers as the library gives them.
-    fn asked<E: Edition>(
-        question: Question,
-        a: &'a Input<E>,
-        b: &'a Input<E>,
-    ) -> Result<Difference<'a>, Failure> {
-        let ask = |input: &'a Input<E>| input.accepted(question.ask(input.module()));
-        let (of_a, of_b) = (ask(a)?, ask(b)?);
-        if of_a.map(|found| found.bytes()) == of_b.map(|found| found.bytes()) {
-            return Err(Failure::Misfit);
-        }
-        Ok(Difference {
-            question,
-            of_a,
-            of_b,
-        })
+impl Difference<'_> {
+    fn answers_differ(&self) -> bool {
+        let [of_a, of_b] = [self.of_a, self.of_b].map(|answer| answer.map(|it| it.bytes()));
+        of_a != of_b
     }
 
     /// The question and both answers, as members of a JSON object.
@@ -92,17 +152,6 @@ impl<'a> Difference<'a> {
             ("answers", answers.into_iter().collect()),
         ]
     }
-}
-
-/// The questions to which two canonical payloads give different answers, in the order of payloads.
-fn all_that_differ<E: Edition>(a: &[u8], b: &[u8]) -> Option<Vec<Question>> {
-    let [a, b] = [a, b].map(canonical::name_entries::<E>);
-    let mut entries = [a?, b?].concat();
-    entries.sort_by_cached_key(Entry::order);
-    // A payload has one entry for a question, so that two of them are one of each.
-    let by_question = entries.chunk_by(|one, other| one.question == other.question);
-    let differing = by_question.filter(|held| !matches!(held, [one, other] if one == other));
-    Some(differing.map(|held| held[0].question).collect())
 }
 
 fn lines<E: Edition>(a: &Input<E>, b: &Input<E>, differences: &[Difference<'_>]) -> String {

@@ -28,8 +28,8 @@ pub const NO_SUCH_SECTION: &[u8] = b"\0asm\x01\0\0\0\x0E\x00";
 pub const NAMES: &[u8] = b"\x01\x04\x01\x03\x01f";
 
 /// The words of all commands.
-pub const COMMANDS: [&str; 9] = [
-    "list", "names", "name", "why", "hints", "canon", "join", "same", "judge",
+pub const COMMANDS: [&str; 10] = [
+    "list", "names", "name", "why", "hints", "metadata", "canon", "join", "same", "judge",
 ];
 
 /// The words of those that ask names, and so take `--wide`.
@@ -59,12 +59,17 @@ pub fn named(payload: &[u8]) -> Vec<u8> {
     custom("name", payload)
 }
 
-/// A module with a name section of any length, whose size is padded to the most bytes.
+/// A module with a name section of any length.
 pub fn long_named(payload: &[u8]) -> Vec<u8> {
+    long_custom("name", payload)
+}
+
+/// A module whose only section is custom and of any length; the size is padded to the most bytes.
+pub fn long_custom(name: &str, payload: &[u8]) -> Vec<u8> {
     const SIZE_BYTES: usize = 5;
     const BITS_IN_A_BYTE: usize = 7;
     const GOES_ON: u8 = 1 << BITS_IN_A_BYTE;
-    let contents = [b"\x04name", payload].concat();
+    let contents = [&[name.len() as u8], name.as_bytes(), payload].concat();
     let mut size = [0; SIZE_BYTES];
     for (place, byte) in size.iter_mut().enumerate() {
         *byte = (contents.len() >> (BITS_IN_A_BYTE * place)) as u8 | GOES_ON;
@@ -206,4 +211,19 @@ pub fn fixtures() -> Vec<PathBuf> {
     paths
         .filter(|path| path.extension().is_some_and(|kind| kind == "wasm"))
         .collect()
+}
+
+/// The lines for two payloads that are not the same, without the names of the files.
+pub fn told_apart(name: &str, options: &[&str], a: &[u8], b: &[u8]) -> String {
+    let file = file(name, &named(a));
+    let compared = fed(
+        &[&["same", file.as_str(), "-"], options].concat(),
+        &named(b),
+    );
+    assert_eq!(compared.status, 1);
+    assert_eq!(compared.said, meaning(compared.out()));
+    compared
+        .out()
+        .replace(&file, "a")
+        .replace("standard input", "b")
 }
