@@ -93,12 +93,12 @@ fn of_pair((payload, kind): (&'static str, Kind)) -> [Bar; 2] {
     ]
 }
 
-/// A module that arrives: half more than the walk where it is one part, and twice as much where it comes in parts of 4,096
-/// bytes. Where contents are large, the walk steps over many such parts at once; then a part has a bar of its own.
+/// A module that arrives: half more than the walk where it is one part, and 2.2 times as much where it comes in parts of
+/// 4,096 bytes. Where contents are large, the walk steps over many such parts at once; then a part has a bar of its own.
 fn of_module(payload: &'static str) -> [Bar; 2] {
     let in_parts = match payload {
         modules::LARGE_CONTENTS => Most::Instructions(LARGE_IN_PARTS),
-        _ => Most::Times(2.0, &[Operation::Walk]),
+        _ => Most::Times(2.2, &[Operation::Walk]),
     };
     let bar = |operation, most| Bar {
         payload,
@@ -321,7 +321,7 @@ mod tests {
     #[test]
     fn so_is_one_of_a_module_in_parts() {
         let said = lines(&rows("module-rustc", Operation::StreamInParts, 2));
-        let line = "module-rustc: 'stream, parts of 4096' takes 2.002 times 'walk', at most 2 is the bar, so speed it up.\n";
+        let line = "module-rustc: 'stream, parts of 4096' takes 2.202 times 'walk', at most 2.2 is the bar, so speed it up.\n";
         assert_eq!(said.expect_err("one is broken"), line);
     }
 
