@@ -1,5 +1,5 @@
 -- What a question gives, one law for each way through it.
-use Prim.Native.Nat.{ℕ, zero, suc, _+_, _-_, _≤_, _<_}
+use Prim.Native.Nat.{ℕ, zero, suc, _+_, _-_, _*_, _≤_, _<_}
 use mathlib.Core.Bool.{Bool, true, false, not}
 use mathlib.Core.List.{List, [], _∷_, _++_}
 use mathlib.Core.Option.{Option, none, some}
@@ -34,7 +34,7 @@ use Rattle.sharing.specs.Calls.{Copies, Replies, RepliesAt, askedAs}
 use Rattle.sharing.specs.Laws.Bytes.{blocks-length}
 use Rattle.sharing.specs.Marks.{SizeFits}
 use Rattle.sharing.proofs.FindLaws.{right-there}
-use Rattle.sharing.proofs.PieceLaws.{need-some}
+use Rattle.sharing.proofs.PieceLaws.{rest-all, rest-last, need-some}
 use Rattle.sharing.specs.Model.{desk, Answer, refusal, nothing, replied, reply, over}
 use Rattle.sharing.specs.Named.{names, functionName, nameIn}
 use Rattle.sharing.specs.Step.{leaves, step, fitting, askedAt, lent, judged}
@@ -155,6 +155,22 @@ reply-gathered {g} {old} {new} {size} w k =
     rw e at (rw z at k)
 
 pub ruleset gathered-replies = (reply-gathered, needs)
+
+-- what one block has lies in the store as it is
+module _ (s : List ℕ) (first size : ℕ) (f : SizeFits s first size) (h : size ≤ 508) where
+  lying : gather size (drop first (blocks s)) ≡ take size (drop (first * 512) s)
+  lying =
+      let none-before : size - 0 * 508 ≡ size = omega arith in
+      let first-one : first + 0 ≡ first = omega arith in
+      rest-all s first size (f .fits) ∙ rest-last s first size (f .fits) 0 (need-some size) (omega arith) ∙ rw (none-before, first-one) refl
+
+  pub lying-inside : first * 512 + size ≤ length s
+  lying-inside = omega (arith, f .fits, need-some size)
+
+  pub reply-lying : {i : ℕ} {out left : List ℕ} {r : Told} → Replies (take (first * 512 + size - first * 512) (drop (first * 512) s)) i out left r → Replies (gather size (drop first (blocks s))) i out left r
+  reply-lying k = let long : first * 512 + size - first * 512 ≡ size = omega arith in rw lying (rw long at k)
+
+pub ruleset lying-replies = (lying-inside, reply-lying, needs)
 
 module _ (s : List ℕ) (first : ℕ) {size k : ℕ} {b : Bool} (n : k ≡ need size) (e : b ≡ allRight k (drop first (blocks s))) where
   pub row-fits : b ≡ true → SizeFits s first size

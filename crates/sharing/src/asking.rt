@@ -7,6 +7,8 @@ ghost use Rattle.sharing.specs.Blocks as blocks;
 ghost use Rattle.sharing.specs.Marks.{SizeFits};
 ghost use Rattle.sharing.specs.Table as table;
 use crate::Told;
+use crate::blocks::BLOCK;
+use crate::blocks::BODY;
 use crate::blocks::all_right;
 use crate::blocks::need;
 use crate::refuse;
@@ -69,12 +71,26 @@ fn reply_from(store: &[u8], first: usize, size: usize, function: u32, out: &mut 
     reply(&payload[front..size], function, out)
 }
 
+// The same from one block, which has all of the payload: it is asked where it lies.
+fn reply_in(store: &[u8], first: usize, size: usize, function: u32, out: &mut [u8]) -> Told
+    requires { ⌜ SizeFits (now store) first size ⌝ }
+    requires { ⌜ size ≤ 508 ⌝ }
+    ensures { λ r. ⌜ Replies (blocks.gather size (drop first (table.blocks (now (store .entry))))) function (now (out .entry)) (now (out .exit)) r ⌝ }
+{
+    let from = first * BLOCK;
+    let end = from + size;
+    reply(&store[from..end], function, out)
+}
+
 // The same of a row whose blocks may be wrong.
 pub fn reply_at(store: &[u8], first: usize, size: usize, function: u32, out: &mut [u8]) -> Told
     requires { ⌜ length (now store) ≤ 65536 ⌝ }
     ensures { λ r. ⌜ RepliesAt (now (store .entry)) first size function (now (out .entry)) (now (out .exit)) r ⌝ }
 {
     if all_right(store, first, need(size)) {
+        if size <= BODY {
+            return reply_in(store, first, size, function, out);
+        }
         return reply_from(store, first, size, function, out);
     }
     Told::Refused(refuse(Reason::Damaged))

@@ -1,6 +1,6 @@
 -- One step of the walk.
 use Prim.Native.Nat.{ℕ, zero, suc, _+_, _≤_, _<_}
-use mathlib.Core.Bool.{Bool, false, _||_}
+use mathlib.Core.Bool.{Bool, true, false, _||_}
 use mathlib.Core.List.{List, [], _∷_}
 use mathlib.Core.Option.{none, some}
 use mathlib.Core.Path.{_≡_, refl, sym, ap, _∙_}
@@ -12,15 +12,18 @@ use lib.ListN.{length, drop, getD, drop-of-length-le}
 use lib.Seq.{slice, take-length, drop-cons}
 use Rattle.format.specs.Reading.{Outcome, got, stop, Reader, andThen, _>>_, return}
 use Rattle.format.specs.Parts.{sized, name, remaining, inside}
+use Rattle.format.specs.Text.{utf8}
 use Rattle.format.specs.Walk.{custom, isCalled, Tracked, tracked, rowFrom, rowOf, isRow, seeing, nameRules, section, step}
 use Rattle.format.specs.Laws.Outcomes.{byOutcome}
 use Rattle.format.specs.declared.Reason.{Reason}
+use Rattle.format.specs.declared.Reason.the-variants.{NotText}
 use Rattle.format.specs.declared.Refusal.{Refusal}
 use Rattle.reading.specs.Cursors.{Inside, left, partOf, PartReads}
 use Rattle.reading.specs.declared.Cursor.{Cursor}
 use Rattle.reading.specs.declared.PartRead.{PartRead}
 use Rattle.reading.specs.declared.PartRead.the-variants.{Part, Refused as NoPart}
 use Rattle.reading.proofs.Laws.{sized-means, name-means, Behind, part-behind, name-behind}
+use Rattle.reading.proofs.PartSteps.{name-refused, name-taken, name-not-text, part-ahead, part-within}
 use Rattle.walk.specs.Sections.{bit, seenOf, ruling, IdRuled, InTable, NameRuled, Calls, Sees, customOf, CustomReads, CallsCustom, CustomInside}
 use Rattle.walk.specs.Steps.{behindSize, AfterSize, Steps}
 use Rattle.walk.specs.declared.rules.Called.{Called}
@@ -51,16 +54,26 @@ module _ {m : List ℕ} {id : ℕ} {contents : Cursor} where
   pub not-custom : (id ≡ 0 → ⊥) → CustomReads m id contents (Read None)
   not-custom n = record { means = λ o bs. rw (custom-other id (contents .at) (left m contents) n); within = λ c e. rw (← read-is e) tt }
 
-  module _ (z : id ≡ 0) {x : PartRead} (p : PartReads name m contents x) where
-    pub custom-refused : {r : Refusal} → x ≡ NoPart r → CustomReads m id contents (NoCustom r)
+  module _ (z : id ≡ 0) where
+    no-name : {r : Refusal} → PartReads name m contents (NoPart r) → CustomReads m id contents (NoCustom r)
     unfolding custom
-    custom-refused e = record { means = λ o bs. rw (z, ← rw e at (p .means)); within = λ c q. absurd (let w : _≡_ {A = ℕ} 0 1 = cc in omega arith) }
+    no-name p = record { means = λ o bs. rw (z, ← p .means); within = λ c q. absurd (let w : _≡_ {A = ℕ} 0 1 = cc in omega arith) }
 
-    pub custom-read : {part payload : Cursor} {told : Bool} → Inside m contents → x ≡ Part part payload told → CustomReads m id contents (Read (Named part payload))
-    unfolding custom remaining
-    custom-read i e = record { means = λ o bs. rw (z, name-means p e); within = λ c q. rw (← read-is q) (let b = name-behind i p e in (b .in-part, b .in-rest)) }
+    module _ {x : PartRead} (p : PartReads sized m contents x) where
+      pub custom-refused : {r : Refusal} → x ≡ NoPart r → CustomReads m id contents (NoCustom r)
+      custom-refused e = no-name (name-refused p e)
 
-pub ruleset customs = (not-custom, custom-refused, custom-read, needs)
+      module _ {part payload : Cursor} {told b : Bool} (e : x ≡ Part part payload told) (q : b ≡ utf8 (left m part)) where
+        pub custom-not-text : b ≡ false → CustomReads m id contents (NoCustom (record { reason = NotText; offset = record { 0 = part .at } }))
+        custom-not-text t = no-name (name-not-text p e q t)
+
+        pub custom-read : Inside m contents → b ≡ true → CustomReads m id contents (Read (Named part payload))
+        unfolding custom remaining
+        custom-read i t =
+            let taken = name-taken p e q t in
+            record { means = λ o bs. rw (z, name-means taken refl); within = λ c q. rw (← read-is q) (let b = name-behind i taken refl in (b .in-part, b .in-rest)) }
+
+pub ruleset customs = (not-custom, custom-refused, custom-not-text, custom-read, part-ahead, part-within, needs)
 
 -- the row of a section that has a name
 module _ {m : List ℕ} where

@@ -19,6 +19,7 @@ use format::Reason;
 use format::Refusal;
 use reading::Cursor;
 use reading::PartRead;
+use reading::text::is_text;
 
 // What a section is beyond its id: a custom one has a name and a payload.
 pub enum Custom {
@@ -55,7 +56,8 @@ enum CustomRead {
     Refused(Refusal),
 }
 
-// A custom section's contents begin with a name; the rest is its payload.
+// A custom section's contents begin with a name; the rest is its payload. The name is read here and not by `Cursor::name`,
+// which others call too, so that it is inlined.
 fn read_custom(m: &[u8], id: u8, contents: Cursor) -> CustomRead
     requires { ⌜ Inside (now m) contents ⌝ }
     ensures { λ r. ⌜ CustomReads (now (m .entry)) id contents r ⌝ }
@@ -63,9 +65,18 @@ fn read_custom(m: &[u8], id: u8, contents: Cursor) -> CustomRead
     if id != CUSTOM {
         return CustomRead::Read(Custom::None);
     }
-    match contents.name(m) {
+    match contents.sized(m) {
         PartRead::Refused(r) => CustomRead::Refused(r),
-        PartRead::Part(name, payload, _) => CustomRead::Read(Custom::Named(name, payload)),
+        PartRead::Part(name, payload, _) => {
+            let text = name.at;
+            if is_text(m, text, name.end) {
+                return CustomRead::Read(Custom::Named(name, payload));
+            }
+            CustomRead::Refused(Refusal {
+                reason: Reason::NotText,
+                offset: Offset(text),
+            })
+        }
     }
 }
 

@@ -7,7 +7,7 @@ use crate::operation::{Operation, Who};
 use crate::pairs;
 use crate::payload::Kind;
 use crate::shared::{self, Looked};
-use crate::table::{executed, Row};
+use crate::table::{executed, payloads_of, Row};
 
 /// What an operation is held to.
 #[derive(Clone, Copy)]
@@ -21,15 +21,15 @@ enum Most {
     More(u64, Operation),
 }
 
-struct Bar {
-    payload: &'static str,
+struct Bar<'a> {
+    payload: &'a str,
     operation: Operation,
     most: Most,
 }
 
 /// Rewriting older hints: in order it is a few passes, and out of order they are sorted without any memory but the output.
 /// Markers: thirteen in a hundred more than judging, whatever the names are like, and a quick question among 14,000 of them.
-const BARS: [Bar; 14] = [
+const BARS: [Bar<'static>; 14] = [
     rewriting("old-hints", 4.0),
     rewriting("old-hints-shuffled", 500.0),
     rewriting("old-hints-apart-shuffled", 500.0),
@@ -50,7 +50,7 @@ const BARS: [Bar; 14] = [
     },
 ];
 
-const fn rewriting(payload: &'static str, times: f64) -> Bar {
+const fn rewriting(payload: &'static str, times: f64) -> Bar<'static> {
     Bar {
         payload,
         operation: Operation::RewriteOldHints,
@@ -58,7 +58,7 @@ const fn rewriting(payload: &'static str, times: f64) -> Bar {
     }
 }
 
-const fn marking(payload: &'static str) -> Bar {
+const fn marking(payload: &'static str) -> Bar<'static> {
     Bar {
         payload,
         operation: Operation::Markers,
@@ -67,7 +67,7 @@ const fn marking(payload: &'static str) -> Bar {
 }
 
 /// Two payloads: a question a tenth more than those to both of them, and the join three times as much as rewriting both.
-fn of_pair((payload, kind): (&'static str, Kind)) -> [Bar; 2] {
+fn of_pair((payload, kind): (&'static str, Kind)) -> [Bar<'static>; 2] {
     let (asked, each_asked, joined, each_rewritten): (_, &[_], _, &[_]) = match kind {
         Kind::WidePair => (
             Operation::WidePairLookUp,
@@ -93,12 +93,12 @@ fn of_pair((payload, kind): (&'static str, Kind)) -> [Bar; 2] {
     ]
 }
 
-/// A module that arrives: half more than the walk where it is one part, and twice as much where it comes in parts of 4,096
-/// bytes. Where contents are large, the walk steps over many such parts at once; then a part has a bar of its own.
-fn of_module(payload: &'static str) -> [Bar; 2] {
+/// A module that arrives: half more than the walk where it is one part, and 2.2 times as much where it comes in parts of
+/// 4,096 bytes. Where contents are large, the walk steps over many such parts at once; then a part has a bar of its own.
+fn of_module(payload: &'static str) -> [Bar<'static>; 2] {
     let in_parts = match payload {
         modules::LARGE_CONTENTS => Most::Instructions(LARGE_IN_PARTS),
-        _ => Most::Times(2.0, &[Operation::Walk]),
+        _ => Most::Times(2.2, &[Operation::Walk]),
     };
     let bar = |operation, most| Bar {
         payload,
@@ -115,7 +115,7 @@ fn of_module(payload: &'static str) -> [Bar; 2] {
 const LARGE_IN_PARTS: u64 = 342 * 260;
 
 /// Hints on code: twice the second reader, which keeps a list of the bodies.
-fn of_code(payload: &'static str) -> Bar {
+fn of_code(payload: &'static str) -> Bar<'static> {
     Bar {
         payload,
         operation: Operation::OnBranches,
@@ -137,7 +137,7 @@ const CLOSE: u64 = 1_000;
 
 /// A payload that is stored already: an open takes no more than judging and rewriting it, one look at each used block and
 /// one comparison.
-fn of_open((payload, looked): (&'static str, Looked)) -> Bar {
+fn of_open((payload, looked): (&'static str, Looked)) -> Bar<'static> {
     let more = CALL + LOOK * looked.blocks as u64 + COMPARISON * looked.bytes as u64;
     Bar {
         payload,
@@ -146,7 +146,7 @@ fn of_open((payload, looked): (&'static str, Looked)) -> Bar {
     }
 }
 
-fn of_close(payload: &'static str) -> Bar {
+fn of_close(payload: &'static str) -> Bar<'static> {
     Bar {
         payload,
         operation: Operation::TableClose,
@@ -158,7 +158,7 @@ fn of_close(payload: &'static str) -> Bar {
 const MOVE: u64 = 128;
 
 /// Gaps that are closed: one look at each used block, and each moves once.
-fn of_compaction((payload, blocks): (&'static str, usize)) -> Bar {
+fn of_compaction((payload, blocks): (&'static str, usize)) -> Bar<'static> {
     let most = CALL + (LOOK + MOVE) * blocks as u64;
     Bar {
         payload,
@@ -168,7 +168,7 @@ fn of_compaction((payload, blocks): (&'static str, usize)) -> Bar {
 }
 
 /// All bars, those of pairs, of modules, of code and of shared tables last.
-fn bars() -> impl Iterator<Item = Bar> {
+fn bars() -> impl Iterator<Item = Bar<'static>> {
     let of_modules = modules::all().flat_map(of_module);
     let of_pairs = pairs::all().flat_map(of_pair);
     let of_code = code::all().map(of_code);
@@ -180,11 +180,22 @@ fn bars() -> impl Iterator<Item = Bar> {
     made.chain(of_opens).chain(of_closes).chain(of_compactions)
 }
 
+/// The walk: what the second reader takes, on every payload that is walked over.
+fn of_walk(payload: &str) -> Bar<'_> {
+    Bar {
+        payload,
+        operation: Operation::Walk,
+        most: Most::TimesSecondReader(1.0),
+    }
+}
+
 /// A line for each bar, or a sentence on those that are broken.
 pub fn lines(rows: &[Row]) -> Result<String, String> {
     let mut kept = String::new();
     let mut broken = String::new();
-    for bar in bars() {
+    let mut all: Vec<Bar<'_>> = bars().collect::<Vec<_>>();
+    all.extend(payloads_of(rows, Operation::Walk).map(of_walk));
+    for bar in all {
         let (is_kept, line) = held(rows, &bar)?;
         match is_kept {
             true => kept.push_str(&format!("{line} is the bar\n")),
@@ -198,7 +209,7 @@ pub fn lines(rows: &[Row]) -> Result<String, String> {
 }
 
 /// Whether a bar is kept, and a line on how near it is.
-fn held(rows: &[Row], bar: &Bar) -> Result<(bool, String), String> {
+fn held(rows: &[Row], bar: &Bar<'_>) -> Result<(bool, String), String> {
     let taken = count(rows, bar.payload, bar.operation)?;
     let (payload, words) = (bar.payload, bar.operation.words());
     Ok(match bar.most {
@@ -298,8 +309,10 @@ mod tests {
 
     #[test]
     fn bars_that_are_kept() {
-        let said = lines(&rows("go", Operation::Markers, 0)).expect("none is broken");
-        assert_eq!(said.lines().count(), bars().count());
+        let rows = rows("go", Operation::Markers, 0);
+        let said = lines(&rows).expect("none is broken");
+        let walks = payloads_of(&rows, Operation::Walk).count();
+        assert_eq!(said.lines().count(), bars().count() + walks);
         assert!(said.starts_with("old-hints: 'rewrite old hints' takes 4.000 times 'judge old hints', at most 4 is the bar"));
     }
 
@@ -321,7 +334,7 @@ mod tests {
     #[test]
     fn so_is_one_of_a_module_in_parts() {
         let said = lines(&rows("module-rustc", Operation::StreamInParts, 2));
-        let line = "module-rustc: 'stream, parts of 4096' takes 2.002 times 'walk', at most 2 is the bar, so speed it up.\n";
+        let line = "module-rustc: 'stream, parts of 4096' takes 2.202 times 'walk', at most 2.2 is the bar, so speed it up.\n";
         assert_eq!(said.expect_err("one is broken"), line);
     }
 
@@ -329,6 +342,16 @@ mod tests {
     fn so_is_one_over_the_second_reader() {
         let said = lines(&rows("code-go", Operation::OnBranches, 2)).expect_err("one is broken");
         let line = "code-go: 'hints on branches' takes 2.002 times what the second reader takes, at most 2 is the bar, so speed it up.\n";
+        assert_eq!(said, line);
+    }
+
+    #[test]
+    fn so_is_one_of_a_walk() {
+        let walked = run("go", Operation::Walk, JUDGED + 1);
+        let all = rows("go", Operation::Walk, 0).into_iter();
+        let rows: Vec<Row> = all.chain(table::rows(&walked).expect("a row")).collect();
+        let said = lines(&rows).expect_err("one is broken");
+        let line = "go: 'walk' takes 1.001 times what the second reader takes, at most 1 is the bar, so speed it up.\n";
         assert_eq!(said, line);
     }
 

@@ -36,6 +36,12 @@ pub fn executed(rows: &[Row], payload: &str, operation: Operation, who: Who) -> 
     })
 }
 
+/// The payloads on which an operation was counted.
+pub fn payloads_of(rows: &[Row], operation: Operation) -> impl Iterator<Item = &str> {
+    let wanted = move |row: &&Row| row.operation == operation.words();
+    rows.iter().filter(wanted).map(|row| row.payload.as_str())
+}
+
 /// The rows of a file that has, for each run, its mapping and the plugin's counts.
 pub fn rows(counts: &str) -> Result<Vec<Row>, String> {
     let lines: Vec<&str> = counts.lines().collect();
