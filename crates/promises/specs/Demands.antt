@@ -1047,7 +1047,7 @@ pub record K13 : Type 0 where
   pub damaged : (t u : SharedTable) (s r : List ℕ) → (NotTheStore t s → ⊥) → Damage (tableOf t) s → (a : WmAnswer) → wm-table-compact t s u r a → (a ≡ wmRefused 27 0) × (tableOf u ≡ tableOf t) × (r ≡ s)
   pub granted : (t u : SharedTable) (s r : List ℕ) → (NotTheStore t s → ⊥) → (Damage (tableOf t) s → ⊥) → (a : WmAnswer) → wm-table-compact t s u r a → a ≡ wmFound 0 0 0
 
--- EVERY ENTRY IN ONE PASS. "All rows of one subsection or payload into lent lists; 13 at the number of rows, lists unchanged by a refusal. Proved: exactly the rows of the meaning, in order; for function names, writing them from the lists gives the canonical payload back." Proved as `every-entry` in Proved.antt.
+-- EVERY ENTRY IN ONE PASS (R12.1 to R12.9). "All rows of one subsection or payload into lent lists; 13 at the number of rows, lists unchanged by a refusal. Proved: exactly the rows of the meaning, in order; for function names, writing them from the lists gives the canonical payload back." Proved as `every-entry` in Proved.antt.
 
 -- `contentRows c` are the rows of contents c, in order, each with its `first` and `second` number and what is `held`: of `single x` one with 0 and 0, of `names t` one for each row of t, its number first and 0 second, of `namesBy t` those of `groupRows t`, one for each row of each group, the group's number first; of contents that are kept there are none.
 
