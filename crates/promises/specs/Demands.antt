@@ -47,8 +47,8 @@ use Rattle.grammar.specs.Modules.{Module}
 use Rattle.format.specs.Tables.{Table, nil, row, lookup}
 use Rattle.format.specs.Names.{Kind, Content, single, names, namesBy, whole}
 use Rattle.format.specs.Holding.{Has}
--- Their rows, in order: `Listed X` is a record of two numbers, `first` and `second`, and what is `held`; `contentRows` and `groupRows` are explained where every entry is listed. `thenSome x f` is f of what x is, and `none` without it; `lookup k t` is the value of t's first row with the number k.
-use Rattle.format.specs.Entries.{Listed, contentRows}
+-- Their rows, in order: `EntryRow X` is a record of two numbers, `first` and `second`, and what is `held`; `contentRows` and `groupRows` are explained where every entry is listed. `thenSome x f` is f of what x is, and `none` without it; `lookup k t` is the value of t's first row with the number k.
+use Rattle.format.specs.Entries.{Listed as EntryRow, contentRows}
 use Rattle.format.specs.Options.{thenSome}
 -- A module means a list of records: `id`, `contents`, and `custom`, which is `some` of a record of `name` and `payload` or `none`. `Among t ss`: t is one of ss. `Called x s`: s is custom and its name is x.
 use Rattle.grammar.specs.Modules.{Section, Among, Called}
@@ -1052,7 +1052,7 @@ pub record K13 : Type 0 where
 -- `contentRows c` are the rows of contents c, in order, each with its `first` and `second` number and what is `held`: of `single x` one with 0 and 0, of `names t` one for each row of t, its number first and 0 second, of `namesBy t` those of `groupRows t`, one for each row of each group, the group's number first; of contents that are kept there are none.
 
 -- so many rows need room: none, where nothing is listed
-abbrev pub rowCount : {X : Type 0} → Option (List (Listed X)) → ℕ
+abbrev pub rowCount : {X : Type 0} → Option (List (EntryRow X)) → ℕ
 rowCount none = 0
 rowCount (some es) = length es
 
@@ -1061,7 +1061,7 @@ abbrev pub Unchanged : (lists lists′ : List (List ℕ)) → WmAnswer → Type 
 Unchanged lists lists′ a = a .kind ≢ 1 → lists′ ≡ lists
 
 -- The row at a position of four lists: its two numbers, and a place in the payload where what it holds lies
-pub record PlaceAt (p firsts seconds offsets lengths : List ℕ) (i : ℕ) (e : Listed (List ℕ)) : Type 0 where
+pub record PlaceAt (p firsts seconds offsets lengths : List ℕ) (i : ℕ) (e : EntryRow (List ℕ)) : Type 0 where
   pub offset : ℕ
   pub long : ℕ
   pub first-is : getElem? firsts i ≡ some (e .first)
@@ -1072,7 +1072,7 @@ pub record PlaceAt (p firsts seconds offsets lengths : List ℕ) (i : ℕ) (e : 
   pub there : take long (drop offset p) ≡ e .held
 
 -- and of three: the data of a hint is the one byte that the third list has, 0 or 1
-pub record HintAt (functions offsets likely : List ℕ) (i : ℕ) (e : Listed (List ℕ)) : Type 0 where
+pub record HintAt (functions offsets likely : List ℕ) (i : ℕ) (e : EntryRow (List ℕ)) : Type 0 where
   pub byte : ℕ
   pub function-is : getElem? functions i ≡ some (e .first)
   pub offset-is : getElem? offsets i ≡ some (e .second)
@@ -1093,7 +1093,7 @@ pub record NamesListed (Ids : ℕ → Kind → Type 0) (kindOf : ℕ → Kind) (
   -- none exactly where the meaning has no such subsection, or it is kept
   pub none : (p : List ℕ) (id : ℕ) (lists lists′ : List (List ℕ)) (m : Table (Content (List ℕ))) (a : WmAnswer) → NamePayload Ids p m → listing p id lists lists′ a → (a ≡ wmNone) ↔ ((c : Content (List ℕ)) → Has id c m → contentRows c ≡ none)
   -- else exactly the rows of the meaning, in order, and where each name lies
-  pub rows : (p : List ℕ) (id : ℕ) (fs ss os ns fs′ ss′ os′ ns′ : List ℕ) (m : Table (Content (List ℕ))) (c : Content (List ℕ)) (es : List (Listed (List ℕ))) (a : WmAnswer) → NamePayload Ids p m → Has id c m → contentRows c ≡ some es → listing p id (fs ∷ ss ∷ os ∷ ns ∷ []) (fs′ ∷ ss′ ∷ os′ ∷ ns′ ∷ []) a → a .kind ≡ 1 → (a ≡ wmFound 0 0 (length es)) × ((i : ℕ) (e : Listed (List ℕ)) → getElem? es i ≡ some e → PlaceAt p fs′ ss′ os′ ns′ i e)
+  pub rows : (p : List ℕ) (id : ℕ) (fs ss os ns fs′ ss′ os′ ns′ : List ℕ) (m : Table (Content (List ℕ))) (c : Content (List ℕ)) (es : List (EntryRow (List ℕ))) (a : WmAnswer) → NamePayload Ids p m → Has id c m → contentRows c ≡ some es → listing p id (fs ∷ ss ∷ os ∷ ns ∷ []) (fs′ ∷ ss′ ∷ os′ ∷ ns′ ∷ []) a → a .kind ≡ 1 → (a ≡ wmFound 0 0 (length es)) × ((i : ℕ) (e : EntryRow (List ℕ)) → getElem? es i ≡ some e → PlaceAt p fs′ ss′ os′ ns′ i e)
   -- function names from the lists: as every payload q is rewritten that holds these names and nothing else, with the same answer and into the same output
   pub back : (p q : List ℕ) (fs ss os ns fs′ ss′ os′ ns′ old new new′ : List ℕ) (m : Table (Content (List ℕ))) (t : Table (List ℕ)) (a b c : WmAnswer) → NamePayload Ids p m → Has 1 (names t) m → NamePayload Ids q (row 1 (names t) nil) → listing p 1 (fs ∷ ss ∷ os ∷ ns ∷ []) (fs′ ∷ ss′ ∷ os′ ∷ ns′ ∷ []) a → a .kind ≡ 1 → wm-function-names-write (take (a .length) fs′) (take (a .length) ns′) (textAt p (take (a .length) os′) (take (a .length) ns′)) old new b → rewriting q old new′ c → (b ≡ c) × (new ≡ new′)
 
@@ -1101,13 +1101,13 @@ pub record MetadataListed : Type 0 where
   pub answers : (p : List ℕ) (lists lists′ : List (List ℕ)) (a : WmAnswer) → Bytes p → wm-metadata-list p lists lists′ a → Answers RowsReply (RowsRefused (MetadataFault Unknown AnyItemFault p) (judgeMetadata anyItem 0 p) (λ t. length (groupRows t)) lists) a
   pub unchanged : (p : List ℕ) (lists lists′ : List (List ℕ)) (a : WmAnswer) → wm-metadata-list p lists lists′ a → Unchanged lists lists′ a
   pub left : (p fs ss os ns fs′ ss′ os′ ns′ : List ℕ) (a : WmAnswer) → wm-metadata-list p (fs ∷ ss ∷ os ∷ ns ∷ []) (fs′ ∷ ss′ ∷ os′ ∷ ns′ ∷ []) a → Leaves fs fs′ a × Leaves ss ss′ a × Leaves os os′ a × Leaves ns ns′ a
-  pub rows : (p fs ss os ns fs′ ss′ os′ ns′ : List ℕ) (m : Table (Table (List ℕ))) (a : WmAnswer) → CodeMetadata Unknown p m → wm-metadata-list p (fs ∷ ss ∷ os ∷ ns ∷ []) (fs′ ∷ ss′ ∷ os′ ∷ ns′ ∷ []) a → a .kind ≡ 1 → (a ≡ wmFound 0 0 (length (groupRows m))) × ((i : ℕ) (e : Listed (List ℕ)) → getElem? (groupRows m) i ≡ some e → PlaceAt p fs′ ss′ os′ ns′ i e)
+  pub rows : (p fs ss os ns fs′ ss′ os′ ns′ : List ℕ) (m : Table (Table (List ℕ))) (a : WmAnswer) → CodeMetadata Unknown p m → wm-metadata-list p (fs ∷ ss ∷ os ∷ ns ∷ []) (fs′ ∷ ss′ ∷ os′ ∷ ns′ ∷ []) a → a .kind ≡ 1 → (a ≡ wmFound 0 0 (length (groupRows m))) × ((i : ℕ) (e : EntryRow (List ℕ)) → getElem? (groupRows m) i ≡ some e → PlaceAt p fs′ ss′ os′ ns′ i e)
 
 pub record HintsListed : Type 0 where
   pub answers : (p : List ℕ) (lists lists′ : List (List ℕ)) (a : WmAnswer) → Bytes p → wm-hints-list p lists lists′ a → Answers RowsReply (RowsRefused (MetadataFault BranchHint HintFault p) (judgeMetadata hintItem 0 p) (λ t. length (groupRows t)) lists) a
   pub unchanged : (p : List ℕ) (lists lists′ : List (List ℕ)) (a : WmAnswer) → wm-hints-list p lists lists′ a → Unchanged lists lists′ a
   pub left : (p fs os ls fs′ os′ ls′ : List ℕ) (a : WmAnswer) → wm-hints-list p (fs ∷ os ∷ ls ∷ []) (fs′ ∷ os′ ∷ ls′ ∷ []) a → Leaves fs fs′ a × Leaves os os′ a × Leaves ls ls′ a
-  pub rows : (p fs os ls fs′ os′ ls′ : List ℕ) (m : Table (Table (List ℕ))) (a : WmAnswer) → CodeMetadata BranchHint p m → wm-hints-list p (fs ∷ os ∷ ls ∷ []) (fs′ ∷ os′ ∷ ls′ ∷ []) a → a .kind ≡ 1 → (a ≡ wmFound 0 0 (length (groupRows m))) × ((i : ℕ) (e : Listed (List ℕ)) → getElem? (groupRows m) i ≡ some e → HintAt fs′ os′ ls′ i e)
+  pub rows : (p fs os ls fs′ os′ ls′ : List ℕ) (m : Table (Table (List ℕ))) (a : WmAnswer) → CodeMetadata BranchHint p m → wm-hints-list p (fs ∷ os ∷ ls ∷ []) (fs′ ∷ os′ ∷ ls′ ∷ []) a → a .kind ≡ 1 → (a ≡ wmFound 0 0 (length (groupRows m))) × ((i : ℕ) (e : EntryRow (List ℕ)) → getElem? (groupRows m) i ≡ some e → HintAt fs′ os′ ls′ i e)
 
 pub record EveryEntry : Type 0 where
   pub names : NamesListed SourceIds knownKind wm-names-list wm-names-canonical
