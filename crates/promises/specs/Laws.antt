@@ -20,6 +20,7 @@ pub mod Shortest
 pub mod Why
 pub mod FunctionNames
 pub mod Markers
+pub mod Rows
 pub mod OldLists
 pub mod EntryRows
 pub mod WrittenBack

@@ -7,9 +7,11 @@ use mathlib.Core.Path.{_≡_, refl, sym, ap, _∙_}
 use lib.ListN.{length, take, drop}
 use Rattle.wakemiono.specs.declared.WmAnswer.{WmAnswer}
 use Rattle.wakemiono.specs.Boundary.{wmRefused}
+use Rattle.grammar.specs.Faults.Older.{OlderFault}
 use Rattle.grammar.specs.Numbers.{Grammar}
 use Rattle.grammar.specs.Names.{NamePayload}
 use Rattle.grammar.specs.Metadata.{CodeMetadata, Unknown, BranchHint}
+use Rattle.format.specs.Entries.{olderColumns}
 use Rattle.format.specs.Tables.{Table}
 use Rattle.format.specs.Names.{Content, names}
 use Rattle.format.specs.Why.{TrueOfFunction, TrueOfLocal, whyFunction, whyLocal}
@@ -67,7 +69,8 @@ use Rattle.promises.specs.Laws.Exactly.{RefusedBy, JudgedThrough, walkRe
 use Rattle.promises.specs.Laws.Entries.{lists-names, lists-metadata, lists-hints}
 use Rattle.promises.specs.Laws.ListsRefused.{lists-refused}
 use Rattle.promises.specs.Laws.Faults.{answers-otherwise, writes-otherwise, faults, or-short, older-or-short, through-faults, format-faults}
-use Rattle.promises.specs.Laws.OldLists.{rows-refused, rows-answered, rows-numbered, functions-listed, offsets-listed, likely-listed, row-told, every-row, no-row, rows-risen}
+use Rattle.promises.specs.Laws.Rows.{rows-refused, rows-numbered, came-rows}
+use Rattle.promises.specs.Laws.OldLists.{rows as olderListed, older-came, functions-listed, offsets-listed, likely-listed, row-told, every-row, no-row, rows-risen}
 use Rattle.promises.specs.Laws.Older.{older-likely, older-unlikely, older-none, older-hint-refused, older-refused, older-never-15, older-ordered, sections-apart, never-empty}
 use Rattle.promises.specs.Laws.Refusing.{Numbered, FairlyJudged, names-fair, any-fair, hint-fair, item-of-fair, items-fair, older-fair, older-fair-by, walk-fair}
 use Rattle.promises.specs.Laws.Rewriting.{WhereWritten, always-written, Asked, names-asked, metadata-asked, hints-asked, older-asked, names-written, metadata-written, hints-written, names-first-judged, metadata-first-judged, hints-first-judged, rewritten-same, rewritten-accepted, rewritten-alike, rewritten-shorter, rewritten-rests, rewritten-fits, rewriting-refused, names-refuse, metadata-refuse, hints-refuse, older-refuse, older-written}
@@ -85,7 +88,7 @@ use Rattle.promises.specs.Laws.Pairs.{asks-pairs, hands-back}
 use Rattle.promises.specs.Laws.Joins.{joins-pairs}
 use Rattle.promises.specs.Laws.Walking.{walked, walk-counts, section-found, section-first, section-none, section-refused, custom-tells, custom-refused}
 use Rattle.wakemiono.specs.Calls.{wm-walk, wm-metadata-judge, wm-hints-judge, wm-metadata-canonical, wm-hints-canonical, wm-function-names-write, wm-old-hints-judge, wm-old-hints-canonical, wm-hints-on-branches}
-use Rattle.promises.specs.Demands.{Verdict, Reply, SectionReply, HintReply, Answers, RefusedThrough, RefusedOrShort, ListsRefused, NeedsRoom, Writing, Demand1, HoldsName, HoldsData, JudgesExactly, AnswersNames, AnswersMetadata, AnswersHints, Walks, Demand2, SameAnswer, Rewritten, Rewrites, Demand3, yes, no, replyNone, replyFound, replyRefused, sectionNone, sectionFound, sectionRefused, hintNone, hintUnlikely, hintLikely, hintRefused, byAFault, tooShort, Faulty, listsFault, outputTooShort, TellsCanonical, K10, K9, OlderRefused, AnswersOlder, K2, OldHintsListed, olderFault, olderTooLong, olderTooShort, K11, K7, K8, K3, Leaves, K5, K6, K12, K13, EveryEntry}
+use Rattle.promises.specs.Demands.{Verdict, Reply, SectionReply, HintReply, Answers, RefusedThrough, RefusedOrShort, ListsRefused, NeedsRoom, Writing, Demand1, HoldsName, HoldsData, JudgesExactly, AnswersNames, AnswersMetadata, AnswersHints, Walks, Demand2, SameAnswer, Rewritten, Rewrites, Demand3, yes, no, replyNone, replyFound, replyRefused, sectionNone, sectionFound, sectionRefused, hintNone, hintUnlikely, hintLikely, hintRefused, byAFault, tooShort, Faulty, listsFault, outputTooShort, TellsCanonical, K10, K9, OlderRefused, AnswersOlder, K2, OldHintsListed, olderFault, olderTooLong, olderTooShort, K11, K7, K8, K3, K5, K6, K12, K13, EveryEntry}
 use Rattle.branches.specs.Branches.{hintsOnBranches}
 use Rattle.branches.specs.Theorems.{module-exactly, module-refused-exactly, without-hints}
 use Rattle.promises.specs.Answers.{saysVerdict, verdict-said}
@@ -452,8 +455,12 @@ k2 = record {
 pub old-hints-listed : OldHintsListed
 old-hints-listed = λ p fs os ks fs′ os′ ks′ a. record {
   answers = λ b w.
-      let exactly = rows-refused p (fs ∷ os ∷ ks ∷ []) b (w .says) in
-      record { answers = rows-answered p (fs ∷ os ∷ ks ∷ []) (w .says); refuses = exactly; numbered = λ n at e. rows-numbered p (fs ∷ os ∷ ks ∷ []) b (exactly n at .0 e) };
+      let c = older-came p fs os ks fs′ os′ ks′ a w in
+      record {
+        answers = came-rows olderListed (judgeOlder 0 p) c;
+        refuses = rows-refused olderColumns (λ es. some (olderListed es)) (judgeOlder 0 p) (fs ∷ os ∷ ks ∷ []) (fs′ ∷ os′ ∷ ks′ ∷ []) a c (OlderFault p) (faults (older-hints-refused 0) p b);
+        numbered = rows-numbered olderColumns (λ es. some (olderListed es)) (judgeOlder 0 p) (fs ∷ os ∷ ks ∷ []) (fs′ ∷ os′ ∷ ks′ ∷ []) a c (older-fair 0 p .numbered);
+      };
   functions-left = functions-listed p fs os ks fs′ os′ ks′ a;
   offsets-left = offsets-listed p fs os ks fs′ os′ ks′ a;
   likely-left = likely-listed p fs os ks fs′ os′ ks′ a;

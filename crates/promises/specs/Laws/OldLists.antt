@@ -1,38 +1,31 @@
 -- Every pair of older hints as a row: what is listed, and what the lists hold after the call.
 use Prim.Native.Nat.{ℕ, zero, suc, _+_, _≤_, _<_}
-use mathlib.Core.Bool.{true, false}
+use mathlib.Core.Bool.{true}
 use mathlib.Core.List.{List, [], _∷_, _++_, map}
-use mathlib.Core.Logic.{_↔_, _≢_, _⊎_, inl, inr, ⊎-elim, Iff·trans}
-use mathlib.Core.Option.{Option, none, some}
-use mathlib.Core.Path.{_≡_, refl, sym, ap, ap₂, _∙_}
+use mathlib.Core.Logic.{_≢_, _⊎_, inl, inr, ⊎-elim}
+use mathlib.Core.Option.{some}
+use mathlib.Core.Path.{_≡_, refl, sym, ap, _∙_}
 use native.Mathlib.Omega.{arith}
-use borrow.Author.Tests.{leb-true, leb-false, le-leb, lt-leb}
+use borrow.Author.Tests.{leb-true}
 use lib.Dec.{leb}
 use lib.ListN.{length, drop, getElem?, length-map}
-use Rattle.format.specs.Bytes.{Bytes}
-use Rattle.format.specs.Entries.{Listed, rowsUnder, groupRows, olderRows, olderColumns, fitEach, fittingRows, overEach, rowsFound}
+use Rattle.format.specs.Entries.{Listed, rowsUnder, groupRows, olderRows, olderColumns, fitEach, overEach}
 use Rattle.format.specs.Holding.{Has, first, later, HasWithin}
 use Rattle.format.specs.Laws.Codecs.{Sorted, end, next}
 use Rattle.format.specs.Laws.Holding.{within-exactly}
 use Rattle.format.specs.Laws.OlderSorted.{Group, Any, any-numbers, sorted-entries, first-found}
 use Rattle.format.specs.Laws.Options.{not-some, some-is, byOption}
-use Rattle.format.specs.Laws.Outcomes.{not-accepted, accepted-is, byTest, false-true}
+use Rattle.format.specs.Laws.Outcomes.{byTest, false-true, mapped}
 use Rattle.format.specs.Older.{OlderEntry, kindNumber, judgeOlder, firstIn, askOlder, sortedFrom}
-use Rattle.format.specs.Options.{mapSome, thenSome}
-use Rattle.format.specs.Reading.{Judged, accepted, refused, mapJudged}
-use Rattle.format.specs.Tables.{Table, nil, row, lookup}
+use Rattle.format.specs.Reading.{accepted, mapJudged}
+use Rattle.format.specs.Tables.{Table, nil, row}
 use Rattle.format.specs.declared.Hint.{Hint}
 use Rattle.format.specs.declared.Hint.the-variants.{Unlikely, Likely}
-use Rattle.grammar.specs.Faults.Older.{OlderFault}
-use Rattle.grammar.specs.Modules.{Among, here, further}
-use Rattle.grammar.specs.Refusing.{older-refused as older-hints-refused}
-use Rattle.wakemiono.specs.Boundary.{wmNone, wmFound, wmRefused, wmPlace, wmHint, WmLists}
+use Rattle.wakemiono.specs.Boundary.{wmNone, wmFound, wmRefused, wmHint, WmLists}
 use Rattle.wakemiono.specs.declared.WmAnswer.{WmAnswer}
-use Rattle.promises.specs.Demands.{Leaves, RowsReply, rowsListed, rowsRefused, RowsRefused, unlisted, fewPlaces, RowAt}
-use Rattle.promises.specs.Laws.Faults.{faults}
+use Rattle.promises.specs.Demands.{Leaves, RowAt}
 use Rattle.promises.specs.Laws.Markers.{put-first, first-of, put-nothing}
-use Rattle.promises.specs.Laws.Refusing.{Numbered, older-fair}
-use Rattle.promises.specs.Laws.Telling.{byJudged}
+use Rattle.promises.specs.Laws.Rows.{Came, cameRefused, cameNone, cameShort, cameListed, came}
 
 -- POSITIONS in a list, in one that is joined of two, and in a column
 at-there : {A : Type 0} (xs : List A) (i : ℕ) → i < length xs → (x : A) × (getElem? xs i ≡ some x)
@@ -137,7 +130,7 @@ module _ {X : Type 0} where
 
 -- of hints: every pair that answers, with its answer
 module _ (es : List OlderEntry) where
-  abbrev rows : List (Listed Hint)
+  abbrev pub rows : List (Listed Hint)
   rows = groupRows (sortedFrom nil es)
 
   ordered : Sorted (Group Any) 0 (sortedFrom nil es)
@@ -154,97 +147,14 @@ module _ (es : List OlderEntry) where
   rows-rise : (i j : ℕ) {e f : Listed Hint} → i < j → getElem? rows i ≡ some e → getElem? rows j ≡ some f → (e .first < f .first) ⊎ ((e .first ≡ f .first) × (e .second < f .second))
   rows-rise i j h = groups-rise (λ k u g. g .sorted) ordered i j h
 
--- WHAT IS ANSWERED
-module _ {X : Type 0} where
-  rows-reply : (j : Judged (Option (List (Listed X)))) → (j ≡ accepted none → ⊥) → RowsReply (wmPlace (mapJudged (mapSome rowsFound) j))
-  rows-reply (accepted none) h = absurd (h refl)
-  rows-reply (accepted (some es)) h = rowsListed (length es)
-  rows-reply (refused n at) h = rowsRefused n at
-
-  rows-said : (j : Judged (Option (List (Listed X)))) (n at : ℕ) → (wmPlace (mapJudged (mapSome rowsFound) j) ≡ wmRefused n at) ↔ (j ≡ refused n at)
-  rows-said (accepted none) n at = (λ e. absurd (omega (arith, ap (λ (a : WmAnswer). a .kind) e)), λ e. absurd (not-accepted (sym e)))
-  rows-said (accepted (some es)) n at = (λ e. absurd (omega (arith, ap (λ (a : WmAnswer). a .kind) e)), λ e. absurd (not-accepted (sym e)))
-  rows-said (refused m o) n at = (λ e. ap₂ refused (ap (λ (a : WmAnswer). a .code) e) (ap (λ (a : WmAnswer). a .offset) e), λ e. ap (λ j. wmPlace (mapJudged (mapSome rowsFound) j)) e)
-
--- a list that is too short, where not each takes them
-short-among : (n : ℕ) (lists : List (List ℕ)) → fitEach n lists ≡ false → (l : List ℕ) × Among l lists × (length l < n)
-unfolding fitEach
-short-among n [] e = absurd (false-true (sym e))
-short-among n (l ∷ ls) e =
-    byTest (leb n (length l))
-    (λ t. let (x, a, h) = short-among n ls (rw t at e) in (x, further a, h))
-    (λ t. (l, here, leb-false n (length l) t))
-
-among-short : (n : ℕ) {l : List ℕ} {lists : List (List ℕ)} → Among l lists → length l < n → fitEach n lists ≡ false
-unfolding fitEach
-among-short n {l} here h = rw (lt-leb n (length l) h)
-among-short n (further {x = x} a) h = byTest (leb n (length x)) (λ t. rw t (among-short n a h)) (λ t. rw t)
-
--- WHICH INPUT IS REFUSED
-module _ (p : List ℕ) (lists : List (List ℕ)) where
-  abbrev found : Judged (Option (List (Listed Hint)))
-  found = fittingRows lists (olderRows p)
-
-  found-refused : {n at : ℕ} → judgeOlder 0 p ≡ refused n at → found ≡ refused n at
-  unfolding fittingRows olderRows
-  found-refused e = rw e
-
-  module _ {es : List OlderEntry} (judged : judgeOlder 0 p ≡ accepted es) where
-    found-short : fitEach (length (rows es)) lists ≡ false → found ≡ refused 13 (length (rows es))
-    unfolding fittingRows olderRows
-    found-short h = rw (judged, h)
-
-    found-rows : fitEach (length (rows es)) lists ≡ true → found ≡ accepted (some (rows es))
-    unfolding fittingRows olderRows
-    found-rows h = rw (judged, h)
-
-  never-none : found ≡ accepted none → ⊥
-  never-none e =
-      byJudged (judgeOlder 0 p)
-      (λ es j. byTest (fitEach (length (rows es)) lists)
-      (λ t. not-some (accepted-is (sym e ∙ found-rows j t)))
-      (λ t. not-accepted (sym (sym e ∙ found-short j t))))
-      (λ n at j. not-accepted (sym (sym e ∙ found-refused j)))
-
-  abbrev Refusals : (number offset : ℕ) → Type 0
-  Refusals = RowsRefused (OlderFault p) (judgeOlder 0 p) (λ es. length (rows es)) lists
-
-  module _ (bytes : Bytes p) where
-    from-refused : {n at : ℕ} → Refusals n at → found ≡ refused n at
-    from-refused {n} {at} (unlisted f) = found-refused (faults (older-hints-refused 0) p bytes n at .1 f)
-    from-refused (fewPlaces {v = es} judged among few) = found-short judged (among-short (length (rows es)) among few)
-
-    same-refused : {n at m o : ℕ} → found ≡ refused n at → Refusals m o → Refusals n at
-    same-refused e r = let q = sym (from-refused r) ∙ e in rw (← refused-code q, ← refused-place q) r
-      where
-        refused-code : {n at m o : ℕ} → _≡_ {A = Judged (Option (List (Listed Hint)))} (refused m o) (refused n at) → m ≡ n
-        refused-code e = cc
-
-        refused-place : {n at m o : ℕ} → _≡_ {A = Judged (Option (List (Listed Hint)))} (refused m o) (refused n at) → o ≡ at
-        refused-place e = cc
-
-    to-refused : {n at : ℕ} → found ≡ refused n at → Refusals n at
-    to-refused e =
-        byJudged (judgeOlder 0 p)
-        (λ es judged. byTest (fitEach (length (rows es)) lists)
-        (λ t. absurd (not-accepted (sym e ∙ found-rows judged t)))
-        (λ t. let (l, among, few) = short-among (length (rows es)) lists t in same-refused e (fewPlaces judged among few)))
-        (λ n at judged. same-refused e (unlisted (faults (older-hints-refused 0) p bytes n at .0 judged)))
-
-    pub rows-refused : {a : WmAnswer} → a ≡ wmPlace (mapJudged (mapSome rowsFound) found) → (n at : ℕ) → (a ≡ wmRefused n at) ↔ Refusals n at
-    rows-refused e n at = rw e (Iff·trans (rows-said found n at) (to-refused, from-refused))
-
-    pub rows-numbered : {n at : ℕ} → Refusals n at → Numbered n
-    rows-numbered {n} {at} (unlisted f) = older-fair 0 p .numbered n at (faults (older-hints-refused 0) p bytes n at .1 f)
-    rows-numbered (fewPlaces judged among few) = refl
-
-  pub rows-answered : {a : WmAnswer} → a ≡ wmPlace (mapJudged (mapSome rowsFound) found) → RowsReply a
-  rows-answered e = rw e (rows-reply found never-none)
-
 -- WHAT THE LISTS HOLD AFTERWARDS
 module _ (p fs os ks fs′ os′ ks′ : List ℕ) (a : WmAnswer) (w : WmLists olderColumns (olderRows p) (fs ∷ os ∷ ks ∷ []) (fs′ ∷ os′ ∷ ks′ ∷ []) a) where
   abbrev three : List (List ℕ)
   three = fs ∷ os ∷ ks ∷ []
+
+  pub older-came : Came olderColumns (mapJudged (λ es. some (rows es)) (judgeOlder 0 p)) three (fs′ ∷ os′ ∷ ks′ ∷ []) a
+  unfolding olderRows
+  older-came = came olderColumns (olderRows p) three (fs′ ∷ os′ ∷ ks′ ∷ []) a w
 
   -- the rows, or nothing
   record Put (es : List OlderEntry) : Type 0 where
@@ -263,10 +173,8 @@ module _ (p fs os ks fs′ os′ ks′ : List ℕ) (a : WmAnswer) (w : WmLists o
     offsets-are : os′ ≡ os
     likely-are : ks′ ≡ ks
 
-  kept : {n at : ℕ} → found p three ≡ refused n at → Kept n at
-  kept e =
-      let same : fs′ ∷ os′ ∷ ks′ ∷ [] ≡ three = w .leaves ∙ rw e in
-      record { answer-is = w .says ∙ rw e; functions-are = cc; offsets-are = cc; likely-are = cc }
+  kept : {n at : ℕ} → a ≡ wmRefused n at → fs′ ∷ os′ ∷ ks′ ∷ [] ≡ three → Kept n at
+  kept q same = record { answer-is = q; functions-are = cc; offsets-are = cc; likely-are = cc }
 
   both-fit : (n : ℕ) → fitEach n three ≡ true → (n ≤ length fs) × (n ≤ length os) × (n ≤ length ks)
   unfolding fitEach
@@ -279,19 +187,20 @@ module _ (p fs os ks fs′ os′ ks′ : List ℕ) (a : WmAnswer) (w : WmLists o
       (λ o. false-true (rw (f, o) at e)))
       (λ f. false-true (rw f at e))
 
-  put : {es : List OlderEntry} → judgeOlder 0 p ≡ accepted es → fitEach (length (rows es)) three ≡ true → Put es
+  put : {es : List OlderEntry} → judgeOlder 0 p ≡ accepted es → fitEach (length (rows es)) three ≡ true → a ≡ wmFound 0 0 (length (rows es)) → fs′ ∷ os′ ∷ ks′ ∷ [] ≡ overEach olderColumns (rows es) three → Put es
   unfolding overEach
-  put {es} judged t =
-      let e = found-rows p three judged t in
+  put {es} judged t q same =
       let (f, o, k) = both-fit (length (rows es)) t in
-      let same : fs′ ∷ os′ ∷ ks′ ∷ [] ≡ overEach olderColumns (rows es) three = w .leaves ∙ rw e in
-      record { judged = judged; answer-is = w .says ∙ rw e; functions-fit = f; offsets-fit = o; likely-fit = k; functions-are = cc; offsets-are = cc; likely-are = cc }
+      record { judged = judged; answer-is = q; functions-fit = f; offsets-fit = o; likely-fit = k; functions-are = cc; offsets-are = cc; likely-are = cc }
 
   onListed {ℓ} : {C : Type ℓ} → ((es : List OlderEntry) → Put es → C) → ((n at : ℕ) → Kept n at → C) → C
-  onListed f g =
-      byJudged (judgeOlder 0 p)
-      (λ es judged. byTest (fitEach (length (rows es)) three) (λ t. f es (put judged t)) (λ t. g 13 (length (rows es)) (kept (found-short p three judged t))))
-      (λ n at judged. g n at (kept (found-refused p three judged)))
+  onListed {C} f g = of older-came
+    where
+      of : Came olderColumns (mapJudged (λ es. some (rows es)) (judgeOlder 0 p)) three (fs′ ∷ os′ ∷ ks′ ∷ []) a → C
+      of (cameRefused n at e q same) = g n at (kept q same)
+      of (cameNone e q same) = mapped (λ es. some (rows es)) (judgeOlder 0 p) e λ es e₁ e₂. absurd (not-some (sym e₂))
+      of (cameShort rs e t q same) = g 13 (length rs) (kept q same)
+      of (cameListed rs e t q same) = mapped (λ es. some (rows es)) (judgeOlder 0 p) e λ es e₁ e₂. let is = some-is e₂ in f es (put e₁ (rw is t) (rw is q) (rw is same))
 
   column-left : (column : Listed Hint → ℕ) (old : List ℕ) {new : List ℕ} (es : List OlderEntry) → length (rows es) ≤ length old → new ≡ map column (rows es) ++ drop (length (map column (rows es))) old → a ≡ wmFound 0 0 (length (rows es)) → Leaves old new a
   column-left column old es room is e = let many = length-map (rows es) column in put-first (map column (rows es)) old 0 (rw many room) is (e ∙ rw many)
