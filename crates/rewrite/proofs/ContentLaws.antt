@@ -5,6 +5,7 @@ use mathlib.Core.Option.{none, some}
 use mathlib.Core.Path.{_≡_, refl, sym, ap, _∙_}
 use native.Mathlib.Omega.{arith}
 use borrow.Author.Needs.{needs}
+use denote.Enum.Declared.{tagOf}
 use lib.ListN.{length, length-append}
 use lib.Seq.{length-slice}
 use Rattle.format.specs.Reading.{Reader, filling}
@@ -35,6 +36,7 @@ use Rattle.names.specs.declared.kinds.Kind.{Kind as KindHere}
 use Rattle.names.specs.declared.kinds.Kind.the-variants.{OneName, NameMap, IndirectMap, Kept}
 use Rattle.rewrite.specs.declared.contents.Left.{Left}
 use Rattle.rewrite.specs.declared.contents.Left.the-variants.{Nothing, Contents}
+use Rattle.rewrite.proofs.contents.Left as left-type
 
 -- What stands in a part of each kind, read again without its checks
 pub record Made {A : Type 0} (read : Reader A) (make : A → Content Part) (s : List ℕ) (part : Cursor) (c : Content Part) : Type 0 where
@@ -119,6 +121,10 @@ map-bytes t = refl
 pub groups-bytes : (t : Table (Table Part)) → writeContent (namesBy (keptGroups t)) ≡ shortest (size (keptGroups t)) ++ groupsOf t
 unfolding writeContent writeTable groupsOf
 groups-bytes t = refl
+
+pub as-nothing : (x : Left) → tagOf left-type.the-type x ≡ 0 → x ≡ Nothing
+as-nothing Nothing h = refl
+as-nothing (Contents z) h = absurd (omega arith)
 
 -- MEASURED: one name
 module _ {s : List ℕ} {part : Cursor} (k : KnownContent oneName s part) where

@@ -82,10 +82,10 @@ module _ {s : List ℕ} {c : Cursor} (known : Known (table (table sized)) s c) w
 
         -- as long as they are, they are what they are
         module _ (same : size-length + g .length ≡ c .end - c .at) where
-          pub items-whole-room : size-length + g .length ≤ length old → FitsWhole s c old
+          pub items-whole-room : size-length + g .length ≤ length old → FitsWhole s c old 0
           items-whole-room room = record { inside = known .stands .inside; room = omega (arith, room, same) }
 
-          pub items-whole : {new : List ℕ} {end : ℕ} → PutsWhole s c old new end → RewritesItems s c old new (Length end)
+          pub items-whole : {new : List ℕ} {end : ℕ} → PutsWhole s c old new 0 end → RewritesItems s c old new (Length end)
           items-whole p =
               let is = functions-tight sized-codec (c .at) (left s c) (p .bytes) (items-stand .reads) (omega (arith, items-long, same, part-length (items-stand .inside))) in
               record { value = measured .value; next = g .next; stands = items-stand; writes = writes-wrote refl (rw (← is) at (p .wrote)) }

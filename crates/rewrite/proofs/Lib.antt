@@ -1,7 +1,8 @@
 pub mod ContentLaws
-pub mod PutLaws
 pub mod WholeLaws
+pub mod PutLaws
 pub mod SubsectionLaws
+pub mod ChangeLaws
 pub mod SubsectionPuts
 pub mod NameLaws
 pub mod ItemLaws

@@ -10,7 +10,6 @@ use Rattle.format.specs.Canonical.{rewriteNames, canonicalNames}
 use Rattle.format.specs.Outputs.{Writes}
 use Rattle.format.specs.Laws.Outcomes.{judged, refused-exactly}
 use Rattle.format.specs.Laws.Outputs.{writes-refused}
-use Rattle.format.specs.Laws.CanonicalNames.{rewriting-shorter}
 use Rattle.format.specs.declared.Refusal.{Refusal}
 use Rattle.format.specs.declared.Written.{Written}
 use Rattle.format.specs.declared.Written.the-variants.{Refused as NotWritten}
@@ -41,7 +40,6 @@ module _ (kindOf : ℕ → AnyKind) (p : List ℕ) (v : Verdict) (says : verdict
           next = o;
           rest = rest;
           reads = rw (left-all p) e;
-          shorter = rw (left-all p) (rewriting-shorter kindOf accepts);
         }
 
     pub names-known : {c : Cursor} → c ≡ overAll p → KnownPayload kindOf p c

@@ -1,18 +1,25 @@
 -- Contents that were accepted, by kind: what is left of them, written.
 use Prim.Native.Nat.{ℕ, _+_, _-_, _≤_}
-use mathlib.Core.List.{List, _++_}
-use mathlib.Core.Option.{some}
-use mathlib.Core.Path.{_≡_, sym, ap, _∙_}
+use mathlib.Core.List.{List, [], _++_}
+use mathlib.Core.Option.{none, some}
+use mathlib.Core.Path.{_≡_, refl, sym, ap, _∙_}
 use native.Mathlib.Omega.{arith}
 use borrow.Author.Needs.{needs}
-use lib.ListN.{length, take, drop, length-append}
+use denote.Enum.Declared.{tagOf}
+use lib.ListN.{length, length-append}
+use Rattle.format.specs.Bytes.{Bytes}
 use Rattle.format.specs.Numbers.{number, shortest}
 use Rattle.format.specs.Parts.{Part, sized}
 use Rattle.format.specs.Tables.{Table, size, rows, table}
-use Rattle.format.specs.Names.{oneName, nameMap, indirectMap, kept, Content, single, names, namesBy, whole}
-use Rattle.format.specs.Canonical.{writePart, unlessEmpty, keepRows, bareItems, bare, trim, writeContent}
-use Rattle.format.specs.Laws.Options.{some-is, inThen}
+use Rattle.format.specs.Names.{Kind as AnyKind, oneName, nameMap, indirectMap, kept, Content, single, names, namesBy, whole}
+use Rattle.format.specs.Options.{mapSome}
+use Rattle.format.specs.Canonical.{writePart, writeTable, unlessEmpty, keepRows, bareItems, bare, trim, writeContent}
+use Rattle.format.specs.Laws.Names.{ContentFine, namesByFine, contents-sound}
+use Rattle.format.specs.Laws.Options.{some-is, not-some, inThen, byOption}
 use Rattle.format.specs.Laws.Tables.{kept-rows}
+use Rattle.format.specs.Laws.Tight.{tight-whole}
+use Rattle.format.specs.Laws.Trimming.{trim-shorter}
+use Rattle.format.specs.Laws.Unchanged.{groups-unchanged}
 use Rattle.reading.specs.Cursors.{left, partOf}
 use Rattle.reading.specs.declared.Cursor.{Cursor}
 use Rattle.writing.specs.Wrote.{Wrote}
@@ -23,13 +30,18 @@ use Rattle.copying.specs.Standing.{FitsPart, Fits, Puts}
 use Rattle.reading.specs.declared.again.Piece.{Piece}
 use Rattle.copying.specs.declared.Put.{Put}
 use Rattle.reading.proofs.Standing.{one-value}
-use Rattle.copying.proofs.Laws.{cut-left, part-fits, rows-count}
+use Rattle.copying.proofs.Laws.{part-length, part-fits, rows-count}
 use Rattle.tables.proofs.Accepted.{known-count}
 use Rattle.names.specs.Contents.{kindMeant}
 use Rattle.names.specs.declared.kinds.Kind.{Kind}
 use Rattle.names.specs.declared.kinds.Kind.the-variants.{OneName, NameMap, IndirectMap, Kept}
-use Rattle.rewrite.specs.Contents.{countOf, FitsContent, Counted, PutsContent}
-use Rattle.rewrite.proofs.ContentLaws.{made-known, one-made, map-made, groups-made, whole-is, one-content, map-rows, groups-rows, map-bytes, groups-bytes}
+use Rattle.rewrite.specs.Contents.{ContentStands, countOf, sizesOf, leftOf, Trims, FitsContent, Counted, PutsContent}
+use Rattle.rewrite.specs.Whole.{FitsWhole, PutsWhole}
+use Rattle.rewrite.specs.declared.contents.Sizes.{Sizes}
+use Rattle.rewrite.specs.declared.contents.Left.{Left}
+use Rattle.rewrite.specs.declared.contents.Left.the-variants.{Contents}
+use Rattle.rewrite.proofs.contents.Left as left-type
+use Rattle.rewrite.proofs.ContentLaws.{made-known, one-made, map-made, groups-made, whole-is, one-content, map-rows, groups-rows, map-bytes, groups-bytes, as-nothing}
 
 -- What is left is what stands there, without what is empty
 one-remains : (p : Part) {d : Content (List ℕ)} → trim (bare (single p)) ≡ some d → d ≡ single (p .bytes)
@@ -131,27 +143,89 @@ module _ {s : List ℕ} {part : Cursor} {old : List ℕ} {at : ℕ} (f : FitsCon
 
 pub ruleset groups-put = (put-groups-known, put-groups-count-room, put-groups-room, put-groups, wrote-length, needs)
 
+-- Contents that come out as long as they are
+unchanged : {kind : AnyKind} (c : Content Part) {d : Content (List ℕ)} → ContentFine kind (bare c) → trim (bare c) ≡ some d → length (writeContent d) ≡ length (writeContent (bare c)) → d ≡ bare c
+unfolding bare keptGroups writeContent
+unchanged (single p) h e long = one-remains p e
+unchanged (names t) h e long = map-remains t e
+unchanged (namesBy t) (namesByFine h) e long = let is = groups-remain t e in is ∙ ap namesBy (groups-unchanged (writeTable writePart) (h .sorted) (rw is at long))
+unchanged (whole p) h e long = whole-remains p e
+
+module _ {kind : AnyKind} {s : List ℕ} {part : Cursor} where
+  -- no longer than they are; and where they are as long, they are what they are
+  module _ {c : Content Part} {d : Content (List ℕ)} (w : ContentStands kind s part c) (e : trim (bare c) ≡ some d) where
+    pub left-shorter : length (writeContent d) ≤ length (left s part)
+    left-shorter = let r = contents-sound kind (part .at) (left s part) (w .reads) in omega (arith, trim-shorter (r .fine) e, r .shorter)
+
+    pub left-same : Bytes (left s part) → length (writeContent d) ≡ length (left s part) → writeContent d ≡ left s part
+    left-same h long =
+        let r = contents-sound kind (part .at) (left s part) (w .reads) in
+        let is = unchanged c (r .fine) e (omega (arith, long, trim-shorter (r .fine) e, r .shorter)) in
+        let long′ : length (writeContent (bare c)) ≡ length (left s part) = rw is at long in
+        ap writeContent is ∙ tight-whole [] (r .tight) (omega (arith, long′)) h long′
+
+-- What a measure says of contents: nothing is left, or something of these sizes
+pub record Remains (c : Content Part) (z : Sizes) : Type 0 where
+  pub remains : Content (List ℕ)
+  pub is : trim (bare c) ≡ some remains
+  pub count-is : z .count ≡ countOf remains
+  pub length-is : z .length ≡ length (writeContent remains)
+
+module _ {kind : AnyKind} {s : List ℕ} {part : Cursor} {c : Content Part} (w : ContentStands kind s part c) (x : Left) (t : Trims kind s part x) where
+  told : leftOf x ≡ mapSome sizesOf (trim (bare c))
+  told = t .is ∙ ap (λ (d : Content Part). mapSome sizesOf (trim (bare d))) (one-content (t .stands) w)
+
+  pub nothing-left : tagOf left-type.the-type x ≡ 0 → trim (bare c) ≡ none
+  nothing-left h =
+      byOption (trim (bare c))
+      (λ n. n)
+      (λ d n. absurd (not-some (rw (as-nothing x h, n) at told)))
+
+  pub something-left : {z : Sizes} → x ≡ Contents z → Remains c z
+  something-left {z} e =
+      byOption (trim (bare c))
+      (λ n. absurd (not-some (sym (rw (e, n) at told))))
+      (λ d n. let q : z ≡ sizesOf d = some-is (rw (e, n) at told) in record { remains = d; is = n; count-is = ap (λ (y : Sizes). y .count) q; length-is = ap (λ (y : Sizes). y .length) q })
+
+-- Contents of a kind, once they were measured: copied or put
+module _ {kind : AnyKind} {s : List ℕ} {part : Cursor} {old : List ℕ} {at : ℕ} (f : FitsContent kind s part old at) {z : Sizes} (t : Trims kind s part (Contents z)) where
+  measured-here : Remains (f .value) z
+  measured-here = something-left (f .stands) (Contents z) t refl
+
+  pub put-ordered : part .at ≤ part .end
+  put-ordered = f .stands .inside .ahead
+
+  pub put-counted : Counted kind s part (z .count)
+  put-counted = let m = measured-here in record { value = f .value; stands = f .stands; remains = m .remains; is = m .is; counted = m .count-is }
+
+  module _ (same : z .length ≡ part .end - part .at) where
+    -- what fits is what was measured
+    as-long : length (writeContent (f .remains)) ≡ part .end - part .at
+    as-long = let m = measured-here in let one : f .remains ≡ m .remains = some-is (sym (f .is) ∙ m .is) in rw one (omega (arith, m .length-is, same))
+
+    pub put-same-room : FitsWhole s part old at
+    put-same-room = record { inside = f .stands .inside; room = omega (arith, f .room, as-long) }
+
+    pub put-same : {new : List ℕ} {next : ℕ} → PutsWhole s part old new at next → PutsContent kind s part old new at next
+    put-same p =
+        let is = left-same (f .stands) (f .is) (p .bytes) (omega (arith, as-long, part-length (f .stands .inside), f .stands .inside .ahead)) in
+        record { value = f .value; stands = f .stands; remains = f .remains; is = f .is; wrote = rw is (p .wrote) }
+
+pub ruleset content-put = (put-ordered, put-counted, put-same-room, put-same, wrote-length, needs)
+
 -- Kept contents
 module _ {s : List ℕ} {part : Cursor} {old : List ℕ} {at : ℕ} (f : FitsContent kept s part old at) where
-  kept-bytes : writeContent (f .remains) ≡ take (part .end - part .at) (drop (part .at) s)
+  kept-bytes : writeContent (f .remains) ≡ left s part
   unfolding writeContent
-  kept-bytes = ap writeContent (whole-remains (partOf s part) (rw (whole-is (f .stands)) at (f .is))) ∙ sym (cut-left (f .stands .inside))
+  kept-bytes = ap writeContent (whole-remains (partOf s part) (rw (whole-is (f .stands)) at (f .is)))
 
-  pub put-kept-ordered : part .at ≤ part .end
-  put-kept-ordered = f .stands .inside .ahead
+  pub put-kept-room : FitsWhole s part old at
+  put-kept-room = record { inside = f .stands .inside; room = omega (arith, f .room, ap length kept-bytes, part-length (f .stands .inside)) }
 
-  pub put-kept-within : part .end ≤ length s
-  put-kept-within = f .stands .inside .within
+  pub put-kept : {new : List ℕ} {next : ℕ} → PutsWhole s part old new at next → PutsContent kept s part old new at next
+  put-kept p = record { value = f .value; stands = f .stands; remains = f .remains; is = f .is; wrote = rw kept-bytes (p .wrote) }
 
-  pub put-kept-room : at + length (take (part .end - part .at) (drop (part .at) s)) ≤ length old
-  put-kept-room = rw kept-bytes at (f .room)
-
-  pub put-kept : {new : List ℕ} {next : ℕ} → Wrote old new at next (take (part .end - part .at) (drop (part .at) s)) → PutsContent kept s part old new at next
-  put-kept w = record { value = f .value; stands = f .stands; remains = f .remains; is = f .is; wrote = rw kept-bytes w }
-
-pub ruleset kept-put = (put-kept-ordered, put-kept-within, put-kept-room, put-kept, wrote-length, needs)
-
--- Contents of a kind
+-- Contents of a kind, row by row
 module _ {s : List ℕ} {part : Cursor} (kind : Kind) where
   module _ {old : List ℕ} {at : ℕ} (f : FitsContent (kindMeant kind) s part old at) where
     pub fits-one : kind ≡ OneName → FitsContent oneName s part old at
@@ -163,8 +237,14 @@ module _ {s : List ℕ} {part : Cursor} (kind : Kind) where
     pub fits-indirect : kind ≡ IndirectMap → FitsContent indirectMap s part old at
     fits-indirect e = rw e at f
 
-    pub fits-kept : kind ≡ Kept → FitsContent kept s part old at
+    fits-kept : kind ≡ Kept → FitsContent kept s part old at
     fits-kept e = rw e at f
+
+    pub kept-room : kind ≡ Kept → FitsWhole s part old at
+    kept-room e = put-kept-room (fits-kept e)
+
+    pub puts-kept : {new : List ℕ} {next : ℕ} → kind ≡ Kept → PutsWhole s part old new at next → PutsContent (kindMeant kind) s part old new at next
+    puts-kept e p = rw e (put-kept (fits-kept e) p)
 
   pub counts-indirect : {count : ℕ} → Counted (kindMeant kind) s part count → kind ≡ IndirectMap → Counted indirectMap s part count
   counts-indirect k e = rw e at k
@@ -179,7 +259,4 @@ module _ {s : List ℕ} {part : Cursor} {kind : Kind} {old new : List ℕ} {at n
   pub puts-indirect : kind ≡ IndirectMap → PutsContent indirectMap s part old new at next → PutsContent (kindMeant kind) s part old new at next
   puts-indirect e p = rw e p
 
-  pub puts-kept : kind ≡ Kept → PutsContent kept s part old new at next → PutsContent (kindMeant kind) s part old new at next
-  puts-kept e p = rw e p
-
-pub ruleset content-put = (fits-one, fits-map, fits-indirect, fits-kept, counts-indirect, puts-one, puts-map, puts-indirect, puts-kept, wrote-length, needs)
+pub ruleset content-anew = (fits-one, fits-map, fits-indirect, kept-room, counts-indirect, puts-one, puts-map, puts-indirect, puts-kept, wrote-length, needs)

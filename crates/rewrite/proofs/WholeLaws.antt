@@ -1,4 +1,4 @@
--- All that a cursor has left, copied to the output's front: bytes, as they stand in what was lent.
+-- All that a cursor has left, copied: bytes, as they stand in what was lent.
 use Prim.Native.Nat.{ℕ, _+_, _-_, _≤_}
 use mathlib.Core.List.{List}
 use native.Mathlib.Omega.{arith}
@@ -19,17 +19,17 @@ bytes-left s c h =
     let front = bytes-before (take (c .end) s) (drop (c .end) s) (rw (take-append-drop (c .end) s) h) in
     bytes-after (take (c .at) (take (c .end) s)) (left s c) (rw (take-append-drop (c .at) (take (c .end) s)) front)
 
-module _ {s : List ℕ} {c : Cursor} {old : List ℕ} (f : FitsWhole s c old) where
+module _ {s : List ℕ} {c : Cursor} {old : List ℕ} {at : ℕ} (f : FitsWhole s c old at) where
   pub whole-ordered : c .at ≤ c .end
   whole-ordered = f .inside .ahead
 
   pub whole-within : c .end ≤ length s
   whole-within = f .inside .within
 
-  pub whole-room : 0 + length (take (c .end - c .at) (drop (c .at) s)) ≤ length old
+  pub whole-room : at + length (take (c .end - c .at) (drop (c .at) s)) ≤ length old
   whole-room = rw (cut-left (f .inside)) (omega (arith, f .room, part-length (f .inside)))
 
-  pub whole-copied : {new : List ℕ} {next : ℕ} → Bytes s → Wrote old new 0 next (take (c .end - c .at) (drop (c .at) s)) → PutsWhole s c old new next
+  pub whole-copied : {new : List ℕ} {next : ℕ} → Bytes s → Wrote old new at next (take (c .end - c .at) (drop (c .at) s)) → PutsWhole s c old new at next
   whole-copied h w = record { bytes = bytes-left s c h; wrote = rw (cut-left (f .inside)) at w }
 
 pub ruleset whole-put = (whole-ordered, whole-within, whole-room, whole-copied, wrote-length, needs)

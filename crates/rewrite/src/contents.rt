@@ -1,7 +1,9 @@
 // The contents of a subsection that was accepted: what is left of them, and written in their fewest bytes.
-ghost use Rattle.format.specs.Names.{oneName, nameMap, indirectMap, kept};
+ghost use Rattle.format.specs.Names.{oneName, nameMap, indirectMap};
 ghost use Rattle.names.specs.Contents.{kindMeant};
+ghost use Rattle.rewrite.specs.declared.contents.Left.the-variants.{Contents};
 ghost use Rattle.rewrite.specs.Contents.{KnownContent, Trims, FitsContent, Counted, PutsContent};
+use crate::whole::put_whole;
 use copying::groups_length;
 use copying::put_groups;
 use copying::put_part;
@@ -13,7 +15,6 @@ use reading::Cursor;
 use reading::again::number_here;
 use reading::again::part_here;
 use writing::number_length;
-use writing::put_long;
 use writing::put_number;
 
 // How long contents are, and how many entries or groups they begin by counting; one name and kept contents count none.
@@ -120,25 +121,8 @@ fn put_indirect_map(out: &mut [u8], at: usize, s: &[u8], part: Cursor, kept: u32
     all.at
 }
 
-// Kept contents, as they are.
-fn put_kept(out: &mut [u8], at: usize, s: &[u8], part: Cursor) -> usize
-    requires { ⌜ FitsContent kept (now s) part (now out) at ⌝ }
-    ensures { λ r. ⌜ PutsContent kept (now (s .entry)) part (now (out .entry)) (now (out .exit)) at r ⌝ }
-{
-    let from = part.at;
-    let to = part.end;
-    put_long(out, at, &s[from..to])
-}
-
-// What is left of contents of a kind, with the count that was found when it was measured.
-pub fn put_content(
-    out: &mut [u8],
-    at: usize,
-    s: &[u8],
-    part: Cursor,
-    kind: Kind,
-    count: u32,
-) -> usize
+// What is left of contents of a kind, row by row, with the count that was found when it was measured.
+fn put_anew(out: &mut [u8], at: usize, s: &[u8], part: Cursor, kind: Kind, count: u32) -> usize
     requires { ⌜ FitsContent (kindMeant kind) (now s) part (now out) at ⌝ }
     requires { ⌜ Counted (kindMeant kind) (now s) part count ⌝ }
     ensures { λ r. ⌜ PutsContent (kindMeant kind) (now (s .entry)) part (now (out .entry)) (now (out .exit)) at r ⌝ }
@@ -147,6 +131,25 @@ pub fn put_content(
         Kind::OneName => put_one_name(out, at, s, part),
         Kind::NameMap => put_name_map(out, at, s, part),
         Kind::IndirectMap => put_indirect_map(out, at, s, part, count),
-        Kind::Kept => put_kept(out, at, s, part),
+        Kind::Kept => put_whole(out, at, s, part),
     }
+}
+
+// What is left of contents of a kind, once it was measured. Where it is as long as they are, they are copied.
+pub fn put_content(
+    out: &mut [u8],
+    at: usize,
+    s: &[u8],
+    part: Cursor,
+    kind: Kind,
+    sizes: Sizes,
+) -> usize
+    requires { ⌜ FitsContent (kindMeant kind) (now s) part (now out) at ⌝ }
+    requires { ⌜ Trims (kindMeant kind) (now s) part (Contents sizes) ⌝ }
+    ensures { λ r. ⌜ PutsContent (kindMeant kind) (now (s .entry)) part (now (out .entry)) (now (out .exit)) at r ⌝ }
+{
+    if sizes.length == part.end - part.at {
+        return put_whole(out, at, s, part);
+    }
+    put_anew(out, at, s, part, kind, sizes.count)
 }

@@ -31,7 +31,7 @@ pub fn put_items(p: &[u8], c: Cursor, out: &mut [u8]) -> Written
         });
     }
     if needed == c.end - c.at {
-        let end = put_whole(out, p, c);
+        let end = put_whole(out, 0, p, c);
         return Written::Length(end);
     }
     let first = put_number(out, 0, functions.kept);

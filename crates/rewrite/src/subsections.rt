@@ -1,8 +1,8 @@
-// The subsections of a name payload that was accepted: how long what is left of them is, and written in their fewest bytes.
+// The subsections of a name payload that was accepted: which of them come out as they are, how long what is left of them is, and written in their fewest bytes.
 ghost use mathlib.Core.Path.{_≡_};
 ghost use Rattle.format.specs.Names.{kindIn};
 ghost use Rattle.rewrite.specs.Contents.{leftOf};
-ghost use Rattle.rewrite.specs.Subsections.{smallLeft, lengthLeft, KnownFrame, FrameStands, FitsSubsection, PutsSubsection, KnownPayload, MeasuresPayload, FitsPayload, PutsPayload, RewritesNames};
+ghost use Rattle.rewrite.specs.Subsections.{smallLeft, lengthLeft, KnownFrame, FrameStands, TrimsSubsection, FitsSubsection, PutsSubsection, KnownPayload, MeasuresPayload, NeedsRoom, FindsChanged, FitsPayload, PutsPayload, RewritesNames};
 use crate::contents::Left;
 use crate::contents::content_left;
 use crate::contents::put_content;
@@ -26,6 +26,12 @@ pub struct Frame {
     pub id: u8,
     pub part: Cursor,
     pub next: Cursor,
+}
+
+// The first subsection that comes out shorter than it is, if one does: where it begins, its frame, and what is left of it.
+pub enum Changed {
+    Nothing,
+    Subsection(usize, Frame, Left),
 }
 
 // How long a subsection is with its id and its size; nothing where nothing is left of it.
@@ -75,7 +81,51 @@ fn names_length(s: &[u8], c: Cursor, edition: Edition) -> usize
     length
 }
 
-// What is left of a subsection, with its id and its size; nothing where nothing is left.
+// The first subsection that does not come out as it is. A subsection that comes out as long as it is comes out as it is.
+fn first_changed(s: &[u8], c: Cursor, edition: Edition) -> Changed
+    requires { ⌜ KnownPayload (kindIn edition) (now s) c ⌝ }
+    ensures { λ r. ⌜ FindsChanged (kindIn edition) (now (s .entry)) c r ⌝ }
+{
+    let mut next = c;
+    while next.at < next.end {
+        let frame = frame_here(s, next);
+        let part = frame.part;
+        let after = frame.next;
+        let left = content_left(s, part, kind_of(edition, frame.id));
+        if subsection_length(left) != after.at - next.at {
+            return Changed::Subsection(next.at, frame, left);
+        }
+        next = after;
+    }
+    Changed::Nothing
+}
+
+// What is left of a subsection, once it was measured, with its id and its size; nothing where nothing is left.
+fn put_measured(
+    out: &mut [u8],
+    at: usize,
+    edition: Edition,
+    id: u8,
+    s: &[u8],
+    part: Cursor,
+    left: Left,
+) -> usize
+    requires { ⌜ FitsSubsection (kindIn edition) id (now s) part (now out) at ⌝ }
+    requires { ⌜ TrimsSubsection (kindIn edition) id (now s) part left ⌝ }
+    ensures { λ r. ⌜ PutsSubsection (kindIn edition) id (now (s .entry)) part (now (out .entry)) (now (out .exit)) at r ⌝ }
+{
+    match left {
+        Left::Nothing => at,
+        Left::Contents(sizes) => {
+            let length = sizes.length;
+            let size = put_byte(out, at, id);
+            let contents = put_number(out, size, length as u32);
+            put_content(out, contents, s, part, kind_of(edition, id), sizes)
+        }
+    }
+}
+
+// A subsection, measured and put.
 fn put_subsection(
     out: &mut [u8],
     at: usize,
@@ -87,25 +137,17 @@ fn put_subsection(
     requires { ⌜ FitsSubsection (kindIn edition) id (now s) part (now out) at ⌝ }
     ensures { λ r. ⌜ PutsSubsection (kindIn edition) id (now (s .entry)) part (now (out .entry)) (now (out .exit)) at r ⌝ }
 {
-    let kind = kind_of(edition, id);
-    match content_left(s, part, kind) {
-        Left::Nothing => at,
-        Left::Contents(sizes) => {
-            let length = sizes.length;
-            let size = put_byte(out, at, id);
-            let contents = put_number(out, size, length as u32);
-            put_content(out, contents, s, part, kind, sizes.count)
-        }
-    }
+    let left = content_left(s, part, kind_of(edition, id));
+    put_measured(out, at, edition, id, s, part, left)
 }
 
-// What is left of all subsections, from the output's front on.
-fn put_names(out: &mut [u8], s: &[u8], c: Cursor, edition: Edition) -> usize
-    requires { ⌜ FitsPayload (kindIn edition) (now s) c (now out) ⌝ }
-    ensures { λ r. ⌜ PutsPayload (kindIn edition) (now (s .entry)) c (now (out .entry)) (now (out .exit)) r ⌝ }
+// What is left of the subsections to come, one after the other.
+fn put_each(out: &mut [u8], at: usize, s: &[u8], c: Cursor, edition: Edition) -> usize
+    requires { ⌜ FitsPayload (kindIn edition) (now s) c (now out) at ⌝ }
+    ensures { λ r. ⌜ PutsPayload (kindIn edition) (now (s .entry)) c (now (out .entry)) (now (out .exit)) at r ⌝ }
 {
     let mut next = c;
-    let mut place = 0;
+    let mut place = at;
     while next.at < next.end {
         let frame = frame_here(s, next);
         place = put_subsection(out, place, edition, frame.id, s, frame.part);
@@ -114,21 +156,45 @@ fn put_names(out: &mut [u8], s: &[u8], c: Cursor, edition: Edition) -> usize
     place
 }
 
-// The whole payload. It is measured first, so that nothing is stored where the output is too short; and where it comes out as long as it is, it is copied.
+// What is left of all subsections, from the output's front on. Those before the first that changes are copied together, which is all of a canonical payload.
+fn put_names(out: &mut [u8], s: &[u8], c: Cursor, edition: Edition) -> usize
+    requires { ⌜ FitsPayload (kindIn edition) (now s) c (now out) 0 ⌝ }
+    ensures { λ r. ⌜ PutsPayload (kindIn edition) (now (s .entry)) c (now (out .entry)) (now (out .exit)) 0 r ⌝ }
+{
+    match first_changed(s, c, edition) {
+        Changed::Nothing => put_whole(out, 0, s, c),
+        Changed::Subsection(at, frame, left) => {
+            let from = c.at;
+            let changed = put_whole(out, 0, s, Cursor { at: from, end: at });
+            let behind = put_measured(out, changed, edition, frame.id, s, frame.part, left);
+            put_each(out, behind, s, frame.next, edition)
+        }
+    }
+}
+
+// How much room is surely enough. A rewriting is never longer than its payload, so it is measured only where the output is shorter than that.
+fn room_for(p: &[u8], c: Cursor, edition: Edition, room: usize) -> usize
+    requires { ⌜ KnownPayload (kindIn edition) (now p) c ⌝ }
+    ensures { λ r. ⌜ NeedsRoom (kindIn edition) (now (p .entry)) c room r ⌝ }
+{
+    let most = c.end - c.at;
+    if most <= room {
+        return most;
+    }
+    names_length(p, c, edition)
+}
+
+// The whole payload. Nothing is stored where the output is too short.
 pub fn put_payload(p: &[u8], c: Cursor, edition: Edition, out: &mut [u8]) -> Written
     requires { ⌜ KnownPayload (kindIn edition) (now p) c ⌝ }
     ensures { λ r. ⌜ RewritesNames (kindIn edition) (now (p .entry)) c (now (out .entry)) (now (out .exit)) r ⌝ }
 {
-    let needed = names_length(p, c, edition);
+    let needed = room_for(p, c, edition, out.len());
     if out.len() < needed {
         return Written::Refused(Refusal {
             reason: Reason::OutputTooShort,
             offset: Offset(needed),
         });
-    }
-    if needed == c.end - c.at {
-        let end = put_whole(out, p, c);
-        return Written::Length(end);
     }
     let end = put_names(out, p, c, edition);
     Written::Length(end)

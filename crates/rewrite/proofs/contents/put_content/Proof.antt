@@ -3,29 +3,11 @@ use borrow.Author.Needs.{needs}
 use Rattle.rewrite.proofs.contents.put_content.Statement.{statement}
 use Rattle.rewrite.proofs.contents.put_content.Tie as tie
 
-enum-told : tie.Need-enum-told
-enum-told c = search needs
+sub-if1 : tie.Need-sub-if1
+sub-if1 c = search needs
 
-put-one-name-requires : tie.Need-put-one-name-requires
-put-one-name-requires c κs = search content-put
-
-enum-told-2 : tie.Need-enum-told-2
-enum-told-2 c = search needs
-
-put-name-map-requires : tie.Need-put-name-map-requires
-put-name-map-requires c κs = search content-put
-
-enum-told-3 : tie.Need-enum-told-3
-enum-told-3 c = search needs
-
-put-indirect-map-requires : tie.Need-put-indirect-map-requires
-put-indirect-map-requires c κs = search content-put
-
-enum-told-4 : tie.Need-enum-told-4
-enum-told-4 c = search needs
-
-put-kept-requires : tie.Need-put-kept-requires
-put-kept-requires c κs = search content-put
+put-whole-requires : tie.Need-put-whole-requires
+put-whole-requires c κs = search content-put
 
 same-length : tie.Need-same-length
 same-length c = search needs
@@ -33,23 +15,23 @@ same-length c = search needs
 returns : tie.Need-returns
 returns c = search content-put
 
+put-anew-requires : tie.Need-put-anew-requires
+put-anew-requires c κs = search content-put
+
 same-length-2 : tie.Need-same-length-2
 same-length-2 c = search needs
 
 returns-2 : tie.Need-returns-2
-returns-2 c = search content-put
-
-same-length-3 : tie.Need-same-length-3
-same-length-3 c = search needs
-
-returns-3 : tie.Need-returns-3
-returns-3 c = search content-put
-
-same-length-4 : tie.Need-same-length-4
-same-length-4 c = search needs
-
-returns-4 : tie.Need-returns-4
-returns-4 c = search content-put
+returns-2 c = search needs
 
 pub put-content-spec : {M : Type 1} → statement M
-put-content-spec = tie.close (tie.spec enum-told put-one-name-requires enum-told-2 put-name-map-requires enum-told-3 put-indirect-map-requires enum-told-4 put-kept-requires same-length returns same-length-2 returns-2 same-length-3 returns-3 same-length-4 returns-4)
+put-content-spec =
+    tie.close
+    (tie.spec
+    sub-if1
+    put-whole-requires
+    same-length
+    returns
+    put-anew-requires
+    same-length-2
+    returns-2)

@@ -1,35 +1,53 @@
-use Prim.Native.Nat.{_-_}
-use Rattle.format.specs.Names.{kindIn}
-use Rattle.rewrite.proofs.SubsectionPuts.{PuttingNames, names-written}
+use Rattle.rewrite.proofs.SubsectionPuts.{names-written}
+use borrow.Author.Needs.{needs}
 use Rattle.rewrite.proofs.subsections.put_names.Statement.{statement}
 use Rattle.rewrite.proofs.subsections.put_names.Tie as tie
 
-abbrev Inv-loop : tie.InvT-loop
-Inv-loop out₀ s edition next₀ place₀ out next place = PuttingNames (kindIn edition) s next₀ out₀ out place next
+first-changed-requires : tie.Need-first-changed-requires
+first-changed-requires c κs = search needs
 
-abbrev μ-loop : tie.MeasureT-loop
-μ-loop out₀ s edition next₀ place₀ out next place = next .end - next .at
+enum-told : tie.Need-enum-told
+enum-told c = search needs
 
-loop-holds : tie.Need-loop-holds Inv-loop μ-loop
-loop-holds c = search names-written
+put-whole-requires : tie.Need-put-whole-requires
+put-whole-requires c κs = search names-written
 
-frame-here-requires : tie.Need-frame-here-requires Inv-loop μ-loop
-frame-here-requires c κs = search names-written
+enum-known-at : tie.Need-enum-known-at
+enum-known-at c = search needs
 
-put-subsection-requires : tie.Need-put-subsection-requires Inv-loop μ-loop
-put-subsection-requires c κs = search names-written
+put-whole-requires-2 : tie.Need-put-whole-requires-2
+put-whole-requires-2 c κs = search names-written
 
-loop-less : tie.Need-loop-less Inv-loop μ-loop
-loop-less c = search names-written
+put-measured-requires : tie.Need-put-measured-requires
+put-measured-requires c κs = search names-written
 
-loop-again : tie.Need-loop-again Inv-loop μ-loop
-loop-again c = search names-written
+put-each-requires : tie.Need-put-each-requires
+put-each-requires c κs = search names-written
 
-same-length : tie.Need-same-length Inv-loop μ-loop
-same-length c = search names-written
+same-length : tie.Need-same-length
+same-length c = search needs
 
-returns : tie.Need-returns Inv-loop μ-loop
+returns : tie.Need-returns
 returns c = search names-written
 
+same-length-2 : tie.Need-same-length-2
+same-length-2 c = search needs
+
+returns-2 : tie.Need-returns-2
+returns-2 c = search names-written
+
 pub put-names-spec : {M : Type 1} → statement M
-put-names-spec = tie.close (tie.spec Inv-loop μ-loop loop-holds frame-here-requires put-subsection-requires loop-less loop-again same-length returns)
+put-names-spec =
+    tie.close
+    (tie.spec
+    first-changed-requires
+    enum-told
+    put-whole-requires
+    enum-known-at
+    put-whole-requires-2
+    put-measured-requires
+    put-each-requires
+    same-length
+    returns
+    same-length-2
+    returns-2)

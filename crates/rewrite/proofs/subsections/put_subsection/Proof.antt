@@ -9,32 +9,16 @@ kind-of-requires c κs = search needs
 content-left-requires : tie.Need-content-left-requires
 content-left-requires c κs = search subsection-put
 
-enum-told : tie.Need-enum-told
-enum-told c = search needs
-
-enum-known-sizes : tie.Need-enum-known-sizes
-enum-known-sizes c = search needs
-
-put-byte-requires : tie.Need-put-byte-requires
-put-byte-requires c κs = search subsection-put
-
-cast-put-number : tie.Need-cast-put-number
-cast-put-number c = search subsection-put
-
-put-number-requires : tie.Need-put-number-requires
-put-number-requires c κs = search subsection-put
-
-put-content-requires : tie.Need-put-content-requires
-put-content-requires c κs = search subsection-put
-
-returns : tie.Need-returns
-returns c = search subsection-put
+put-measured-requires : tie.Need-put-measured-requires
+put-measured-requires c κs = search subsection-put
 
 same-length : tie.Need-same-length
 same-length c = search needs
 
-returns-2 : tie.Need-returns-2
-returns-2 c = search subsection-put
+returns : tie.Need-returns
+returns c = search needs
 
 pub put-subsection-spec : {M : Type 1} → statement M
-put-subsection-spec = tie.close (tie.spec kind-of-requires content-left-requires enum-told enum-known-sizes put-byte-requires cast-put-number put-number-requires put-content-requires returns same-length returns-2)
+put-subsection-spec =
+    tie.close
+    (tie.spec kind-of-requires content-left-requires put-measured-requires same-length returns)
