@@ -14,29 +14,27 @@ use Rattle.copying.proofs.Laws.{part-length}
 use Rattle.copying.proofs.Measuring.{sized-is, size-fits, size-ordered, shortest-short}
 use Rattle.format.specs.Canonical.{writeTable, unlessEmpty, keepRows, bareItems, bare, trim, writeContent}
 use Rattle.format.specs.Joined.{merged, theFirst, joinContent}
-use Rattle.format.specs.Names.{oneName, nameMap, indirectMap, kept, Content, single, names, namesBy, whole, contents}
+use Rattle.format.specs.Names.{oneName, nameMap, indirectMap, kept, Content, single, names, namesBy}
 use Rattle.format.specs.Numbers.{shortest}
 use Rattle.format.specs.Options.{mapSome}
-use Rattle.format.specs.Parts.{Part, sized, name, remaining}
-use Rattle.format.specs.Reading.{Reader, filling}
+use Rattle.format.specs.Parts.{Part, sized}
 use Rattle.format.specs.Tables.{Table, nil, row, size, table, mapTable}
-use Rattle.format.specs.Laws.Laxer.{name-laxer, table-laxer, filled-laxer}
 use Rattle.format.specs.Laws.Merging.{merge-no-left, merge-no-right}
-use Rattle.format.specs.Laws.Outcomes.{got-value, inTurn, byTest}
-use Rattle.format.specs.Laws.Passing.{sized-passes}
+use Rattle.format.specs.Laws.Outcomes.{byTest}
 use Rattle.names.specs.Contents.{kindMeant}
 use Rattle.names.specs.declared.kinds.Kind.{Kind}
 use Rattle.names.specs.declared.kinds.Kind.the-variants.{OneName, NameMap, IndirectMap, Kept}
-use Rattle.reading.specs.Cursors.{left as leftAt, partOf}
-use Rattle.reading.specs.Standing.{Stands, Known, TakesPart}
+use Rattle.reading.specs.Cursors.{partOf}
+use Rattle.reading.specs.Standing.{TakesPart}
 use Rattle.reading.specs.declared.Cursor.{Cursor}
 use Rattle.reading.specs.declared.again.Piece.{Piece}
-use Rattle.reading.proofs.Standing.{stand, one-value}
+use Rattle.reading.proofs.Standing.{one-value}
 use Rattle.tables.specs.declared.Held.{Held}
 use Rattle.tables.specs.declared.Held.the-variants.{Nothing, Part as APart}
 use Rattle.tables.specs.declared.stepping.Rows.{Rows}
-use Rattle.tables.proofs.Accepted.{table-passable}
-use Rattle.joining.specs.Contents.{ContentStands, HeldContent, HeldContents, bothLeft, countOf, sizesOf, leftOf, listLeft, NameStands, NameLeft, LeftOfBoth}
+use Rattle.rewrite.specs.Contents.{ContentStands, KnownContent, countOf}
+use Rattle.rewrite.proofs.ContentLaws.{one-made, map-made, groups-made, whole-is, one-content, gone, stays, groups-bytes, one-known}
+use Rattle.joining.specs.Contents.{HeldContent, HeldContents, bothLeft, sizesOf, leftOf, listLeft, NameLeft, LeftOfBoth}
 use Rattle.joining.specs.Merges.{ShortMaps, MeasuresMaps, ShortGroups, MeasuresGroups}
 use Rattle.joining.specs.Sides.{HeldTable, HeldSmall, HeldCount, HeldRows}
 use Rattle.joining.specs.declared.contents.Left.{Left}
@@ -60,43 +58,7 @@ module _ (count rows : ℕ) where
 
 pub ruleset lists-left = (list-none, list-some, list-fits, needs)
 
--- What stands in a part of each kind, read again without its checks
-pub record Made {A : Type 0} (read : Reader A) (make : A → Content Part) (s : List ℕ) (part : Cursor) (c : Content Part) : Type 0 where
-  pub inner : A
-  pub next : Cursor
-  pub stands : Stands read s part inner next
-  pub is : c ≡ make inner
-
-module _ {s : List ℕ} {part : Cursor} {c : Content Part} where
-  pub one-made : ContentStands oneName s part c → Made sized single s part c
-  unfolding contents
-  one-made w =
-      inTurn (filling name (part .at) (leftAt s part)) _ (w .reads) λ x o₁ r₁ e₁ e₂.
-      let (o, e) = filled-laxer name-laxer (part .at) (leftAt s part) e₁ in
-      record { inner = x; next = _; stands = stand sized-passes (w .inside) e; is = sym (got-value e₂) }
-
-  map-made : ContentStands nameMap s part c → Made (table sized) names s part c
-  unfolding contents
-  map-made w =
-      inTurn (filling (table name) (part .at) (leftAt s part)) _ (w .reads) λ x o₁ r₁ e₁ e₂.
-      let (o, e) = filled-laxer (table-laxer name-laxer) (part .at) (leftAt s part) e₁ in
-      record { inner = x; next = _; stands = stand (table-passable sized-passes) (w .inside) e; is = sym (got-value e₂) }
-
-  groups-made : ContentStands indirectMap s part c → Made (table (table sized)) namesBy s part c
-  unfolding contents
-  groups-made w =
-      inTurn (filling (table (table name)) (part .at) (leftAt s part)) _ (w .reads) λ x o₁ r₁ e₁ e₂.
-      let (o, e) = filled-laxer (table-laxer (table-laxer name-laxer)) (part .at) (leftAt s part) e₁ in
-      record { inner = x; next = _; stands = stand (table-passable (table-passable sized-passes)) (w .inside) e; is = sym (got-value e₂) }
-
-  pub whole-is : ContentStands kept s part c → c ≡ whole (partOf s part)
-  unfolding contents remaining
-  whole-is w = sym (got-value (w .reads))
-
--- contents of a kind hold one thing only
-pub one-content : {kind : _} {s : List ℕ} {part : Cursor} {c d : Content Part} → ContentStands kind s part c → ContentStands kind s part d → c ≡ d
-one-content a b = got-value (sym (a .reads) ∙ b .reads)
-
+-- contents that are held are one thing only
 pub one-held : {kind : _} {s : List ℕ} (held : Held) {x y : Option (Content Part)} → HeldContent kind s held x → HeldContent kind s held y → x ≡ y
 one-held Nothing a b = a .holds ∙ sym (b .holds)
 one-held (APart part) a b = let (c, w, is) = a .holds in let (d, v, is′) = b .holds in is ∙ ap some (one-content w v) ∙ sym is′
@@ -152,17 +114,6 @@ groups-both (some c) none t u e f = rw (e, f, merge-no-right (merged theFirst) t
 groups-both (some c) (some d) t u e f = rw (e, f, merged-items t u)
 
 -- What is left of a table, and its bytes
-module _ {A : Type 0} where
-  gone : (t : Table A) → size t ≡ 0 → unlessEmpty t ≡ none
-  unfolding size unlessEmpty
-  gone nil h = refl
-  gone (row k v t) h = absurd (omega arith)
-
-  stays : (t : Table A) → (size t ≡ 0 → ⊥) → unlessEmpty t ≡ some t
-  unfolding size unlessEmpty
-  stays nil h = absurd (h refl)
-  stays (row k v t) h = refl
-
 pub size-bare : (t : Table Part) → size (bareRows t) ≡ size t
 unfolding size mapTable
 size-bare nil = refl
@@ -171,10 +122,6 @@ size-bare (row k p t) = rw (size-bare t)
 pub map-bytes : (t : Table Part) → writeContent (names (bareRows t)) ≡ shortest (size t) ++ rowsOf t
 unfolding writeContent writeTable rowsOf
 map-bytes t = rw (size-bare t)
-
-pub groups-bytes : (t : Table (Table Part)) → writeContent (namesBy (keptGroups t)) ≡ shortest (size (keptGroups t)) ++ groupsOf t
-unfolding writeContent writeTable groupsOf
-groups-bytes t = refl
 
 list-is : (count rows : ℕ) (d : Content (List ℕ)) → count ≡ countOf d → length (shortest count) + rows ≡ length (writeContent d) → (count ≡ 0 → ⊥) → leftOf (listLeft count rows) ≡ some (sizesOf d)
 unfolding listLeft
@@ -277,10 +224,7 @@ module _ {s : List ℕ} {first : Held} {o : List ℕ} {second : Held} (h : HeldC
 pub ruleset groups-measured = (our-groups-count, their-groups-count, two-groups-short, two-groups-fit, two-groups-left, needs)
 
 -- one name
-module _ {s : List ℕ} {part : Cursor} (k : NameStands s part) where
-  pub name-known : Known sized s part
-  name-known = let m = one-made (k .stands) in record { value = m .inner; next = m .next; stands = m .stands }
-
+module _ {s : List ℕ} {part : Cursor} (k : KnownContent oneName s part) where
   pub name-is-left : {r : Piece} {b : ℕ} → TakesPart s part r → b ≡ length (shortest (r .part .end - r .part .at)) + (r .part .end - r .part .at) → NameLeft s part (Contents (record { count = 0; length = b }))
   unfolding bare countOf writeContent
   name-is-left {r} p e =
@@ -288,7 +232,7 @@ module _ {s : List ℕ} {part : Cursor} (k : NameStands s part) where
       let same : k .value ≡ single (partOf s (r .part)) = m .is ∙ ap single (one-value (m .stands) (p .stands)) in
       record { value = k .value; stands = k .stands; is = rw same (ap some (λ i. record { count = 0; length = (e ∙ sym (sized-is (p .in-part))) i })) }
 
-pub ruleset name-measured = (name-known, name-is-left, size-fits, size-ordered, needs)
+pub ruleset name-measured = (one-known, name-is-left, size-fits, size-ordered, needs)
 
 -- the separate payload's, or else the own one's
 module _ {s : List ℕ} {first : Held} {o : List ℕ} {second : Held} where
@@ -342,10 +286,10 @@ module _ {s : List ℕ} {first : Held} {o : List ℕ} {second : Held} (h : HeldC
   pub their-name : first ≡ Nothing → second ≡ APart part → Alone h o part
   their-name e f = alone-second h e f
 
-  pub our-name-stands : first ≡ APart part → NameStands s part
+  pub our-name-stands : first ≡ APart part → KnownContent oneName s part
   our-name-stands e = let a = our-name e in record { value = a .value; stands = a .stands }
 
-  pub their-name-stands : first ≡ Nothing → second ≡ APart part → NameStands o part
+  pub their-name-stands : first ≡ Nothing → second ≡ APart part → KnownContent oneName o part
   their-name-stands e f = let a = their-name e f in record { value = a .value; stands = a .stands }
 
   name-alone : {p : List ℕ} {x : Left} → Alone h p part → NameLeft p part x → LeftOfBoth oneName s first o second x

@@ -33,7 +33,8 @@ use Rattle.reading.specs.declared.Cursor.{Cursor}
 use Rattle.reading.proofs.Laws.{left-all, over-inside}
 use Rattle.writing.proofs.Laws.{wrote-length}
 use Rattle.joining.specs.Roomy.{Roomy}
-use Rattle.joining.specs.Subsections.{PayloadStands, Payloads, FitsJoined, PutsJoined, Joins}
+use Rattle.rewrite.specs.Subsections.{PayloadStands}
+use Rattle.joining.specs.Subsections.{Payloads, FitsJoined, PutsJoined, Joins}
 use Rattle.joining.proofs.SubsectionPuts.{both-put}
 
 -- one of them, accepted

@@ -7,51 +7,33 @@ use native.Mathlib.Omega.{arith}
 use borrow.Author.Needs.{needs}
 use lib.ListN.{length, take, drop, length-append}
 use Rattle.copying.specs.Bytes.{bareRows, rowsOf, keptGroups, groupsOf}
-use Rattle.copying.specs.Standing.{FitsPart}
-use Rattle.copying.proofs.Laws.{cut-left, part-fits}
-use Rattle.format.specs.Canonical.{writePart, unlessEmpty, keepRows, bareItems, bare, trim, writeContent}
-use Rattle.format.specs.Names.{oneName, nameMap, indirectMap, kept, Content, single, names, namesBy, whole}
+use Rattle.copying.proofs.Laws.{cut-left}
+use Rattle.format.specs.Canonical.{bare, trim, writeContent}
+use Rattle.format.specs.Names.{oneName, nameMap, indirectMap, kept, Content, names, namesBy, whole}
 use Rattle.format.specs.Numbers.{shortest, limit32}
-use Rattle.format.specs.Parts.{Part, sized}
-use Rattle.format.specs.Tables.{Table, size}
-use Rattle.format.specs.Laws.Options.{some-is, not-some, inThen}
-use Rattle.format.specs.Laws.Tables.{kept-rows}
+use Rattle.format.specs.Parts.{Part}
+use Rattle.format.specs.Tables.{size}
+use Rattle.format.specs.Laws.Options.{some-is, not-some}
 use Rattle.names.specs.Contents.{kindMeant}
 use Rattle.names.specs.declared.kinds.Kind.{Kind}
 use Rattle.names.specs.declared.kinds.Kind.the-variants.{OneName, NameMap, IndirectMap, Kept}
-use Rattle.reading.specs.Cursors.{left as leftAt, partOf}
-use Rattle.reading.specs.Standing.{Known, TakesPart}
+use Rattle.reading.specs.Cursors.{partOf}
 use Rattle.reading.specs.declared.Cursor.{Cursor}
-use Rattle.reading.specs.declared.again.Piece.{Piece}
-use Rattle.reading.proofs.Standing.{one-value}
 use Rattle.tables.specs.declared.Held.{Held}
 use Rattle.tables.specs.declared.Held.the-variants.{Nothing, Part as APart}
 use Rattle.tables.specs.declared.stepping.Rows.{Rows}
 use Rattle.writing.specs.Wrote.{Wrote}
 use Rattle.writing.proofs.Laws.{wrote-join, wrote-length}
-use Rattle.joining.specs.Contents.{HeldContents, bothLeft, countOf, NameFits, NamePuts, FitsBoth, CountsBoth, PutsBothContents}
+use Rattle.rewrite.specs.Contents.{countOf, FitsContent, PutsContent}
+use Rattle.rewrite.proofs.ContentLaws.{whole-is, one-content, groups-bytes}
+use Rattle.rewrite.proofs.PutLaws.{map-remains, groups-remain, whole-remains}
+use Rattle.joining.specs.Contents.{HeldContents, bothLeft, FitsBoth, CountsBoth, PutsBothContents}
 use Rattle.joining.specs.Merges.{RoomForMaps, PutsMaps, RoomForGroups, PutsGroups}
 use Rattle.joining.specs.Sides.{HeldCount, HeldRows}
 use Rattle.joining.proofs.HeldLaws.{maps-room, maps-wrote, groups-room, groups-wrote}
-use Rattle.joining.proofs.ContentLaws.{one-made, whole-is, one-content, one-left, Alone, size-bare, map-bytes, groups-bytes, our-map, their-map, mapsMerged, maps-are, our-map-count, their-map-count, our-groups, their-groups, groupsMerged, groups-are, our-groups-count, their-groups-count, none-left-over, our-name, their-name, our-kept, their-kept}
+use Rattle.joining.proofs.ContentLaws.{one-left, Alone, size-bare, map-bytes, our-map, their-map, mapsMerged, maps-are, our-map-count, their-map-count, our-groups, their-groups, groupsMerged, groups-are, our-groups-count, their-groups-count, none-left-over, our-name, their-name, our-kept, their-kept}
 use Rattle.joining.proofs.GroupLaws.{groups-least}
 use Rattle.joining.proofs.MapLaws.{rows-least}
-
--- What is left is what stands there, without what is empty
-map-remains : (t : Table Part) {d : Content (List ℕ)} → trim (names (bareRows t)) ≡ some d → d ≡ names (bareRows t)
-map-remains t e = inThen (unlessEmpty (bareRows t)) _ e λ u e₁ e₂. sym (some-is e₂) ∙ ap names (sym (kept-rows (bareRows t) e₁ .0))
-
-groups-remain : (t : Table (Table Part)) {d : Content (List ℕ)} → trim (namesBy (bareItems t)) ≡ some d → d ≡ namesBy (keptGroups t)
-unfolding keptGroups
-groups-remain t e = inThen (unlessEmpty (keepRows unlessEmpty (bareItems t))) _ e λ u e₁ e₂. sym (some-is e₂) ∙ ap namesBy (sym (kept-rows (keepRows unlessEmpty (bareItems t)) e₁ .0))
-
-single-remains : (p : Part) {d : Content (List ℕ)} → trim (bare (single p)) ≡ some d → d ≡ single (p .bytes)
-unfolding bare
-single-remains p e = sym (some-is e)
-
-whole-remains : (p : Part) {d : Content (List ℕ)} → trim (bare (whole p)) ≡ some d → d ≡ whole (p .bytes)
-unfolding bare
-whole-remains p e = sym (some-is e)
 
 -- only one thing can remain
 pub one-remains : {kind : _} {s : List ℕ} {first : Held} {o : List ℕ} {second : Held} (h k : HeldContents kind s first o second) {d e : Content (List ℕ)} → bothLeft (h .ours) (h .theirs) ≡ some d → bothLeft (k .ours) (k .theirs) ≡ some e → d ≡ e
@@ -66,6 +48,7 @@ module _ {s : List ℕ} {first : Held} {o : List ℕ} {second : Held} {old : Lis
   put-their-map-count = their-map-count (f .held)
 
   maps-remain : f .remains ≡ names (bareRows (mapsMerged (f .held)))
+  unfolding bare
   maps-remain = map-remains (mapsMerged (f .held)) (sym (maps-are (f .held)) ∙ f .is)
 
   module _ {count : ℕ} (k : CountsBoth nameMap s first o second count) where
@@ -103,6 +86,7 @@ module _ {s : List ℕ} {first : Held} {o : List ℕ} {second : Held} {old : Lis
   put-their-groups-count = their-groups-count (f .held)
 
   all-remain : f .remains ≡ namesBy (keptGroups (groupsMerged (f .held)))
+  unfolding bare
   all-remain = groups-remain (groupsMerged (f .held)) (sym (groups-are (f .held)) ∙ f .is)
 
   module _ {count : ℕ} (k : CountsBoth indirectMap s first o second count) where
@@ -131,27 +115,6 @@ module _ {s : List ℕ} {first : Held} {o : List ℕ} {second : Held} {old : Lis
 
 pub ruleset groups-put-all = (put-our-groups-count, put-their-groups-count, groups-count-small, groups-count-room, groups-rows-room, groups-put, wrote-length, needs)
 
--- One name
-module _ {s : List ℕ} {part : Cursor} {old : List ℕ} {at : ℕ} (f : NameFits s part old at) where
-  pub put-name-known : Known sized s part
-  put-name-known = let m = one-made (f .stands) in record { value = m .inner; next = m .next; stands = m .stands }
-
-  module _ {r : Piece} (p : TakesPart s part r) where
-    name-bytes : writeContent (f .remains) ≡ writePart (leftAt s (r .part))
-    unfolding writeContent
-    name-bytes =
-        let m = one-made (f .stands) in
-        let same : f .value ≡ single (partOf s (r .part)) = m .is ∙ ap single (one-value (m .stands) (p .stands)) in
-        ap writeContent (single-remains (partOf s (r .part)) (rw same at (f .is)))
-
-    pub put-name-room : FitsPart s (r .part) old at
-    put-name-room = record { inside = p .in-part; small = part-fits (p .stands); room = rw name-bytes at (f .room) }
-
-    pub put-name : {new : List ℕ} {next : ℕ} → Wrote old new at next (writePart (leftAt s (r .part))) → NamePuts s part old new at next
-    put-name w = record { value = f .value; stands = f .stands; remains = f .remains; is = f .is; wrote = rw name-bytes w }
-
-pub ruleset name-put = (put-name-known, put-name-room, put-name, wrote-length, needs)
-
 -- something is left, so one of the payloads has it
 pub not-neither : {kind : _} {s : List ℕ} {first : Held} {o : List ℕ} {second : Held} {old : List ℕ} {at : ℕ} → FitsBoth kind s first o second old at → first ≡ Nothing → second ≡ Nothing → ⊥
 not-neither f e g = not-some (sym (none-left-over (f .held) e g) ∙ f .is)
@@ -159,21 +122,21 @@ not-neither f e g = not-some (sym (none-left-over (f .held) e g) ∙ f .is)
 -- the separate payload's name, or else the own one's
 module _ {s : List ℕ} {first : Held} {o : List ℕ} {second : Held} {old : List ℕ} {at : ℕ} (f : FitsBoth oneName s first o second old at) where
   module _ {part : Cursor} where
-    pub our-name-fits : first ≡ APart part → NameFits s part old at
+    pub our-name-fits : first ≡ APart part → FitsContent oneName s part old at
     our-name-fits e = let a = our-name (f .held) e in record { value = a .value; stands = a .stands; remains = f .remains; is = sym (a .is) ∙ f .is; room = f .room }
 
-    pub their-name-fits : first ≡ Nothing → second ≡ APart part → NameFits o part old at
+    pub their-name-fits : first ≡ Nothing → second ≡ APart part → FitsContent oneName o part old at
     their-name-fits e g = let a = their-name (f .held) e g in record { value = a .value; stands = a .stands; remains = f .remains; is = sym (a .is) ∙ f .is; room = f .room }
 
-    name-puts : {p : List ℕ} {new : List ℕ} {next : ℕ} → Alone (f .held) p part → NamePuts p part old new at next → PutsBothContents oneName s first o second old new at next
+    name-puts : {p : List ℕ} {new : List ℕ} {next : ℕ} → Alone (f .held) p part → PutsContent oneName p part old new at next → PutsBothContents oneName s first o second old new at next
     name-puts a w =
         let same : w .remains ≡ f .remains = some-is (sym (w .is) ∙ ap (λ (c : Content Part). trim (bare c)) (one-content (w .stands) (a .stands)) ∙ sym (a .is) ∙ f .is) in
         record { held = f .held; remains = f .remains; is = f .is; wrote = rw same at (w .wrote) }
 
-    pub our-name-puts : {new : List ℕ} {next : ℕ} → first ≡ APart part → NamePuts s part old new at next → PutsBothContents oneName s first o second old new at next
+    pub our-name-puts : {new : List ℕ} {next : ℕ} → first ≡ APart part → PutsContent oneName s part old new at next → PutsBothContents oneName s first o second old new at next
     our-name-puts e w = name-puts (our-name (f .held) e) w
 
-    pub their-name-puts : {new : List ℕ} {next : ℕ} → first ≡ Nothing → second ≡ APart part → NamePuts o part old new at next → PutsBothContents oneName s first o second old new at next
+    pub their-name-puts : {new : List ℕ} {next : ℕ} → first ≡ Nothing → second ≡ APart part → PutsContent oneName o part old new at next → PutsBothContents oneName s first o second old new at next
     their-name-puts e g w = name-puts (their-name (f .held) e g) w
 
   pub no-name-puts : first ≡ Nothing → second ≡ Nothing → PutsBothContents oneName s first o second old old at at

@@ -25,7 +25,7 @@ use Rattle.tables.specs.declared.stepping.GroupStep.{GroupStep}
 use Rattle.tables.specs.declared.stepping.GroupStep.the-variants.{Group as AGroup}
 use Rattle.tables.proofs.stepping.RowStep as row-type
 use Rattle.tables.proofs.stepping.GroupStep as group-type
-use Rattle.tables.proofs.StepLaws.{no-row, a-row, row-left, no-group, a-group, group-left, group-known, group-passed}
+use Rattle.tables.proofs.StepLaws.{no-row, a-row, no-group, a-group, group-left, group-known, group-passed}
 use Rattle.joining.specs.Sides.{noRows, HeldCount, HeldRows, Sides, Parted}
 use Rattle.joining.specs.Steps.{RowNext, behindTaken, Taken, GroupNext}
 use Rattle.joining.specs.declared.rows.NextRow.the-variants.{End as NoRow, Row}

@@ -44,7 +44,8 @@ use Rattle.joining.specs.declared.subsections.Total.the-variants.{Length
 use Rattle.joining.proofs.subsections.NextSubsection as next-type
 use Rattle.joining.proofs.subsections.Total as total-type
 use Rattle.joining.proofs.ContentLaws.{one-left}
-use Rattle.joining.proofs.FrameLaws.{frames-known, nothing-to-come, partedBy, side}
+use Rattle.rewrite.proofs.SubsectionLaws.{nothing-to-come}
+use Rattle.joining.proofs.FrameLaws.{frames-known, partedBy, side}
 
 -- what a total is tells it apart
 pub length-is : {n m : ℕ} → Length n ≡ Length m → n ≡ m

@@ -30,8 +30,10 @@ use Rattle.reading.specs.declared.Cursor.{Cursor}
 use Rattle.tables.specs.declared.Held.{Held}
 use Rattle.writing.specs.Wrote.{Wrote}
 use Rattle.writing.proofs.Laws.{wrote-nothing, wrote-join, wrote-length, writes-wrote}
-use Rattle.joining.specs.Contents.{HeldContents, bothLeft, countOf, sizesOf, leftOf, LeftOfBoth, FitsBoth, CountsBoth, PutsBothContents}
-use Rattle.joining.specs.Subsections.{KnownFrames, SubsectionNext, totalOf, subBytes, smallLeft, RoomForHead, PutsHead, FitsSubsection, PutsSubsection, Payloads, MeasuresJoined, FitsJoined, PutsJoined, Joins}
+use Rattle.rewrite.specs.Contents.{countOf}
+use Rattle.rewrite.specs.Subsections.{subBytes}
+use Rattle.joining.specs.Contents.{HeldContents, bothLeft, sizesOf, leftOf, LeftOfBoth, FitsBoth, CountsBoth, PutsBothContents}
+use Rattle.joining.specs.Subsections.{KnownFrames, SubsectionNext, totalOf, smallLeft, RoomForHead, PutsHead, FitsSubsection, PutsSubsection, Payloads, MeasuresJoined, FitsJoined, PutsJoined, Joins}
 use Rattle.joining.specs.declared.contents.Left.{Left}
 use Rattle.joining.specs.declared.contents.Left.the-variants.{Nothing as NoneLeft, Contents}
 use Rattle.joining.specs.declared.contents.Sizes.{Sizes}

@@ -8,28 +8,18 @@ use lib.Dec.{eqb}
 use lib.ListN.{length}
 use Rattle.format.specs.Canonical.{bare, trim, writeContent}
 use Rattle.format.specs.Joined.{joinContent}
-use Rattle.format.specs.Names.{Kind, oneName, Content, single, names, namesBy, whole, contents}
+use Rattle.format.specs.Names.{Kind, oneName, Content}
 use Rattle.format.specs.Numbers.{shortest, limit32}
 use Rattle.format.specs.Options.{mapSome}
 use Rattle.format.specs.Parts.{Part}
-use Rattle.format.specs.Reading.{got}
-use Rattle.format.specs.Tables.{size}
-use Rattle.reading.specs.Cursors.{Inside, left}
 use Rattle.reading.specs.declared.Cursor.{Cursor}
 use Rattle.tables.specs.declared.Held.{Held}
 use Rattle.tables.specs.declared.Held.the-variants.{Nothing, Part as APart}
 use Rattle.writing.specs.Wrote.{Wrote}
+use Rattle.rewrite.specs.Contents.{ContentStands, countOf}
 use Rattle.joining.specs.declared.contents.Sizes.{Sizes}
 use Rattle.joining.specs.declared.contents.Left.{Left}
 use Rattle.joining.specs.declared.contents.Left.the-variants.{Nothing as NoneLeft, Contents}
-
--- what contents of a kind hold, and that they fit a size number
-pub record ContentStands (kind : Kind) (s : List ℕ) (part : Cursor) (c : Content Part) : Type 0 where
-  pub inside : Inside s part
-  pub next : ℕ
-  pub rest : List ℕ
-  pub reads : contents kind (part .at) (left s part) ≡ got c next rest
-  pub small : length (left s part) < limit32
 
 -- the contents that are held, if they are
 abbrev pub contentHeld : Kind → List ℕ → Held → Option (Content Part) → Type 0
@@ -53,12 +43,6 @@ bothLeft (some c) none = trim (bare c)
 bothLeft (some c) (some d) = trim (joinContent (bare c) (bare d))
 
 -- how many entries or groups are counted first, and how long all is
-unfoldable pub countOf : Content (List ℕ) → ℕ
-countOf (single x) = 0
-countOf (names t) = size t
-countOf (namesBy t) = size t
-countOf (whole x) = 0
-
 abbrev pub sizesOf : Content (List ℕ) → Sizes
 sizesOf d = record { count = countOf d; length = length (writeContent d) }
 
@@ -70,29 +54,11 @@ leftOf (Contents x) = some x
 unfoldable pub listLeft : (count rows : ℕ) → Left
 listLeft count rows = cond (eqb count 0) NoneLeft (Contents (record { count = count; length = length (shortest count) + rows }))
 
--- one name, where it stands
-pub record NameStands (s : List ℕ) (part : Cursor) : Type 0 where
-  pub value : Content Part
-  pub stands : ContentStands oneName s part value
-
+-- what is left of one name
 pub record NameLeft (s : List ℕ) (part : Cursor) (r : Left) : Type 0 where
   pub value : Content Part
   pub stands : ContentStands oneName s part value
   pub is : leftOf r ≡ mapSome sizesOf (trim (bare value))
-
-pub record NameFits (s : List ℕ) (part : Cursor) (out : List ℕ) (at : ℕ) : Type 0 where
-  pub value : Content Part
-  pub stands : ContentStands oneName s part value
-  pub remains : Content (List ℕ)
-  pub is : trim (bare value) ≡ some remains
-  pub room : at + length (writeContent remains) ≤ length out
-
-pub record NamePuts (s : List ℕ) (part : Cursor) (old new : List ℕ) (at next : ℕ) : Type 0 where
-  pub value : Content Part
-  pub stands : ContentStands oneName s part value
-  pub remains : Content (List ℕ)
-  pub is : trim (bare value) ≡ some remains
-  pub wrote : Wrote old new at next (writeContent remains)
 
 -- contents of a kind in both
 module _ (kind : Kind) (s : List ℕ) (first : Held) (o : List ℕ) (second : Held) where

@@ -1,27 +1,27 @@
 -- The subsections of two payloads that were accepted, side by side: what comes next, how long all are as one, and what a write leaves of that. Assumes nothing.
 use Prim.Native.Nat.{ℕ, _+_, _-_, _≤_, _<_}
 use mathlib.Core.Bool.{true, cond}
-use mathlib.Core.List.{List, [], _∷_}
+use mathlib.Core.List.{List, _∷_}
 use mathlib.Core.Option.{Option, none, some}
 use mathlib.Core.Path.{_≡_}
 use lib.Dec.{ltb}
 use lib.ListN.{length, getD}
-use Rattle.format.specs.Canonical.{writePart, writeContent, writeSubsections}
+use Rattle.format.specs.Canonical.{writeContent, writeSubsections}
 use Rattle.format.specs.Joined.{joinedContents, allFit, writeJoined, JoinWrites}
-use Rattle.format.specs.Names.{Kind, Content, payload}
+use Rattle.format.specs.Names.{Kind, Content}
 use Rattle.format.specs.Numbers.{shortest, limit32}
 use Rattle.format.specs.Pairs.{agreed}
 use Rattle.format.specs.Parts.{Part, sized}
-use Rattle.format.specs.Reading.{got}
 use Rattle.format.specs.Tables.{Table}
 use Rattle.format.specs.declared.JoinWritten.{JoinWritten}
 use Rattle.names.specs.Frames.{behindId}
-use Rattle.reading.specs.Cursors.{Inside, left}
+use Rattle.reading.specs.Cursors.{Inside}
 use Rattle.reading.specs.Standing.{Known, TakesPart}
 use Rattle.reading.specs.declared.Cursor.{Cursor}
 use Rattle.tables.specs.declared.Held.{Held}
 use Rattle.tables.specs.declared.Held.the-variants.{Nothing, Part as APart}
 use Rattle.writing.specs.Wrote.{Wrote}
+use Rattle.rewrite.specs.Subsections.{subBytes, PayloadStands}
 use Rattle.joining.specs.Contents.{HeldContents, bothLeft}
 use Rattle.joining.specs.declared.subsections.NextFrame.{NextFrame}
 use Rattle.joining.specs.declared.subsections.NextFrame.the-variants.{End as NoFrame, Frame}
@@ -81,11 +81,7 @@ unfoldable pub lengthOf : Option (Content (List ℕ)) → Total
 lengthOf none = Length 0
 lengthOf (some d) = cond (ltb (length (writeContent d)) limit32) (Length (1 + (length (shortest (length (writeContent d))) + length (writeContent d)))) TooLarge
 
--- its bytes, and that it is not too large
-abbrev pub subBytes : ℕ → Option (Content (List ℕ)) → List ℕ
-subBytes id none = []
-subBytes id (some d) = id ∷ writePart (writeContent d)
-
+-- it is not too large
 abbrev pub smallLeft : Option (Content (List ℕ)) → Type 0
 smallLeft none = Unit {0}
 smallLeft (some d) = length (writeContent d) < limit32
@@ -121,18 +117,12 @@ module _ (kindOf : ℕ → Kind) where
       pub held : HeldContents (kindOf id) s first o second
       pub wrote : Wrote old new at next (subBytes id (bothLeft (held .ours) (held .theirs)))
 
-  -- a payload, or what is to come of it
-  pub record PayloadStands (s : List ℕ) (c : Cursor) (t : Table (Content Part)) : Type 0 where
-    pub inside : Inside s c
-    pub next : ℕ
-    pub rest : List ℕ
-    pub reads : payload kindOf (c .at) (left s c) ≡ got t next rest
-
+  -- two payloads, or what is to come of them
   pub record Payloads (s : List ℕ) (c : Cursor) (o : List ℕ) (d : Cursor) : Type 0 where
     pub ours : Table (Content Part)
     pub theirs : Table (Content Part)
-    pub first-stands : PayloadStands s c ours
-    pub second-stands : PayloadStands o d theirs
+    pub first-stands : PayloadStands kindOf s c ours
+    pub second-stands : PayloadStands kindOf o d theirs
 
   -- both as one
   module _ (s : List ℕ) (c : Cursor) (o : List ℕ) (d : Cursor) where

@@ -5,7 +5,8 @@ ghost use lib.ListN.{length};
 ghost use Rattle.format.specs.Names.{oneName, nameMap, indirectMap, kept};
 ghost use Rattle.format.specs.Numbers.{shortest};
 ghost use Rattle.names.specs.Contents.{kindMeant};
-ghost use Rattle.joining.specs.Contents.{HeldContents, listLeft, NameStands, NameLeft, NameFits, NamePuts, LeftOfBoth, FitsBoth, CountsBoth, PutsBothContents};
+ghost use Rattle.rewrite.specs.Contents.{KnownContent, FitsContent, PutsContent};
+ghost use Rattle.joining.specs.Contents.{HeldContents, listLeft, NameLeft, LeftOfBoth, FitsBoth, CountsBoth, PutsBothContents};
 use crate::groups::count_length;
 use crate::groups::groups_length;
 use crate::groups::put_groups;
@@ -66,7 +67,7 @@ fn groups_left(s: &[u8], first: Held, o: &[u8], second: Held) -> Left
 
 // One name.
 fn name_left(s: &[u8], part: Cursor) -> Left
-    requires { ⌜ NameStands (now s) part ⌝ }
+    requires { ⌜ KnownContent oneName (now s) part ⌝ }
     ensures { λ r. ⌜ NameLeft (now (s .entry)) part r ⌝ }
 {
     let name = part_here(part, s);
@@ -164,8 +165,8 @@ fn put_indirect(
 
 // One name.
 fn put_name(out: &mut [u8], at: usize, s: &[u8], part: Cursor) -> usize
-    requires { ⌜ NameFits (now s) part (now out) at ⌝ }
-    ensures { λ r. ⌜ NamePuts (now (s .entry)) part (now (out .entry)) (now (out .exit)) at r ⌝ }
+    requires { ⌜ FitsContent oneName (now s) part (now out) at ⌝ }
+    ensures { λ r. ⌜ PutsContent oneName (now (s .entry)) part (now (out .entry)) (now (out .exit)) at r ⌝ }
 {
     let name = part_here(part, s);
     let text = name.part;

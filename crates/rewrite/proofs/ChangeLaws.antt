@@ -21,9 +21,10 @@ use Rattle.reading.specs.declared.Cursor.{Cursor}
 use Rattle.reading.proofs.PartSteps.{take-drop}
 use Rattle.copying.proofs.Laws.{part-length}
 use Rattle.names.specs.Contents.{kindMeant}
+use Rattle.names.specs.Frames.{behindId}
 use Rattle.names.specs.declared.kinds.Kind.{Kind}
 use Rattle.rewrite.specs.Contents.{ContentStands, KnownContent, leftOf, Trims}
-use Rattle.rewrite.specs.Subsections.{lengthLeft, subBytes, behindId, KnownFrame, FrameStands, PayloadStands, KnownPayload, UnchangedHere, FindsChanged}
+use Rattle.rewrite.specs.Subsections.{lengthLeft, subBytes, KnownFrame, FrameStands, PayloadStands, KnownPayload, UnchangedHere, FindsChanged}
 use Rattle.rewrite.specs.declared.contents.Left.{Left}
 use Rattle.rewrite.specs.declared.subsections.Frame.{Frame}
 use Rattle.rewrite.specs.declared.subsections.Changed.{Changed}

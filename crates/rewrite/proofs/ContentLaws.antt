@@ -88,12 +88,12 @@ module _ {s : List ℕ} {part : Cursor} {c : Content Part} {n : ℕ} {d : Cursor
 
 -- What is left of each kind, and its bytes
 module _ {A : Type 0} where
-  gone : (t : Table A) → size t ≡ 0 → unlessEmpty t ≡ none
+  pub gone : (t : Table A) → size t ≡ 0 → unlessEmpty t ≡ none
   unfolding size unlessEmpty
   gone nil h = refl
   gone (row k v t) h = absurd (omega arith)
 
-  stays : (t : Table A) → (size t ≡ 0 → ⊥) → unlessEmpty t ≡ some t
+  pub stays : (t : Table A) → (size t ≡ 0 → ⊥) → unlessEmpty t ≡ some t
   unfolding size unlessEmpty
   stays nil h = absurd (h refl)
   stays (row k v t) h = refl

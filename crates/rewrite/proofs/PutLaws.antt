@@ -48,15 +48,15 @@ one-remains : (p : Part) {d : Content (List ℕ)} → trim (bare (single p)) ≡
 unfolding bare
 one-remains p e = sym (some-is e)
 
-map-remains : (t : Table Part) {d : Content (List ℕ)} → trim (bare (names t)) ≡ some d → d ≡ names (bareRows t)
+pub map-remains : (t : Table Part) {d : Content (List ℕ)} → trim (bare (names t)) ≡ some d → d ≡ names (bareRows t)
 unfolding bare
 map-remains t e = inThen (unlessEmpty (bareRows t)) _ e λ u e₁ e₂. sym (some-is e₂) ∙ ap names (sym (kept-rows (bareRows t) e₁ .0))
 
-groups-remain : (t : Table (Table Part)) {d : Content (List ℕ)} → trim (bare (namesBy t)) ≡ some d → d ≡ namesBy (keptGroups t)
+pub groups-remain : (t : Table (Table Part)) {d : Content (List ℕ)} → trim (bare (namesBy t)) ≡ some d → d ≡ namesBy (keptGroups t)
 unfolding bare keptGroups
 groups-remain t e = inThen (unlessEmpty (keepRows unlessEmpty (bareItems t))) _ e λ u e₁ e₂. sym (some-is e₂) ∙ ap namesBy (sym (kept-rows (keepRows unlessEmpty (bareItems t)) e₁ .0))
 
-whole-remains : (p : Part) {d : Content (List ℕ)} → trim (bare (whole p)) ≡ some d → d ≡ whole (p .bytes)
+pub whole-remains : (p : Part) {d : Content (List ℕ)} → trim (bare (whole p)) ≡ some d → d ≡ whole (p .bytes)
 unfolding bare
 whole-remains p e = sym (some-is e)
 

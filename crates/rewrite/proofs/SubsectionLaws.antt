@@ -31,9 +31,10 @@ use Rattle.reading.proofs.Standing.{stand}
 use Rattle.copying.proofs.Laws.{part-length, part-fits}
 use Rattle.copying.proofs.Measuring.{shortest-short}
 use Rattle.names.specs.Contents.{kindMeant}
+use Rattle.names.specs.Frames.{behindId}
 use Rattle.names.specs.declared.kinds.Kind.{Kind}
 use Rattle.rewrite.specs.Contents.{ContentStands, KnownContent, sizesOf, leftOf, Trims}
-use Rattle.rewrite.specs.Subsections.{smallLeft, lengthLeft, subBytes, behindId, KnownFrame, FrameStands, PayloadStands, KnownPayload, MeasuresPayload}
+use Rattle.rewrite.specs.Subsections.{smallLeft, lengthLeft, subBytes, KnownFrame, FrameStands, PayloadStands, KnownPayload, MeasuresPayload}
 use Rattle.rewrite.specs.declared.contents.Sizes.{Sizes}
 use Rattle.rewrite.specs.declared.contents.Left.{Left}
 use Rattle.rewrite.specs.declared.contents.Left.the-variants.{Nothing, Contents}
@@ -121,18 +122,18 @@ module _ (kindOf : ℕ → AnyKind) where
   a-payload most least o bs h e = any-first (length bs) least o bs (enough most (length bs) least o bs h (omega arith) e)
 
   -- the first of them, and those behind it
-  record Front (o id : ℕ) (bs : List ℕ) (t : Table (Content Part)) (o′ : ℕ) (rest : List ℕ) : Type 0 where
-    part : Part
-    behind : ℕ
-    left-behind : List ℕ
-    content : Content Part
-    ended : ℕ
-    left-over : List ℕ
-    more : Table (Content Part)
-    reads-part : sized (suc o) bs ≡ got part behind left-behind
-    reads-content : contents (kindOf id) (part .at) (part .bytes) ≡ got content ended left-over
-    reads-more : payload kindOf behind left-behind ≡ got more o′ rest
-    is : row id content more ≡ t
+  pub record Front (o id : ℕ) (bs : List ℕ) (t : Table (Content Part)) (o′ : ℕ) (rest : List ℕ) : Type 0 where
+    pub part : Part
+    pub behind : ℕ
+    pub left-behind : List ℕ
+    pub content : Content Part
+    pub ended : ℕ
+    pub left-over : List ℕ
+    pub more : Table (Content Part)
+    pub reads-part : sized (suc o) bs ≡ got part behind left-behind
+    pub reads-content : contents (kindOf id) (part .at) (part .bytes) ≡ got content ended left-over
+    pub reads-more : payload kindOf behind left-behind ≡ got more o′ rest
+    pub is : row id content more ≡ t
 
   front-of : (o id : ℕ) (bs : List ℕ) {t : Table (Content Part)} {o′ : ℕ} {rest : List ℕ} → payload kindOf o (id ∷ bs) ≡ got t o′ rest → Front o id bs t o′ rest
   unfolding payload
@@ -177,7 +178,7 @@ module _ {kindOf : ℕ → AnyKind} {s : List ℕ} {c : Cursor} {t : Table (Cont
     pub first-is : left s c ≡ getD s (c .at) 0 ∷ left s (behindId c)
     first-is = slice-cons (c .at) (c .end) s 0 h (w .inside .within) ∙ rw (add-one (c .at))
 
-    front : Front kindOf (c .at) (getD s (c .at) 0) (left s (behindId c)) t (w .next) (w .rest)
+    pub front : Front kindOf (c .at) (getD s (c .at) 0) (left s (behindId c)) t (w .next) (w .rest)
     front = front-of kindOf (c .at) (getD s (c .at) 0) (left s (behindId c)) (rw first-is at (w .reads))
 
     reads-there : sized (behindId c .at) (left s (behindId c)) ≡ got (front .part) (front .behind) (front .left-behind)
@@ -212,11 +213,13 @@ module _ {kindOf : ℕ → AnyKind} {s : List ℕ} {c : Cursor} {t : Table (Cont
       pub record Onward (v : Content Part) : Type 0 where
         pub more : Table (Content Part)
         pub stands : PayloadStands kindOf s (r .next) more
+        pub is : t ≡ row (r .id) v more
         pub split : rewriteNames t ≡ subBytes (r .id) (trim (bare v)) ++ rewriteNames more
 
       pub onward : {v : Content Part} → ContentStands (kindOf (r .id)) s (r .part) v → Onward v
       onward {v} z =
           let same : front .content ≡ v = one-content content-stands z in
+          let parted : t ≡ row (r .id) v (front .more) = sym (rw (← f .id-is, same) at (front .is)) in
           record {
             more = front .more;
             stands = record {
@@ -225,7 +228,8 @@ module _ {kindOf : ℕ → AnyKind} {s : List ℕ} {c : Cursor} {t : Table (Cont
               rest = w .rest;
               reads = rw (got-next there, got-rest there) at (front .reads-more);
             };
-            split = ap rewriteNames (sym (rw (← f .id-is, same) at (front .is))) ∙ names-row (r .id) v (front .more);
+            is = parted;
+            split = ap rewriteNames parted ∙ names-row (r .id) v (front .more);
           }
 
 -- MEASURED

@@ -12,6 +12,7 @@ use Rattle.format.specs.Names.{Kind, Content, payload}
 use Rattle.format.specs.Canonical.{bare, trim, writePart, writeContent, rewriteNames}
 use Rattle.format.specs.Outputs.{Writes}
 use Rattle.format.specs.declared.Written.{Written}
+use Rattle.names.specs.Frames.{behindId}
 use Rattle.reading.specs.Cursors.{Inside, left}
 use Rattle.reading.specs.declared.Cursor.{Cursor}
 use Rattle.writing.specs.Wrote.{Wrote}
@@ -38,10 +39,6 @@ lengthLeft (some x) = 1 + (length (shortest (x .length)) + x .length)
 abbrev pub subBytes : ℕ → Option (Content (List ℕ)) → List ℕ
 subBytes id none = []
 subBytes id (some d) = id ∷ writePart (writeContent d)
-
--- the cursor behind an id byte
-abbrev pub behindId : Cursor → Cursor
-behindId c = record { at = c .at + 1; end = c .end }
 
 pub record KnownFrame (s : List ℕ) (c : Cursor) : Type 0 where
   pub inside : Inside s c
