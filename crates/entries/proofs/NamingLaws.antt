@@ -34,7 +34,7 @@ use Rattle.names.specs.Frames.{judgeFrames, readUnder}
 use Rattle.names.specs.Places.{subOf, Finds, Stands as LiesAt}
 use Rattle.names.specs.declared.kinds.Kind.{Kind}
 use Rattle.names.specs.declared.kinds.Kind.the-variants.{OneName, NameMap, IndirectMap, Kept}
-use Rattle.names.proofs.AskLaws.{as-absent}
+use Rattle.names.proofs.AskLaws.{as-absent, all-framed}
 use Rattle.names.proofs.ContentLaws.{Lax, one-stands, map-stands, indirect-stands}
 use Rattle.names.proofs.FrameLaws.{subsections-lie}
 use Rattle.entries.specs.Listing.{oneRow, KnownAll, ListsRows, KnownContents, ListsContents}
@@ -136,4 +136,4 @@ module _ (p : List ℕ) (edition : Edition) (id : ℕ) (v : Verdict) (says : ver
           let held : lookup id (there .value) ≡ some (w .value) = accepted-is (there .reads ∙ rw (lies, reads)) in
           rw (there .accepts, held) (w .its-lists)
 
-pub ruleset names-listed = (names-refused, names-none, contents-there, names-there, over-inside, needs)
+pub ruleset names-listed = (names-refused, names-none, contents-there, names-there, all-framed, over-inside, needs)

@@ -39,7 +39,7 @@ use Rattle.tables.proofs.Held as held-type
 use Rattle.names.specs.Contents.{asksIn}
 use Rattle.names.specs.Frames.{judgeFrames, readUnder}
 use Rattle.names.specs.Places.{subOf, Finds, Stands as LiesAt}
-use Rattle.names.proofs.AskLaws.{as-absent}
+use Rattle.names.proofs.AskLaws.{as-absent, all-framed}
 use Rattle.names.proofs.ContentLaws.{map-stands}
 use Rattle.names.proofs.FrameLaws.{subsections-lie, asked-lies}
 use Rattle.writing.proofs.Laws.{wrote-nothing}
@@ -138,4 +138,4 @@ module _ (p : List ℕ) (v : Verdict) (says : verdictOf v ≡ verdict (judgeName
             let found : functionsPart p ≡ accepted (some (partOf p part)) = part-there ∙ ap (λ x. accepted (subOf p x)) e in
             rw (made-short is os short, marked-there (holds .there-are) found (m .stands)) (m .makes)
 
-pub ruleset making = (make-refused, make-long, make-none, map-there, make-there, over-inside, needs)
+pub ruleset making = (make-refused, make-long, make-none, map-there, make-there, all-framed, over-inside, needs)

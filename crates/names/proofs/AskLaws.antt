@@ -7,24 +7,17 @@ use mathlib.Core.Path.{_≡_, refl, sym, ap, _∙_}
 use native.Mathlib.Omega.{arith}
 use borrow.Author.Needs.{needs}
 use denote.Enum.Declared.{tagOf}
-use lib.ListN.{length}
 use lib.Seq.{length-slice}
-use Rattle.format.specs.Reading.{filling, accepted, refused, judge, mapJudged}
-use Rattle.format.specs.Refusals.{numberOf}
+use Rattle.format.specs.Reading.{Outcome, got, stop, andThen, return, filling, accepted, judge, verdict}
 use Rattle.format.specs.Parts.{Part, name, remaining}
 use Rattle.format.specs.Tables.{lookup, table}
-use Rattle.format.specs.Names.{Kind as AnyKind, oneName, nameMap, indirectMap, kept, wider, widerKind, kindIn, contents, judgeNames}
+use Rattle.format.specs.Names.{Kind as AnyKind, oneName, nameMap, indirectMap, kept, Content, single, names, namesBy, whole, contents, judgeNames}
 use Rattle.format.specs.Questions.{answerIn, answer, asked, askAt, ask, asPlace, answered, idOf, queryOf}
-use Rattle.format.specs.declared.Edition.{Edition}
-use Rattle.format.specs.declared.Edition.the-variants.{First, Wider}
 use Rattle.format.specs.declared.Question.{Question}
-use Rattle.format.specs.declared.Question.the-variants.{ModuleName, FunctionName, LocalName, LabelName, TypeName, TableName, MemoryName, GlobalName, ElementName, DataName, FieldName, TagName, KeptContents}
 use Rattle.format.specs.declared.Query.{Query}
 use Rattle.format.specs.declared.Query.the-variants.{ItsName, ItsContents, NameOf, NameWithin}
-use Rattle.format.specs.Verdicts.{refusalIn}
-use Rattle.format.specs.Laws.Editions.{name-known, map-known as map-is-known, indirect-known as indirect-is-known, by-kind, same-known}
-use Rattle.format.specs.Laws.Options.{not-some}
-use Rattle.format.specs.Laws.Outcomes.{not-accepted, accepted-is, byOutcome, mapped}
+use Rattle.format.specs.Verdicts.{verdictOf, refusalIn}
+use Rattle.format.specs.Laws.Outcomes.{not-accepted, accepted-is, mapped}
 use Rattle.format.specs.declared.Answer.{Answer}
 use Rattle.format.specs.declared.Answer.the-variants.{None as NoAnswer, Refused as NotAnswered}
 use Rattle.format.specs.declared.Refusal.{Refusal}
@@ -32,21 +25,19 @@ use Rattle.format.specs.declared.Verdict.{Verdict}
 use Rattle.reading.proofs.Laws.{left-all, over-inside}
 use Rattle.reading.specs.Cursors.{Inside, left, overAll}
 use Rattle.reading.specs.declared.Cursor.{Cursor}
-use Rattle.names.specs.Contents.{kindMeant, asksIn, Asks, placeAt}
-use Rattle.names.specs.Places.{subOf, subInside, placedAt, KnownAt, Stands, Accepts, Judges, Finds, AsksAt}
+use Rattle.names.specs.Contents.{kindMeant, asksIn, placeAt}
+use Rattle.names.specs.Places.{subOf, subInside, KnownNames, KnownFrames, KnownAt, Stands, Finds, AsksAt}
 use Rattle.names.specs.declared.kinds.Kind.{Kind}
 use Rattle.names.specs.declared.kinds.Kind.the-variants.{OneName, NameMap, IndirectMap, Kept}
 use Rattle.tables.specs.declared.Held.{Held}
 use Rattle.tables.specs.declared.Held.the-variants.{Nothing as Absent, Part as At}
-use Rattle.format.proofs.Tags.{as-accepted}
+use Rattle.format.proofs.Tags.{judged-refused, judged-accepted}
 use Rattle.format.proofs.Verdict as verdict-type
 use Rattle.format.proofs.Query as query-type
 use Rattle.names.proofs.kinds.Kind as kind-type
 use Rattle.tables.proofs.Held as held-type
-use Rattle.names.proofs.ContentLaws.{map-known, map-asked, indirect-known, indirect-asked, found-ordered}
-use Rattle.names.proofs.FrameLaws.{asked-lies}
-use Rattle.names.proofs.PlaceLaws.{not-kept, unless-known}
-use Rattle.names.proofs.Verdicts.{refused-so}
+use Rattle.names.proofs.ContentLaws.{one-known, one-asked, map-known, map-asked, indirect-known, indirect-asked, found-ordered}
+use Rattle.names.proofs.FrameLaws.{frames-accepted, asked-lies}
 
 -- The contents at a place
 pub as-absent : (x : Held) → tagOf held-type.the-type x ≡ 0 → x ≡ Absent
@@ -59,12 +50,6 @@ module _ {s : List ℕ} {place : Held} where
   nothing-asked h = record { says = rw (as-absent place h) }
 
   module _ {part : Cursor} (e : place ≡ At part) where
-    pub place-asked : {kind : AnyKind} {q : Query} {y : Answer} → Asks kind q s part y → AsksAt kind q s place y
-    place-asked a = record { says = rw e (a .says) }
-
-    pub place-inside : subInside s place → Inside s part
-    place-inside i = rw e at i
-
     pub kept-asked : subInside s place → AsksAt kept ItsContents s place (placeAt part)
     unfolding contents remaining asPlace
     kept-asked i = let h : Inside s part = rw e at i in record { says = rw (e, length-slice (part .at) (part .end) s (h .within)) }
@@ -72,55 +57,90 @@ module _ {s : List ℕ} {place : Held} where
 pub place-ahead : (s : List ℕ) {place : Held} {part : Cursor} → place ≡ At part → subInside s place → part .at ≤ part .end
 place-ahead s {part = part} e i = let h : Inside s part = rw e at i in h .ahead
 
-pub ruleset place-steps = (nothing-asked, place-asked, place-inside, place-ahead, kept-asked, needs)
+pub ruleset place-steps = (nothing-asked, place-ahead, kept-asked, needs)
 
-pub ruleset map-steps = (nothing-asked, map-known, map-asked, indirect-known, indirect-asked, found-ordered, needs)
+pub ruleset map-steps = (nothing-asked, one-known, one-asked, map-known, map-asked, indirect-known, indirect-asked, found-ordered, needs)
 
--- One law for all questions: the place that the id has, asked
-module _ {kindOf : ℕ → AnyKind} {s : List ℕ} {at : ℕ} {bs : List ℕ} {p : List ℕ} where
-  place-answers : (id : ℕ) (q : Query) (place : Held) {y : Answer} (a : Accepts kindOf s at bs p) → Stands s place (lookup id (a .lying)) → AsksAt (kindOf id) q s place y → answered y ≡ asPlace (asked kindOf id q at bs)
-  place-answers id q place a st asks = asks .says ∙ ap asPlace (rw (st .is) (sym (asked-lies kindOf id q at bs (a .judged) (a .framed))))
+-- What an accepted payload answers: what the contents under the id do
+module _ {kindOf : ℕ → AnyKind} {s : List ℕ} {c : Cursor} (a : KnownNames kindOf s c) where
+  pub names-framed : KnownFrames s c
+  names-framed = record { inside = a .inside; known = frames-accepted kindOf (c .at) (left s c) (a .known) }
 
-  -- what was accepted stands where its id lies
-  known-stands : (id : ℕ) (place : Held) (a : Accepts kindOf s at bs p) → Stands s place (lookup id (a .lying)) → KnownAt (kindOf id) s place
+  under : (id : ℕ) (x : Query) → asked kindOf id x (c .at) (left s c) ≡ asksIn (kindOf id) x (lookup id (names-framed .known .value))
+  under id x = asked-lies kindOf id x (c .at) (left s c) (a .known .judged) (names-framed .known .judged)
+
+  told : (id : ℕ) (x : Query) → asked kindOf id x (c .at) (left s c) ≡ accepted (answer id x (a .known .value))
   unfolding asked
-  known-stands id Absent a st = record { inside = tt; known = tt }
-  known-stands id (At d) a st =
-      let told : asked kindOf id ItsName at bs ≡ accepted (answer id ItsName (a .held)) = rw (a .judged) refl in
-      let there : asksIn (kindOf id) ItsName (subOf s (At d)) ≡ accepted (answer id ItsName (a .held)) = ap (asksIn (kindOf id) ItsName) (st .is) ∙ sym (asked-lies kindOf id ItsName at bs (a .judged) (a .framed)) ∙ told in
-      record { inside = st .inside; known = mapped (answerIn ItsName) (judge (contents (kindOf id) (d .at) (left _ d))) there λ v e q. record { value = v; judged = e } }
+  told id x = rw (a .known .judged) refl
 
--- The kind that a query is for, and that each question asks an id of that kind, or one that the table keeps
+  module _ {id : ℕ} {place : Held} (finds : Finds s (c .at) (left s c) id place) where
+    lies : Stands s place (lookup id (names-framed .known .value))
+    lies = finds .stands (names-framed .known .value) (names-framed .known .judged)
+
+    known-stands : (place : Held) → Stands s place (lookup id (names-framed .known .value)) → KnownAt (kindOf id) s place
+    known-stands Absent st = record { inside = tt; known = tt }
+    known-stands (At d) st =
+        let there : asksIn (kindOf id) ItsName (subOf s (At d)) ≡ accepted (answer id ItsName (a .known .value)) = ap (asksIn (kindOf id) ItsName) (st .is) ∙ sym (under id ItsName) ∙ told id ItsName in
+        record { inside = st .inside; known = mapped (answerIn ItsName) (judge (contents (kindOf id) (d .at) (left _ d))) there λ v e q. record { value = v; judged = e } }
+
+    module _ (k : Kind) (is : kindMeant k ≡ kindOf id) where
+      known-there : KnownAt (kindMeant k) s place
+      known-there = rw is (known-stands place lies)
+
+      there-answers : (x : Query) {y : Answer} → AsksAt (kindMeant k) x s place y → answered y ≡ asPlace (asked kindOf id x (c .at) (left s c))
+      there-answers x {y} asks =
+          let asks-it : AsksAt (kindOf id) x s place y = rw is at asks in
+          asks-it .says ∙ ap asPlace (rw (lies .is) (sym (under id x)))
+
+-- A query is for one kind, and contents of another have no answer to it
 abbrev kindFor : Query → AnyKind
 kindFor ItsName = oneName
 kindFor (NameOf k) = nameMap
 kindFor (NameWithin k j) = indirectMap
 kindFor ItsContents = kept
 
-abbrev pub Suits : (ℕ → AnyKind) → Type 0
-Suits kindOf = (q : Question) → (kindFor (queryOf q) ≡ kept → ⊥) → (kindOf (idOf q) ≡ kept → ⊥) → kindFor (queryOf q) ≡ kindOf (idOf q)
+abbrev kindHeld : Content Part → AnyKind
+kindHeld (single x) = oneName
+kindHeld (names t) = nameMap
+kindHeld (namesBy t) = indirectMap
+kindHeld (whole x) = kept
 
-wider-suits : Suits widerKind
-unfolding widerKind wider lookup
-wider-suits ModuleName n m = refl
-wider-suits (FunctionName k) n m = refl
-wider-suits (LocalName k j) n m = refl
-wider-suits (LabelName k j) n m = refl
-wider-suits (TypeName k) n m = refl
-wider-suits (TableName k) n m = refl
-wider-suits (MemoryName k) n m = refl
-wider-suits (GlobalName k) n m = refl
-wider-suits (ElementName k) n m = refl
-wider-suits (DataName k) n m = refl
-wider-suits (FieldName k j) n m = refl
-wider-suits (TagName k) n m = refl
-wider-suits (KeptContents id) n m = absurd (n refl)
+silent : (x : Query) (held : Content Part) → (kindFor x ≡ kindHeld held → ⊥) → answerIn x held ≡ none
+silent ItsName (single v) n = absurd (n refl)
+silent ItsName (names t) n = refl
+silent ItsName (namesBy t) n = refl
+silent ItsName (whole v) n = refl
+silent (NameOf k) (single v) n = refl
+silent (NameOf k) (names t) n = absurd (n refl)
+silent (NameOf k) (namesBy t) n = refl
+silent (NameOf k) (whole v) n = refl
+silent (NameWithin k j) (single v) n = refl
+silent (NameWithin k j) (names t) n = refl
+silent (NameWithin k j) (namesBy t) n = absurd (n refl)
+silent (NameWithin k j) (whole v) n = refl
+silent ItsContents (single v) n = refl
+silent ItsContents (names t) n = refl
+silent ItsContents (namesBy t) n = refl
+silent ItsContents (whole v) n = absurd (n refl)
 
-pub edition-suits : (edition : Edition) → Suits (kindIn edition)
-edition-suits First q n m = let same = same-known (idOf q) m in wider-suits q n (λ e. m (sym same ∙ e)) ∙ same
-edition-suits Wider q n m = wider-suits q n m
+wrapped : {A : Type 0} (r : Outcome A) (wrap : A → Content Part) (kind : AnyKind) {held : Content Part} → ((v : A) → kindHeld (wrap v) ≡ kind) → judge (andThen r (λ v. return (wrap v))) ≡ accepted held → kindHeld held ≡ kind
+wrapped (got v o rest) wrap kind h e = rw (← accepted-is e) (h v)
+wrapped (stop n at) wrap kind h e = absurd (not-accepted e)
 
--- An arm that binds nothing gives the tag alone
+held-kind : (kind : AnyKind) (o : ℕ) (bs : List ℕ) {held : Content Part} → judge (contents kind o bs) ≡ accepted held → kindHeld held ≡ kind
+unfolding contents
+held-kind oneName o bs e = wrapped (filling name o bs) single oneName (λ v. refl) e
+held-kind nameMap o bs e = wrapped (filling (table name) o bs) names nameMap (λ v. refl) e
+held-kind indirectMap o bs e = wrapped (filling (table (table name)) o bs) namesBy indirectMap (λ v. refl) e
+held-kind kept o bs e = wrapped (remaining o bs) whole kept (λ v. refl) e
+
+silent-in : (kind : AnyKind) (x : Query) (found : Option Part) {y : Option Part} → (kindFor x ≡ kind → ⊥) → asksIn kind x found ≡ accepted y → none ≡ y
+silent-in kind x none n e = accepted-is e
+silent-in kind x (some p) n e =
+    mapped (answerIn x) (judge (contents kind (p .at) (p .bytes))) e λ held e₁ e₂.
+    sym (silent x held (λ q. n (q ∙ held-kind kind (p .at) (p .bytes) e₁))) ∙ e₂
+
+-- an arm that binds nothing gives the tag alone
 as-name : (x : Query) → tagOf query-type.the-type x ≡ 0 → x ≡ ItsName
 as-name ItsName h = refl
 as-name (NameOf k) h = absurd (omega arith)
@@ -133,133 +153,98 @@ as-contents (NameOf k) h = absurd (omega arith)
 as-contents (NameWithin k j) h = absurd (omega arith)
 as-contents ItsContents h = refl
 
--- where nothing is, nothing has to be known
-nothing-known : {s : List ℕ} (place : Held) (kind : AnyKind) → subOf s place ≡ none → KnownAt kind s place
-nothing-known Absent kind e = record { inside = tt; known = tt }
-nothing-known (At d) kind e = absurd (not-some (sym e))
+-- both have the number of their kind
+number : AnyKind → ℕ
+number oneName = 0
+number nameMap = 1
+number indirectMap = 2
+number kept = 3
 
--- what is kept answers nothing but its contents
-kept-silent : (x : Query) (found : Option Part) {y : Option Part} → (kindFor x ≡ kept → ⊥) → asksIn kept x found ≡ accepted y → none ≡ y
-unfolding contents remaining
-kept-silent ItsName none n e = accepted-is e
-kept-silent ItsName (some p) n e = accepted-is e
-kept-silent (NameOf k) none n e = accepted-is e
-kept-silent (NameOf k) (some p) n e = accepted-is e
-kept-silent (NameWithin k j) none n e = accepted-is e
-kept-silent (NameWithin k j) (some p) n e = accepted-is e
-kept-silent ItsContents found n e = absurd (n refl)
+kind-number : (k : Kind) → tagOf kind-type.the-type k ≡ number (kindMeant k)
+unfolding number
+kind-number OneName = refl
+kind-number NameMap = refl
+kind-number IndirectMap = refl
+kind-number Kept = refl
 
--- What an accepted payload answers
-module _ {kindOf : ℕ → AnyKind} {s : List ℕ} {at : ℕ} {bs : List ℕ} {p : List ℕ} (a : Accepts kindOf s at bs p) (suits : Suits kindOf) (q : Question) {x : Query} {id : ℕ} {place : Held} (asks : x ≡ queryOf q) (of : id ≡ idOf q) (there : place ≡ placedAt p id) where
-  -- a question for an id that is kept: there is no place, and none is the answer
-  module _ (k : kindOf id ≡ kept) where
-    no-place : subOf s place ≡ none
-    no-place = let st = a .all-stand id in rw there ((rw k at st) .is)
+query-number : (x : Query) → tagOf query-type.the-type x ≡ number (kindFor x)
+unfolding number
+query-number ItsName = refl
+query-number (NameOf k) = refl
+query-number (NameWithin k j) = refl
+query-number ItsContents = refl
 
-    none-asked : (n : kindFor x ≡ kept → ⊥) → asked kindOf id x at bs ≡ accepted none
-    unfolding asked
-    none-asked n =
-        let lies = asked-lies kindOf id x at bs (a .judged) (a .framed) in
-        let told : asked kindOf id x at bs ≡ accepted (answer id x (a .held)) = rw (a .judged) refl in
-        told ∙ ap accepted (sym (kept-silent x (lookup id (a .lying)) n (rw k at (sym lies ∙ told))))
+module _ {kindOf : ℕ → AnyKind} {s : List ℕ} {c : Cursor} (a : KnownNames kindOf s c) (q : Question) {x : Query} {id : ℕ} (k : Kind) (asks : x ≡ queryOf q) (of : id ≡ idOf q) (is : kindMeant k ≡ kindOf id) where
+  -- no such answer
+  none-said : (tagOf kind-type.the-type k ≡ tagOf query-type.the-type x → ⊥) → answered NoAnswer ≡ asPlace (askAt kindOf q (c .at) (left s c))
+  unfolding askAt asPlace
+  none-said n =
+      let other : kindFor x ≡ kindOf id → ⊥ = λ e. n (kind-number k ∙ ap number (is ∙ sym e) ∙ sym (query-number x)) in
+      let nothing = silent-in (kindOf id) x (lookup id (names-framed a .known .value)) other (sym (under a id x) ∙ told a id x) in
+      rw (← asks, ← of, told a id x, ← nothing)
 
-  -- otherwise the place stands where the id lies, and its contents are of the query's kind
-  module _ (n : kindFor x ≡ kept → ⊥) where
-    module _ (m : kindOf id ≡ kept → ⊥) where
-      its-kind : kindFor x ≡ kindOf id
-      its-kind = rw (asks, of) (suits q (rw asks at n) (rw of at m))
+  pub name-none : tagOf query-type.the-type x ≡ 0 → (tagOf kind-type.the-type k ≡ 1) ⊎ ((tagOf kind-type.the-type k ≡ 2) ⊎ (tagOf kind-type.the-type k ≡ 3)) → answered NoAnswer ≡ asPlace (askAt kindOf q (c .at) (left s c))
+  name-none h n = none-said (λ e. ⊎-elim (λ t. omega (arith, e, h, t)) (λ m. ⊎-elim (λ t. omega (arith, e, h, t)) (λ t. omega (arith, e, h, t)) m) n)
 
-      stands : Stands s place (lookup id (a .lying))
-      stands = let st = a .all-stand id in rw there (rw (unless-known (kindOf id) (lookup id (a .lying)) none m) at st)
+  pub map-none : {key : ℕ} → x ≡ NameOf key → (tagOf kind-type.the-type k ≡ 0) ⊎ ((tagOf kind-type.the-type k ≡ 2) ⊎ (tagOf kind-type.the-type k ≡ 3)) → answered NoAnswer ≡ asPlace (askAt kindOf q (c .at) (left s c))
+  map-none q n = let h : tagOf query-type.the-type x ≡ 1 = rw q in none-said (λ e. ⊎-elim (λ t. omega (arith, e, h, t)) (λ m. ⊎-elim (λ t. omega (arith, e, h, t)) (λ t. omega (arith, e, h, t)) m) n)
 
-    known-place : KnownAt (kindFor x) s place
-    known-place =
-        by-kind (kindOf id)
-        (λ k. nothing-known place (kindFor x) (no-place k))
-        (λ m. rw (its-kind m) (known-stands id place a (stands m)))
+  pub indirect-none : {key inner : ℕ} → x ≡ NameWithin key inner → (tagOf kind-type.the-type k ≡ 0) ⊎ ((tagOf kind-type.the-type k ≡ 1) ⊎ (tagOf kind-type.the-type k ≡ 3)) → answered NoAnswer ≡ asPlace (askAt kindOf q (c .at) (left s c))
+  indirect-none q n = let h : tagOf query-type.the-type x ≡ 2 = rw q in none-said (λ e. ⊎-elim (λ t. omega (arith, e, h, t)) (λ m. ⊎-elim (λ t. omega (arith, e, h, t)) (λ t. omega (arith, e, h, t)) m) n)
 
-    place-asks : {y : Answer} → AsksAt (kindFor x) x s place y → answered y ≡ asPlace (askAt kindOf q at bs)
-    unfolding askAt asPlace
-    place-asks {y} h =
-        by-kind (kindOf id)
-        (λ k. rw (← asks, ← of, none-asked k n) (rw (no-place k) at (h .says)))
-        (λ m. let h′ : AsksAt (kindOf id) x s place y = rw (its-kind m) at h in
-        rw (← asks, ← of) (place-answers id x place a (stands m) h′))
+  pub kept-none : tagOf query-type.the-type x ≡ 3 → (tagOf kind-type.the-type k ≡ 0) ⊎ ((tagOf kind-type.the-type k ≡ 1) ⊎ (tagOf kind-type.the-type k ≡ 2)) → answered NoAnswer ≡ asPlace (askAt kindOf q (c .at) (left s c))
+  kept-none h n = none-said (λ e. ⊎-elim (λ t. omega (arith, e, h, t)) (λ m. ⊎-elim (λ t. omega (arith, e, h, t)) (λ t. omega (arith, e, h, t)) m) n)
 
-  module _ (h : tagOf query-type.the-type x ≡ 0) where
-    pub name-inside : subInside s place
-    name-inside = let e = as-name x h in known-place (rw e name-known) .inside
+  -- what stands under the id
+  module _ {place : Held} (finds : Finds s (c .at) (left s c) id place) where
+    answers : {y : Answer} → AsksAt (kindMeant k) x s place y → answered y ≡ asPlace (askAt kindOf q (c .at) (left s c))
+    unfolding askAt
+    answers asks-it = rw (← asks, ← of) (there-answers a finds k is x asks-it)
 
-    pub name-answers : {y : Answer} → AsksAt oneName ItsName s place y → answered y ≡ asPlace (askAt kindOf q at bs)
-    name-answers {y} asks-it = let e = as-name x h in place-asks (rw e name-known) {y = y} (rw e asks-it)
+    pub name-there : k ≡ OneName → KnownAt oneName s place
+    name-there e = rw e at (known-there a finds k is)
 
-  module _ {k : ℕ} (e : x ≡ NameOf k) where
-    pub map-there : KnownAt nameMap s place
-    map-there = let known = known-place (rw e map-is-known) in rw e at known
+    pub name-answers : {y : Answer} → tagOf query-type.the-type x ≡ 0 → k ≡ OneName → AsksAt oneName ItsName s place y → answered y ≡ asPlace (askAt kindOf q (c .at) (left s c))
+    name-answers {y} h e asks-it = answers {y = y} (rw (e, as-name x h) asks-it)
 
-    pub map-answers : {y : Answer} → AsksAt nameMap (NameOf k) s place y → answered y ≡ asPlace (askAt kindOf q at bs)
-    map-answers {y} asks-it = place-asks (rw e map-is-known) {y = y} (rw e asks-it)
+    pub map-there : k ≡ NameMap → KnownAt nameMap s place
+    map-there e = rw e at (known-there a finds k is)
 
-  module _ {k j : ℕ} (e : x ≡ NameWithin k j) where
-    pub indirect-there : KnownAt indirectMap s place
-    indirect-there = let known = known-place (rw e indirect-is-known) in rw e at known
+    pub map-answers : {key : ℕ} {y : Answer} → x ≡ NameOf key → k ≡ NameMap → AsksAt nameMap (NameOf key) s place y → answered y ≡ asPlace (askAt kindOf q (c .at) (left s c))
+    map-answers {y = y} h e asks-it = answers {y = y} (rw (e, h) asks-it)
 
-    pub indirect-answers : {y : Answer} → AsksAt indirectMap (NameWithin k j) s place y → answered y ≡ asPlace (askAt kindOf q at bs)
-    indirect-answers {y} asks-it = place-asks (rw e indirect-is-known) {y = y} (rw e asks-it)
+    pub indirect-there : k ≡ IndirectMap → KnownAt indirectMap s place
+    indirect-there e = rw e at (known-there a finds k is)
 
-pub kept-answers : (kindOf : ℕ → AnyKind) (at : ℕ) (bs : List ℕ) (q : Question) (x : Query) (id : ℕ) (y : Answer) → x ≡ queryOf q → id ≡ idOf q → tagOf query-type.the-type x ≡ 3 → answered y ≡ asPlace (asked kindOf id ItsContents at bs) → answered y ≡ asPlace (askAt kindOf q at bs)
-unfolding askAt
-kept-answers kindOf at bs q x id y asks of h e = let is = as-contents x h in rw (← asks, ← of, is) e
+    pub indirect-answers : {key inner : ℕ} {y : Answer} → x ≡ NameWithin key inner → k ≡ IndirectMap → AsksAt indirectMap (NameWithin key inner) s place y → answered y ≡ asPlace (askAt kindOf q (c .at) (left s c))
+    indirect-answers {y = y} h e asks-it = answers {y = y} (rw (e, h) asks-it)
 
-pub ruleset answers = (name-inside, name-answers, map-there, map-answers, indirect-there, indirect-answers, kept-answers, edition-suits, needs)
+    pub kept-there : k ≡ Kept → subInside s place
+    kept-there e = known-there a finds k is .inside
+
+    pub kept-answers : {y : Answer} → tagOf query-type.the-type x ≡ 3 → k ≡ Kept → AsksAt kept ItsContents s place y → answered y ≡ asPlace (askAt kindOf q (c .at) (left s c))
+    kept-answers {y} h e asks-it = answers {y = y} (rw (e, as-contents x h) asks-it)
+
+pub ruleset answering = (names-framed, name-none, map-none, indirect-none, kept-none, name-there, name-answers, map-there, map-answers, indirect-there, indirect-answers, kept-there, kept-answers, needs)
 
 -- A payload that is not accepted, and one that is
-module _ {kindOf : ℕ → AnyKind} {s : List ℕ} {at : ℕ} {bs p : List ℕ} (v : Verdict) (judges : Judges kindOf s at bs v p) where
-  pub question-refused : (q : Question) (r : Refusal) → tagOf verdict-type.the-type v ≡ 1 → r ≡ refusalIn v → answered (NotAnswered r) ≡ asPlace (askAt kindOf q at bs)
+module _ (kindOf : ℕ → AnyKind) (s : List ℕ) (c : Cursor) (v : Verdict) (says : verdictOf v ≡ verdict (judgeNames kindOf (c .at) (left s c))) where
+  pub question-refused : (q : Question) (r : Refusal) → tagOf verdict-type.the-type v ≡ 1 → r ≡ refusalIn v → answered (NotAnswered r) ≡ asPlace (askAt kindOf q (c .at) (left s c))
   unfolding askAt asked asPlace
-  question-refused q r h is = rw (is, refused-so v judges h)
+  question-refused q r h is = rw (is, judged-refused v (judgeNames kindOf (c .at) (left s c)) says h)
 
-  pub accepts : tagOf verdict-type.the-type v ≡ 0 → Accepts kindOf s at bs p
-  accepts h = rw (as-accepted v h) at (judges .says)
+  pub accepts : Inside s c → tagOf verdict-type.the-type v ≡ 0 → KnownNames kindOf s c
+  accepts i h = let (t, e) = judged-accepted v (judgeNames kindOf (c .at) (left s c)) says h in record { inside = i; known = record { value = t; judged = e } }
 
 pub ruleset questions = (question-refused, accepts, needs)
 
--- What is kept: the ids that are known keep nothing
-known-silent : (kind : AnyKind) (o : ℕ) (bs : List ℕ) {x : Option Part} → (kind ≡ kept → ⊥) → mapJudged (answerIn ItsContents) (judge (contents kind o bs)) ≡ accepted x → none ≡ x
-unfolding contents
-known-silent oneName o bs n e = byOutcome (filling name o bs) (λ v o₁ r₁ q. accepted-is (rw q at e)) (λ m at q. absurd (not-accepted (rw q at e)))
-known-silent nameMap o bs n e = byOutcome (filling (table name) o bs) (λ v o₁ r₁ q. accepted-is (rw q at e)) (λ m at q. absurd (not-accepted (rw q at e)))
-known-silent indirectMap o bs n e = byOutcome (filling (table (table name)) o bs) (λ v o₁ r₁ q. accepted-is (rw q at e)) (λ m at q. absurd (not-accepted (rw q at e)))
-known-silent kept o bs n e = absurd (n refl)
-
-silent-in : (kind : AnyKind) (found : Option Part) {x : Option Part} → (kind ≡ kept → ⊥) → asksIn kind ItsContents found ≡ accepted x → none ≡ x
-silent-in kind none n e = accepted-is e
-silent-in kind (some p) n e = known-silent kind (p .at) (p .bytes) n e
-
-module _ {kindOf : ℕ → AnyKind} {s : List ℕ} {at : ℕ} {bs : List ℕ} {p : List ℕ} (a : Accepts kindOf s at bs p) {id : ℕ} where
-  pub kept-known : (k : Kind) → kindMeant k ≡ kindOf id → (tagOf kind-type.the-type k ≡ 0) ⊎ ((tagOf kind-type.the-type k ≡ 1) ⊎ (tagOf kind-type.the-type k ≡ 2)) → answered NoAnswer ≡ asPlace (asked kindOf id ItsContents at bs)
-  unfolding asPlace asked
-  kept-known k is n =
-      let asks = asked-lies kindOf id ItsContents at bs (a .judged) (a .framed) in
-      let told : asked kindOf id ItsContents at bs ≡ accepted (answer id ItsContents (a .held)) = rw (a .judged) in
-      let nothing = silent-in (kindOf id) (lookup id (a .lying)) (λ q. not-kept k n (is ∙ q)) (sym asks ∙ told) in
-      rw (a .judged, ← nothing)
-
-  module _ {place : Held} (finds : Finds s at bs id place) where
-    pub kept-found : {y : Answer} {k : Kind} → kindMeant k ≡ kindOf id → k ≡ Kept → AsksAt kept ItsContents s place y → answered y ≡ asPlace (asked kindOf id ItsContents at bs)
-    kept-found {y} is k asks =
-        let kind : kept ≡ kindOf id = rw k at is in
-        let asks-it : AsksAt (kindOf id) ItsContents s place y = rw kind at asks in
-        place-answers id ItsContents place a (finds .stands (a .lying) (a .framed)) asks-it
-
-    pub found-inside : subInside s place
-    found-inside = finds .stands (a .lying) (a .framed) .inside
-
-pub ruleset kept-questions = (kept-known, kept-found, found-inside, needs)
+-- for callers that look for a subsection once all that was lent is accepted
+pub all-framed : (kindOf : ℕ → AnyKind) (p : List ℕ) (v : Verdict) {c : Cursor} → verdictOf v ≡ verdict (judgeNames kindOf 0 p) → tagOf verdict-type.the-type v ≡ 0 → c ≡ overAll p → KnownFrames p c
+all-framed kindOf p v {c} says h over = names-framed (accepts kindOf p c v (rw (over, left-all p) says) (over-inside over) h)
 
 -- asked of all that was lent
 pub asks-all : (kindOf : ℕ → AnyKind) (y : Answer) (q : Question) (s : List ℕ) {c : Cursor} → c ≡ overAll s → answered y ≡ asPlace (askAt kindOf q (c .at) (left s c)) → answered y ≡ asPlace (ask kindOf q s)
 unfolding ask
 asks-all kindOf y q s over e = rw (over, left-all s) at e
 
-pub ruleset asked-all = (asks-all, over-inside, needs)
+pub ruleset asked-all = (question-refused, accepts, asks-all, over-inside, needs)

@@ -30,10 +30,11 @@ use Rattle.format.specs.declared.Refusal.{Refusal}
 use Rattle.format.specs.declared.Reason.the-variants.{LeftOver}
 use Rattle.reading.specs.Cursors.{Inside, left, partOf, PartReads}
 use Rattle.reading.specs.declared.Cursor.{Cursor}
+use Rattle.reading.specs.declared.again.Piece.{Piece}
 use Rattle.reading.specs.declared.PartRead.{PartRead}
 use Rattle.reading.specs.declared.PartRead.the-variants.{Part as APart, Refused as NoPart}
 use Rattle.reading.proofs.Laws.{name-means, name-behind}
-use Rattle.reading.specs.Standing.{Stands, Known}
+use Rattle.reading.specs.Standing.{Stands, Known, TakesPart}
 use Rattle.reading.proofs.Standing.{Passable, stand, one-value}
 use Rattle.tables.specs.Finding.{within, heldOrdered, answerOf, Finds}
 use Rattle.tables.specs.declared.Held.{Held}
@@ -264,6 +265,19 @@ module _ {s : List ℕ} {part : Cursor} {held : Content Part} (i : Inside s part
 module _ {s : List ℕ} {place : Held} {part : Cursor} (at-part : place ≡ At part) where
   known-inside : {kind : AnyKind} → KnownAt kind s place → Inside s part
   known-inside h = rw at-part at (h .inside)
+
+  module _ (h : KnownAt oneName s place) where
+    one-lax : Lax sized single s part ((rw at-part at (h .known)) .value)
+    one-lax = one-stands (known-inside h) ((rw at-part at (h .known)) .judged)
+
+    pub one-known : Known sized s part
+    one-known = let l = one-lax in record { value = l .value; next = l .next; stands = l .stands }
+
+    pub one-asked : {r : Piece} {y : Answer} → TakesPart s part r → y ≡ answerOf (At (r .part)) → AsksAt oneName ItsName s place y
+    one-asked {r} w e =
+        let l = one-lax in
+        let same : partOf s (r .part) ≡ l .value = one-value (w .stands) (l .stands) in
+        record { says = rw (e, held-means s (At (r .part)) (w .in-part), at-part, (rw at-part at (h .known)) .judged, same, ← l .is) }
 
   module _ (h : KnownAt nameMap s place) where
     map-lax : Lax (table sized) names s part ((rw at-part at (h .known)) .value)

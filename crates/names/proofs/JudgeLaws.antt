@@ -1,56 +1,52 @@
--- The loops over a payload's subsections: one judges and keeps the places, the other finds an id.
-use Prim.Native.Nat.{ℕ, suc, _+_, _-_, _≤_, _<_}
+-- The loops over a payload's subsections: one judges, the other finds an id where all were accepted.
+use Prim.Native.Nat.{ℕ, zero, suc, _+_, _-_, _≤_, _<_}
 use mathlib.Core.Bool.{Bool}
-use mathlib.Core.List.{List, []}
+use mathlib.Core.List.{List, [], _∷_}
+use mathlib.Core.Logic.{_⊎_, ⊎-elim}
 use mathlib.Core.Option.{Option, none, some}
-use mathlib.Core.Path.{_≡_, refl, sym, _∙_}
+use mathlib.Core.Path.{_≡_, refl, sym, ap, _∙_}
 use native.Mathlib.Numerals.{add-one}
 use native.Mathlib.Omega.{arith}
 use borrow.Author.Needs.{needs}
-use borrow.Author.Tests.{eqb-true, eqb-false, eq-eqb, ne-eqb}
+use borrow.Author.Tests.{eq-eqb, ne-eqb}
 use denote.Enum.Declared.{tagOf}
-use lib.Dec.{eqb}
-use lib.ListN.{length}
-use lib.Seq.{length-slice}
+use lib.Dec.{leb}
+use lib.ListN.{length, getD}
+use lib.Seq.{length-slice, slice-cons, slice-empty}
 use Rattle.format.specs.Refusals.{numberOf}
-use Rattle.format.specs.Options.{mapSome}
-use Rattle.format.specs.Reading.{Outcome, got, stop, Reader, andThen, verdict}
+use Rattle.format.specs.Reading.{Outcome, got, stop, Reader, andThen, _>>=_, return, accepted, judge, verdict}
 use Rattle.format.specs.Verdicts.{verdictOf}
-use Rattle.format.specs.Parts.{Part}
-use Rattle.format.specs.Tables.{Table, lookup, mapTable}
-use Rattle.format.specs.Names.{Kind, kept, payload, judgeNames}
-use Rattle.format.specs.Laws.Options.{or-none}
-use Rattle.format.specs.Laws.Editions.{by-kind}
-use Rattle.format.specs.Laws.Outcomes.{not-got, got-value, byTest, inTurn, judged}
-use Rattle.format.specs.Laws.Tables.{lookup-map}
+use Rattle.format.specs.Parts.{Part, sized, goOn, inside}
+use Rattle.format.specs.Questions.{answered}
+use Rattle.format.specs.Tables.{Table, nil, row, lookup}
+use Rattle.format.specs.Names.{Kind, Content, contents, subsections, payload, judgeNames}
+use Rattle.format.specs.Laws.Outcomes.{not-got, not-accepted, got-value, got-next, got-rest, byTest, byOutcome, judged, accepted-is}
+use Rattle.format.specs.Laws.Codecs.{sized-codec}
+use Rattle.format.specs.Laws.Passing.{sized-passes}
+use Rattle.format.specs.declared.Answer.{Answer}
+use Rattle.format.specs.declared.Answer.the-variants.{None as NoAnswer, Found as FoundAt, Refused as NotAnswered}
 use Rattle.format.specs.declared.Refusal.{Refusal}
-use Rattle.reading.proofs.Laws.{left-all, over-inside}
-use Rattle.reading.specs.Cursors.{Inside, left, partOf, overAll}
-use Rattle.reading.specs.declared.Cursor.{Cursor}
-use Rattle.names.specs.Frames.{Headed, frame, frames, judgeFrames, subsection, Forward, FrameReads}
-use Rattle.names.specs.Places.{subOf, subInside, Stands, placedAt, nowhere, Judges, Puts, Finds}
-use Rattle.names.specs.declared.frames.FrameRead.{FrameRead}
-use Rattle.names.specs.declared.frames.FrameRead.the-variants.{Frame, End, Refused as NoFrame}
-use Rattle.tables.specs.declared.Held.{Held}
-use Rattle.tables.specs.declared.Held.the-variants.{Nothing as Absent, Part as At}
 use Rattle.format.specs.declared.Verdict.{Verdict}
 use Rattle.format.specs.declared.Verdict.the-variants.{Accepted as IsAccepted, Refused as IsRefused}
+use Rattle.format.proofs.Answer as answer-type
+use Rattle.reading.proofs.Laws.{left-all, over-inside}
+use Rattle.reading.proofs.Standing.{stand}
+use Rattle.reading.specs.Cursors.{Inside, left, partOf, overAll}
+use Rattle.reading.specs.declared.Cursor.{Cursor}
+use Rattle.names.specs.Contents.{Rules}
+use Rattle.names.specs.Frames.{Headed, frame, frames, judgeFrames, behindId, Forward, FrameReads, KnownFrame, FrameStands}
+use Rattle.names.specs.Places.{Stands, KnownFrames, Finds}
+use Rattle.names.specs.declared.frames.FrameRead.{FrameRead}
+use Rattle.names.specs.declared.frames.FrameRead.the-variants.{Frame, End, Refused as NoFrame}
+use Rattle.names.specs.declared.frames.Framed.{Framed}
+use Rattle.tables.specs.declared.Held.{Held}
+use Rattle.tables.specs.declared.Held.the-variants.{Nothing as Absent, Part as At}
 use Rattle.names.proofs.frames.FrameRead as frame-type
 use Rattle.names.proofs.FrameSteps.{as-end}
-use Rattle.names.proofs.PlaceLaws.{Placed, edition-placed, put-here, put-kept, put-elsewhere, put-inside, put-long, nothing-there, unless-known}
-use Rattle.names.proofs.Verdicts.{verdict-is}
-use Rattle.names.proofs.FrameLaws.{partAt, holding, behind, Framed, framed, subsections-framed, framed-parts, behindJudged, judged-turn, frame-turn}
-
--- what stops a search stops the reading
-stopped : {A : Type 0} (part : A → Part) (j : ℕ) (r : Outcome (Table A)) {n at : ℕ} → partAt part j none r ≡ stop n at → r ≡ stop n at
-stopped part j (got t o rest) e = absurd (not-got (sym e))
-stopped part j (stop n at) e = same e
-  where
-    same : {A B : Type 0} {n m at at′ : ℕ} → _≡_ {A = Outcome A} (stop n at) (stop m at′) → _≡_ {A = Outcome B} (stop n at) (stop m at′)
-    same e = cc
+use Rattle.names.proofs.FrameLaws.{inFrames, no-frames}
 
 -- a subsection that was read
-module _ {read : ℕ → Reader (Option (Headed Part))} {least : ℕ} {s : List ℕ} {c : Cursor} {x : FrameRead} (p : FrameReads read least s c x) where
+module _ {least : ℕ} {s : List ℕ} {c : Cursor} {x : FrameRead} (p : FrameReads frame least s c x) where
   module _ {id : ℕ} {part next : Cursor} {told : Bool} (e : x ≡ Frame id part next told) where
     pub forward : Forward least s c id part next
     forward = rw e at (p .forward)
@@ -58,161 +54,180 @@ module _ {read : ℕ → Reader (Option (Headed Part))} {least : ℕ} {s : List 
     pub frame-shorter : next .end - next .at < c .end - c .at
     frame-shorter = let f = forward in omega (arith, f .moves, f .same-end, f .in-rest .ahead)
 
--- Judging: whenever the loop is reached
-abbrev whole : (ℕ → Kind) → List ℕ → Cursor → Outcome (Table Framed)
-whole kindOf s c = framed kindOf (length (left s c)) 0 (c .at) (left s c)
+    pub frame-inside : Inside s part
+    frame-inside = forward .in-part
 
-abbrev lies : Framed → Part
-lies x = x .part
-
-pub record Turn (kindOf : ℕ → Kind) (s : List ℕ) (c next : Cursor) (least : ℕ) (p : List ℕ) : Type 0 where
-  pub most : ℕ
-  pub inside : Inside s next
-  pub enough : next .end - next .at ≤ most
-  pub long : length p ≡ 24
-  pub fresh : (j : ℕ) → least ≤ j → placedAt p j ≡ Absent
-  pub within : (j : ℕ) → subInside s (placedAt p j)
-  pub none-kept : (j : ℕ) → kindOf j ≡ kept → placedAt p j ≡ Absent
-  pub same : (j : ℕ) → (kindOf j ≡ kept → ⊥) → partAt lies j none (whole kindOf s c) ≡ partAt lies j (subOf s (placedAt p j)) (framed kindOf most least (next .at) (left s next))
-
-module _ {kindOf : ℕ → Kind} {s : List ℕ} {c : Cursor} where
-  pub turn-begins : (p : List ℕ) → Inside s c → p ≡ nowhere → Turn kindOf s c c 0 p
-  turn-begins p i e = rw e (record {
-    most = length (left s c);
-    inside = i;
-    enough = omega (arith, length-slice (c .at) (c .end) s (i .within));
-    long = refl;
-    fresh = λ j h. nothing-there j;
-    within = λ j. rw (nothing-there j) tt;
-    none-kept = λ j k. nothing-there j;
-    same = λ j k. rw (nothing-there j) refl;
-  })
-
-  module _ {next : Cursor} {least : ℕ} {p : List ℕ} {x : FrameRead} (placed : Placed kindOf) (t : Turn kindOf s c next least p) (f : FrameReads (subsection kindOf) least s next x) where
-    opened : (j : ℕ) → (kindOf j ≡ kept → ⊥) → partAt lies j none (whole kindOf s c) ≡ andThen (subsection kindOf least (next .at) (left s next)) (behindJudged kindOf j (subOf s (placedAt p j)) (t .most - 1))
-    opened j k = t .same j k ∙ judged-turn kindOf j (subOf s (placedAt p j)) (t .most) least (next .at) (left s next) (omega (arith, t .enough, length-slice (next .at) (next .end) s (t .inside .within)))
-
-    pub turn-refused : {r : Refusal} → x ≡ NoFrame r → Judges kindOf s (c .at) (left s c) (IsRefused r) p
-    unfolding judgeNames payload
-    turn-refused {r} e =
-        let halted : whole kindOf s c ≡ stop (numberOf (r .reason)) (r .offset .0) = stopped lies 0 (whole kindOf s c) (opened 0 (placed .first-known) ∙ rw (← rw e at (f .means))) in
-        record { says = rw (subsections-framed kindOf (length (left s c)) 0 (c .at) (left s c), halted) }
-
-    pub turn-ends : tagOf frame-type.the-type x ≡ 1 → Judges kindOf s (c .at) (left s c) IsAccepted p
-    unfolding judgeNames payload judgeFrames
-    turn-ends h =
-        let ends : (j : ℕ) → (kindOf j ≡ kept → ⊥) → partAt lies j none (whole kindOf s c) ≡ got (subOf s (placedAt p j)) (next .at) [] = λ j k. opened j k ∙ rw (← rw (as-end x h) at (f .means)) in
-        inTurn (whole kindOf s c) _ (ends 0 (placed .first-known)) λ all o rest e e′.
-        record {
-          says = record {
-            held = mapTable (λ y. y .content) all;
-            lying = mapTable lies all;
-            judged = rw (subsections-framed kindOf (length (left s c)) 0 (c .at) (left s c), e);
-            framed = rw (framed-parts kindOf (length (left s c)) 0 (c .at) (left s c) e .0);
-            all-stand = λ j. by-kind (kindOf j)
-                (λ k. rw (k, t .none-kept j k) (record { is = refl; inside = tt }))
-                (λ n. rw (unless-known (kindOf j) (lookup j (mapTable lies all)) none n) (record { is = sym (lookup-map lies j all ∙ got-value (rw e at (ends j n))); inside = t .within j }));
-          };
-        }
-
-    module _ {id : ℕ} {part after : Cursor} {told : Bool} {u : List ℕ} (e : x ≡ Frame id part after told) (put : Puts kindOf p id part u) where
-      below : (kindOf id ≡ kept → ⊥) → id < 12
-      below = placed .known-below id
-
-      ahead : 0 < part .at
-      ahead = omega (arith, forward f e .behind)
-
-      held-then : (j : ℕ) → (kindOf j ≡ kept → ⊥) → holding j (subOf s (placedAt p j)) id (partOf s part) ≡ subOf s (placedAt u j)
-      held-then j k =
-          byTest (eqb j id)
-          (λ q. let is = eqb-true j id q in
-          let none-yet = t .fresh j (omega (arith, forward f e .above)) in
-          let n : kindOf id ≡ kept → ⊥ = rw is at k in
-          let here : placedAt u j ≡ At part = rw is (put-here put below n (t .long) ahead) in
-          rw (q, none-yet, here))
-          (λ q. rw (q, or-none, put-elsewhere put below j (eqb-false j id q)))
-
-      pub turn-next : Turn kindOf s c after (id + 1) u
-      turn-next =
-          let far = forward f e in
-          record {
-            most = t .most - 1;
-            inside = far .in-rest;
-            enough = omega (arith, t .enough, far .moves, far .same-end, far .in-rest .ahead);
-            long = put-long put ∙ t .long;
-            fresh = λ j h. put-elsewhere put below j (λ q. omega arith) ∙ t .fresh j (omega (arith, far .above));
-            within = put-inside put below s (t .long) ahead (t .within) (far .in-part);
-            none-kept = λ j k. byTest (eqb j id)
-                (λ q. let is = eqb-true j id q in put-kept put (rw is at k) j ∙ t .none-kept j k)
-                (λ q. put-elsewhere put below j (eqb-false j id q) ∙ t .none-kept j k);
-            same = λ j k. opened j k ∙ rw (← rw e at (f .means), held-then j k, add-one);
-          }
-
-pub ruleset judge-turns = (turn-begins, turn-refused, turn-ends, edition-placed, turn-next, frame-shorter, needs)
-
--- all of what was lent
-pub judge-all : (kindOf : ℕ → Kind) (s : List ℕ) {c : Cursor} {p : List ℕ} (v : Verdict) → c ≡ overAll s → Judges kindOf s (c .at) (left s c) v p → verdictOf v ≡ verdict (judgeNames kindOf 0 s)
-judge-all kindOf s {p = p} v over j = let all : Judges kindOf s 0 s v p = rw (over, left-all s) at j in verdict-is v all
-
-pub ruleset judge-steps = (judge-all, over-inside, needs)
-
--- Finding an id: whenever the loop is reached, it has not been passed
-abbrev wholeFrames : List ℕ → Cursor → Outcome (Table Part)
-wholeFrames s c = frames (length (left s c)) 0 (c .at) (left s c)
-
-pub record Search (s : List ℕ) (c next : Cursor) (least id : ℕ) : Type 0 where
-  pub most : ℕ
-  pub inside : Inside s next
-  pub enough : next .end - next .at ≤ most
-  pub same : partAt (λ p. p) id none (wholeFrames s c) ≡ partAt (λ p. p) id none (frames most least (next .at) (left s next))
-
-same-option : {A : Type 0} (x : Option A) → mapSome (λ a. a) x ≡ x
-same-option none = refl
-same-option (some v) = refl
+-- where the end is kept beside the place
+pub frame-onward : {least : ℕ} {s : List ℕ} {at end : ℕ} {x : FrameRead} {id : ℕ} {part next : Cursor} {told : Bool} → FrameReads frame least s (record { at = at; end = end }) x → x ≡ Frame id part next told → end - next .at < end - at
+frame-onward p e = let f = forward p e in omega (arith, f .moves, f .same-end, f .in-rest .ahead)
 
 pub as-refused : (x : FrameRead) → tagOf frame-type.the-type x ≡ 2 → (r : Refusal) × (x ≡ NoFrame r)
 as-refused (Frame id part next told) h = absurd (omega arith)
 as-refused End h = absurd (omega arith)
 as-refused (NoFrame r) h = (r, refl)
 
--- what an accepted payload has there
-finds : {s : List ℕ} (c : Cursor) {id : ℕ} (sub : Held) → ((f : Table Part) (o : ℕ) (rest : List ℕ) → wholeFrames s c ≡ got f o rest → Stands s sub (lookup id f)) → Finds s (c .at) (left s c) id sub
-unfolding judgeFrames
-finds {s} c sub h = record { stands = λ f e. judged (wholeFrames s c) e λ o rest e₁. h f o rest e₁ }
+-- Judging, by verdicts alone: the subsections to come, by the frame that is next
+module _ (kindOf : ℕ → Kind) where
+  abbrev then : (most id : ℕ) → Content Part → Reader (Table (Content Part))
+  then most id c = subsections kindOf most (suc id) >>= λ more. return (row id c more)
+
+  abbrev onward : ℕ → Option (Headed Part) → Reader (Table (Content Part))
+  onward most none = return nil
+  onward most (some h) = inside (contents (kindOf (h .id))) (h .value) >>= then most (h .id)
+
+  by-frame : (most least o : ℕ) (bs : List ℕ) → length bs ≤ most → subsections kindOf most least o bs ≡ andThen (frame least o bs) (onward (most - 1))
+  unfolding subsections frame
+  by-frame zero least o [] h = refl
+  by-frame zero least o (id ∷ bs) h = absurd (omega arith)
+  by-frame (suc most) least o [] h = refl
+  by-frame (suc most) least o (id ∷ bs) h =
+      let d : suc most - 1 ≡ most = omega arith in
+      rw d (byTest (leb least id)
+      (λ t. rw t (byOutcome (sized (suc o) bs) (λ p o₁ r₁ e. rw e) (λ n at e. rw e)))
+      (λ t. rw t))
+
+-- and whether it is passed hangs on its contents, then on those behind it
+stops : {A B : Type 0} (r : Outcome A) (x : Refusal) (o : ℕ) (bs : List ℕ) (f : A → Reader B) → verdict (answered (NotAnswered x)) ≡ verdict (judge r) → verdictOf (IsRefused x) ≡ verdict (judge (andThen (goOn r o bs) f))
+stops (got a o₁ r₁) x o bs f e = absurd (not-accepted e)
+stops (stop m at) x o bs f e = e
+
+goes-on : {A B : Type 0} (r : Outcome A) (y : Answer) (o : ℕ) (bs : List ℕ) (f : A → Reader B) (after : Outcome B) → verdict (answered y) ≡ verdict (judge r) → (tagOf answer-type.the-type y ≡ 0) ⊎ (tagOf answer-type.the-type y ≡ 1) → ((a : A) → verdict (judge (f a o bs)) ≡ verdict (judge after)) → verdict (judge (andThen (goOn r o bs) f)) ≡ verdict (judge after)
+goes-on (got a o₁ r₁) y o bs f after e n g = g a
+goes-on (stop m at) NoAnswer o bs f after e n g = absurd (not-accepted (sym e))
+goes-on (stop m at) (FoundAt p) o bs f after e n g = absurd (not-accepted (sym e))
+goes-on (stop m at) (NotAnswered p) o bs f after e n g = ⊎-elim (λ t. absurd (omega arith)) (λ t. absurd (omega arith)) n
+
+with-row : (id : ℕ) (c : Content Part) (r : Outcome (Table (Content Part))) → verdict (judge (andThen r (λ more. return (row id c more)))) ≡ verdict (judge r)
+with-row id c (got t o bs) = refl
+with-row id c (stop n at) = refl
+
+-- whenever the loop is reached
+pub record Turn (kindOf : ℕ → Kind) (s : List ℕ) (c next : Cursor) (least : ℕ) : Type 0 where
+  pub most : ℕ
+  pub inside : Inside s next
+  pub enough : next .end - next .at ≤ most
+  pub same : verdict (judgeNames kindOf (c .at) (left s c)) ≡ verdict (judge (subsections kindOf most least (next .at) (left s next)))
+
+module _ {kindOf : ℕ → Kind} {s : List ℕ} {c : Cursor} where
+  pub turn-begins : Inside s c → Turn kindOf s c c 0
+  unfolding judgeNames payload
+  turn-begins i = record { most = length (left s c); inside = i; enough = omega (arith, length-slice (c .at) (c .end) s (i .within)); same = refl }
+
+  module _ {next : Cursor} {least : ℕ} {x : FrameRead} (t : Turn kindOf s c next least) (f : FrameReads frame least s next x) where
+    opened : verdict (judgeNames kindOf (c .at) (left s c)) ≡ verdict (judge (andThen (frame least (next .at) (left s next)) (onward kindOf (t .most - 1))))
+    opened = t .same ∙ ap (λ r. verdict (judge r)) (by-frame kindOf (t .most) least (next .at) (left s next) (omega (arith, t .enough, length-slice (next .at) (next .end) s (t .inside .within))))
+
+    pub turn-refused : {r : Refusal} → x ≡ NoFrame r → verdictOf (IsRefused r) ≡ verdict (judgeNames kindOf (c .at) (left s c))
+    turn-refused e = sym (opened ∙ rw (← rw e at (f .means)))
+
+    pub turn-ends : tagOf frame-type.the-type x ≡ 1 → verdictOf IsAccepted ≡ verdict (judgeNames kindOf (c .at) (left s c))
+    turn-ends h = sym (opened ∙ rw (← rw (as-end x h) at (f .means)))
+
+    module _ {id : ℕ} {part after : Cursor} {told : Bool} (e : x ≡ Frame id part after told) {kind : Kind} {y : Answer} (k : kind ≡ kindOf id) (v : Rules kind s part y) where
+      pub turn-bad : {r : Refusal} → y ≡ NotAnswered r → verdictOf (IsRefused r) ≡ verdict (judgeNames kindOf (c .at) (left s c))
+      turn-bad {r} q = stops (contents (kindOf id) (part .at) (left s part)) r (after .at) (left s after) (then kindOf (t .most - 1) id) (rw (q, k) at (v .says)) ∙ sym (opened ∙ rw (← rw e at (f .means)))
+
+  module _ {at end least : ℕ} {x : FrameRead} (t : Turn kindOf s c (record { at = at; end = end }) least) (f : FrameReads frame least s (record { at = at; end = end }) x) {id : ℕ} {part after : Cursor} {told : Bool} (e : x ≡ Frame id part after told) {kind : Kind} {y : Answer} (k : kind ≡ kindOf id) (v : Rules kind s part y) where
+    pub turn-next : (tagOf answer-type.the-type y ≡ 0) ⊎ (tagOf answer-type.the-type y ≡ 1) → Turn kindOf s c (record { at = after .at; end = end }) (id + 1)
+    turn-next n =
+        let far = forward f e in
+        let to-come = subsections kindOf (t .most - 1) (suc id) (after .at) (left s after) in
+        let on = goes-on (contents (kindOf id) (part .at) (left s part)) y (after .at) (left s after) (then kindOf (t .most - 1) id) to-come (rw k at (v .says)) n (λ content. with-row id content to-come) in
+        rw (← far .same-end, add-one) (record {
+          most = t .most - 1;
+          inside = far .in-rest;
+          enough = omega (arith, t .enough, far .moves, far .same-end, far .in-rest .ahead);
+          same = opened t f ∙ rw (← rw e at (f .means)) on;
+        })
+
+pub ruleset judge-turns = (turn-begins, turn-refused, turn-ends, turn-bad, turn-next, frame-inside, frame-onward, needs)
+
+-- all of what was lent
+pub judge-all : (kindOf : ℕ → Kind) (s : List ℕ) {c : Cursor} (v : Verdict) → c ≡ overAll s → verdictOf v ≡ verdict (judgeNames kindOf (c .at) (left s c)) → verdictOf v ≡ verdict (judgeNames kindOf 0 s)
+judge-all kindOf s v over e = rw (over, left-all s) at e
+
+pub ruleset judge-steps = (judge-all, over-inside, needs)
+
+-- Finding an id: whenever the loop is reached, it is not among those that were passed
+pub record Search (s : List ℕ) (c next : Cursor) (id : ℕ) : Type 0 where
+  pub inside : Inside s next
+  pub most : ℕ
+  pub least : ℕ
+  pub to-come : Table Part
+  pub behind : ℕ
+  pub rest : List ℕ
+  pub enough : next .end - next .at ≤ most
+  pub reads : frames most least (next .at) (left s next) ≡ got to-come behind rest
+  pub same : (f : Table Part) → judgeFrames (c .at) (left s c) ≡ accepted f → lookup id f ≡ lookup id to-come
 
 module _ {s : List ℕ} {c : Cursor} {id : ℕ} where
-  pub search-begins : Inside s c → Search s c c 0 id
-  search-begins i = record { most = length (left s c); inside = i; enough = omega (arith, length-slice (c .at) (c .end) s (i .within)); same = refl }
+  pub search-begins : KnownFrames s c → Search s c c id
+  unfolding judgeFrames
+  search-begins k =
+      judged (frames (length (left s c)) 0 (c .at) (left s c)) (k .known .judged) λ o rest e.
+      record {
+        inside = k .inside;
+        most = _;
+        least = _;
+        to-come = k .known .value;
+        behind = o;
+        rest = rest;
+        enough = omega (arith, length-slice (c .at) (c .end) s (k .inside .within));
+        reads = e;
+        same = λ f q. ap (lookup id) (accepted-is (sym q ∙ k .known .judged));
+      }
 
-  module _ {next : Cursor} {least : ℕ} {x : FrameRead} (t : Search s c next least id) (p : FrameReads frame least s next x) where
-    sought-on : partAt (λ p. p) id none (wholeFrames s c) ≡ andThen (frame least (next .at) (left s next)) (behind frame (λ p. p) id none (t .most - 1))
-    sought-on = t .same ∙ frame-turn id none (t .most) least (next .at) (left s next) (omega (arith, t .enough, length-slice (next .at) (next .end) s (t .inside .within)))
+  module _ {next : Cursor} (t : Search s c next id) where
+    pub search-ends : next .end ≤ next .at → Finds s (c .at) (left s c) id Absent
+    unfolding lookup
+    search-ends h =
+        let q : next .end ≡ next .at = omega (arith, t .inside .ahead) in
+        let nothing : left s next ≡ [] = rw (q, slice-empty) in
+        let none-left = no-frames (t .most) (t .least) (next .at) (rw nothing at (t .reads)) in
+        record { stands = λ f e. record { is = sym (t .same f e ∙ rw (← none-left) refl); inside = tt } }
 
-    pub search-refused : tagOf frame-type.the-type x ≡ 2 → Finds s (c .at) (left s c) id Absent
-    search-refused h = let (r, e) = as-refused x h in finds c Absent (λ f o rest e₁. absurd (not-got (sym (rw (e₁, ← rw e at (p .means)) at sought-on))))
+    module _ (h : next .at < next .end) where
+      -- the one that is next, and those behind it
+      front {ℓ} : {C : Type ℓ} → ((p : Part) (o₁ : ℕ) (r₁ : List ℕ) (more : Table Part) → sized (behindId next .at) (left s (behindId next)) ≡ got p o₁ r₁ → frames (t .most - 1) (suc (getD s (next .at) 0)) o₁ r₁ ≡ got more (t .behind) (t .rest) → row (getD s (next .at) 0) p more ≡ t .to-come → C) → C
+      front k =
+          let one : t .most ≡ suc (t .most - 1) = omega (arith, t .enough) in
+          let cut = slice-cons (next .at) (next .end) s 0 h (t .inside .within) in
+          let reads : frames (suc (t .most - 1)) (t .least) (next .at) (getD s (next .at) 0 ∷ left s (record { at = suc (next .at); end = next .end })) ≡ got (t .to-come) (t .behind) (t .rest) = rw (one, cut) at (t .reads) in
+          inFrames (t .most - 1) (t .least) (next .at) (getD s (next .at) 0) (left s (record { at = suc (next .at); end = next .end })) reads λ p o₁ r₁ more e₁ e₂ is.
+          k p o₁ r₁ more (rw add-one e₁) e₂ is
 
-    pub search-ends : tagOf frame-type.the-type x ≡ 1 → Finds s (c .at) (left s c) id Absent
-    search-ends h = finds c Absent (λ f o rest e₁. record { is = sym (got-value (rw (e₁, ← rw (as-end x h) at (p .means), same-option) at sought-on)); inside = tt })
+      pub search-frame : KnownFrame s next
+      search-frame =
+          let i : Inside s (behindId next) = record { ahead = omega arith; within = t .inside .within } in
+          front λ p o₁ r₁ more e₁ e₂ is.
+          record { inside = t .inside; ahead = h; contents = record { value = _; next = _; stands = stand sized-passes i e₁ } }
 
-    module _ {k : ℕ} {part after : Cursor} {told : Bool} (e : x ≡ Frame k part after told) where
-      passed-by : partAt (λ p. p) id none (wholeFrames s c) ≡ partAt (λ p. p) id (holding id none k (partOf s part)) (frames (t .most - 1) (suc k) (after .at) (left s after))
-      unfolding frames
-      passed-by = sought-on ∙ rw (← rw e at (p .means))
+      module _ {r : Framed} (w : FrameStands s next r) where
+        pub search-here : r .id ≡ id → Finds s (c .at) (left s c) id (At (r .part))
+        unfolding lookup
+        search-here q =
+            front λ p o₁ r₁ more e₁ e₂ is.
+            let part-is = got-value (sym e₁ ∙ w .contents .stands .reads) in
+            record { stands = λ f e. record { is = sym (t .same f e ∙ rw (← is, ← w .id-is, eq-eqb id (r .id) (sym q), part-is)); inside = w .contents .in-part } }
 
-      pub search-here : k ≡ id → Finds s (c .at) (left s c) id (At part)
-      search-here q =
-          finds c (At part) (λ f o rest e₁.
-          inTurn (frames (t .most - 1) (suc k) (after .at) (left s after)) _ (sym (rw (e₁, same-option, eq-eqb id k (sym q)) at passed-by)) λ more o₂ r₂ e₂ e₃.
-          record { is = got-value e₃; inside = forward p e .in-part })
+        pub search-less : r .next .end - r .next .at < next .end - next .at
+        search-less = let b = w .contents .stands in omega (arith, sized-codec .sound (behindId next .at) (left s (behindId next)) (b .reads) .shorter, length-slice (behindId next .at) (behindId next .end) s (b .inside .within), length-slice (r .next .at) (r .next .end) s (b .behind .within), b .same-end, b .behind .ahead, h)
 
-      pub search-next : (k ≡ id → ⊥) → Search s c after (k + 1) id
-      search-next n =
-          let far = forward p e in
-          record {
-            most = t .most - 1;
-            inside = far .in-rest;
-            enough = omega (arith, t .enough, far .moves, far .same-end, far .in-rest .ahead);
-            same = passed-by ∙ rw (ne-eqb id k (λ q. n (sym q)), add-one);
-          }
+        pub search-next : (r .id ≡ id → ⊥) → Search s c (r .next) id
+        unfolding lookup
+        search-next n =
+            front λ p o₁ r₁ more e₁ e₂ is.
+            let there = sym e₁ ∙ w .contents .stands .reads in
+            record {
+              inside = w .contents .stands .behind;
+              most = t .most - 1;
+              least = suc (getD s (next .at) 0);
+              to-come = more;
+              behind = t .behind;
+              rest = t .rest;
+              enough = omega (arith, t .enough, search-less);
+              reads = rw (got-next there, got-rest there) at e₂;
+              same = λ f e. t .same f e ∙ rw (← is, ← w .id-is, ne-eqb id (r .id) (λ q. n (sym q)));
+            }
 
-pub ruleset find-turns = (search-begins, search-refused, search-ends, search-here, search-next, frame-shorter, needs)
+pub ruleset find-turns = (search-begins, search-ends, search-frame, search-here, search-next, search-less, needs)

@@ -13,12 +13,14 @@ use Rattle.format.specs.Laws.Options.{not-some, some-is}
 use Rattle.format.specs.Laws.Refusals.{same-judgement, same-stop}
 use Rattle.reading.specs.declared.Cursor.{Cursor}
 use Rattle.reading.proofs.Same.{same-cursor, same-part}
+use Rattle.reading.proofs.Standing.{part-here-same}
 use Rattle.names.specs.Contents.{kindMeant}
-use Rattle.names.specs.Frames.{Headed, FrameReads}
-use Rattle.names.specs.Places.{subOf, subInside, Stands, Puts}
+use Rattle.names.specs.Frames.{Headed, FrameReads, FrameStands}
+use Rattle.names.specs.Places.{subOf, subInside, Stands}
 use Rattle.names.specs.declared.kinds.Kind.{Kind}
 use Rattle.names.specs.declared.kinds.Kind.the-variants.{OneName, NameMap, IndirectMap, Kept}
 use Rattle.names.specs.declared.frames.FrameRead.{FrameRead}
+use Rattle.names.specs.declared.frames.Framed.{Framed}
 use Rattle.names.specs.declared.frames.FrameRead.the-variants.{Frame, End, Refused as NoFrame}
 use Rattle.tables.specs.declared.Held.{Held}
 use Rattle.tables.specs.declared.Held.the-variants.{Nothing as Absent, Part as At}
@@ -33,8 +35,11 @@ same-sub s (At c) (At d) i j e = ap At (same-part c d i j (some-is e))
 pub stands-same : {s : List ℕ} {found : Option Part} (a b : Held) → Stands s a found → Stands s b found → a ≡ b
 stands-same {s} a b i j = same-sub s a b (i .inside) (j .inside) (i .is ∙ sym (j .is))
 
-pub put-same : {kindOf : ℕ → AnyKind} {p : List ℕ} {id : ℕ} {part : Cursor} (a b : List ℕ) → Puts kindOf p id part a → Puts kindOf p id part b → a ≡ b
-put-same a b p q = p .says ∙ sym (q .says)
+pub framed-same : {s : List ℕ} {c : Cursor} (a b : Framed) → FrameStands s c a → FrameStands s c b → a ≡ b
+framed-same a b p q =
+    let pieces = part-here-same (record { part = a .part; next = a .next }) (record { part = b .part; next = b .next }) (p .contents) (q .contents) in
+    let ids = p .id-is ∙ sym (q .id-is) in
+    λ i. record { id = ids i; part = pieces i .part; next = pieces i .next }
 
 -- the kind that is meant, as the code has it
 kindOf : AnyKind → Kind

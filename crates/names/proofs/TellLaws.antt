@@ -43,8 +43,8 @@ use Rattle.names.specs.declared.frames.FrameRead.the-variants.{Frame}
 use Rattle.names.specs.declared.kinds.Kind.{Kind}
 use Rattle.names.specs.declared.kinds.Kind.the-variants.{OneName, NameMap, IndirectMap, Kept}
 use Rattle.names.proofs.frames.FrameRead as frame-type
-use Rattle.names.proofs.FrameSteps.{as-end, frame-inside}
-use Rattle.names.proofs.JudgeLaws.{as-refused, forward, frame-shorter}
+use Rattle.names.proofs.FrameSteps.{as-end}
+use Rattle.names.proofs.JudgeLaws.{as-refused, forward, frame-inside, frame-shorter}
 
 -- One name
 module _ {s : List ℕ} {c : Cursor} {x : PartRead} (n : PartReads name s c x) where

@@ -4,17 +4,19 @@ use mathlib.Core.List.{List, [], _∷_}
 use mathlib.Core.Option.{Option, none, some}
 use mathlib.Core.Path.{_≡_}
 use lib.Dec.{leb}
-use lib.ListN.{length}
+use lib.ListN.{length, getD}
 use Rattle.format.specs.Reading.{Outcome, got, Reader, andThen, _>>=_, _>>_, return, checked, Judged, accepted, judge, mapJudged}
-use Rattle.format.specs.Parts.{Part, sized, inside}
+use Rattle.format.specs.Parts.{Part, sized}
 use Rattle.format.specs.Tables.{Table, nil, row}
 use Rattle.format.specs.Names.{Kind, Content, contents}
 use Rattle.format.specs.declared.Reason.the-variants.{SubsectionOrder}
 use Rattle.format.specs.Canonical.{writePart}
 use Rattle.format.specs.Telling.{asFew}
 use Rattle.reading.specs.Cursors.{Inside, left, partOf, refusalOf}
+use Rattle.reading.specs.Standing.{Known, TakesPart}
 use Rattle.reading.specs.declared.Cursor.{Cursor}
 use Rattle.names.specs.declared.frames.FrameRead.{FrameRead}
+use Rattle.names.specs.declared.frames.Framed.{Framed}
 use Rattle.names.specs.declared.frames.FrameRead.the-variants.{Frame, End, Refused}
 
 -- an id, and what stands under it
@@ -52,14 +54,6 @@ abbrev pub readUnder : Kind → Option Part → Judged (Option (Content Part))
 readUnder kind none = accepted none
 readUnder kind (some p) = mapJudged some (judge (contents kind (p .at) (p .bytes)))
 
--- a subsection with its contents judged
-abbrev pub looked : (ℕ → Kind) → Option (Headed Part) → Reader (Option (Headed Part))
-looked kindOf none = return none
-looked kindOf (some h) = inside (contents (kindOf (h .id))) (h .value) >> return (some h)
-
-unfoldable pub subsection : (ℕ → Kind) → ℕ → Reader (Option (Headed Part))
-subsection kindOf least = frame least >>= looked kindOf
-
 -- What reading one finds
 abbrev pub frameOutcome : List ℕ → Cursor → FrameRead → Outcome (Option (Headed Part))
 frameOutcome s c (Frame id part next shortest) = got (some (record { id = id; value = partOf s part })) (next .at) (left s next)
@@ -94,3 +88,13 @@ pub record FrameReads (read : ℕ → Reader (Option (Headed Part))) (least : �
   pub means : frameOutcome s c r ≡ read least (c .at) (left s c)
   pub forward : frameForward least s c r
   pub tells : frameTold s c r
+
+-- One that was accepted: the id stands here, and its size and contents behind
+pub record KnownFrame (s : List ℕ) (c : Cursor) : Type 0 where
+  pub inside : Inside s c
+  pub ahead : c .at < c .end
+  pub contents : Known sized s (behindId c)
+
+pub record FrameStands (s : List ℕ) (c : Cursor) (r : Framed) : Type 0 where
+  pub id-is : r .id ≡ getD s (c .at) 0
+  pub contents : TakesPart s (behindId c) (record { part = r .part; next = r .next })

@@ -1,21 +1,15 @@
--- The places of the known subsections, and what a judgement says. Assumes nothing.
-use Prim.Native.Nat.{ℕ, _+_}
-use mathlib.Core.Bool.{cond}
+-- Where a subsection of an accepted payload lies, and what its contents answer. Assumes nothing.
+use Prim.Native.Nat.{ℕ}
 use mathlib.Core.List.{List}
 use mathlib.Core.Option.{Option, none, some}
 use mathlib.Core.Path.{_≡_}
-use lib.Dec.{eqb, ltb}
-use lib.ListN.{getD, set, replicate}
-use Rattle.format.specs.Refusals.{numberOf}
-use Rattle.format.specs.Reading.{accepted, refused, judge, Accepted as AcceptedBy}
+use Rattle.format.specs.Reading.{accepted, judge, Accepted as AcceptedBy}
 use Rattle.format.specs.Parts.{Part}
 use Rattle.format.specs.Tables.{Table, lookup}
-use Rattle.format.specs.Names.{Kind, oneName, nameMap, indirectMap, kept, Content, contents, judgeNames}
+use Rattle.format.specs.Names.{Kind, contents, judgeNames}
 use Rattle.format.specs.Questions.{answered, asPlace}
 use Rattle.format.specs.declared.Query.{Query}
 use Rattle.format.specs.declared.Answer.{Answer}
-use Rattle.format.specs.declared.Verdict.{Verdict}
-use Rattle.format.specs.declared.Verdict.the-variants.{Accepted, Refused}
 use Rattle.reading.specs.Cursors.{Inside, left, partOf}
 use Rattle.reading.specs.declared.Cursor.{Cursor}
 use Rattle.names.specs.Contents.{asksIn}
@@ -36,46 +30,14 @@ pub record Stands (s : List ℕ) (sub : Held) (found : Option Part) : Type 0 whe
   pub is : subOf s sub ≡ found
   pub inside : subInside s sub
 
--- The record of where subsections lie: of each of the twelve ids where its contents begin, and twelve further on where they end; 0 where there are none
-abbrev pub heldFrom : (at end : ℕ) → Held
-heldFrom at end = cond (eqb at 0) Absent (At (record { at = at; end = end }))
+-- a payload that was accepted, and one whose subsections were, whatever they hold
+pub record KnownNames (kindOf : ℕ → Kind) (s : List ℕ) (c : Cursor) : Type 0 where
+  pub inside : Inside s c
+  pub known : AcceptedBy (judgeNames kindOf (c .at)) (left s c)
 
-unfoldable pub placedAt : List ℕ → ℕ → Held
-placedAt places id = cond (ltb id 12) (heldFrom (getD places id 0) (getD places (12 + id) 0)) Absent
-
-abbrev pub nowhere : List ℕ
-nowhere = replicate 24 0
-
--- an id that is kept has no place
-abbrev pub unlessKept : {A : Type 0} → Kind → A → A → A
-unlessKept oneName x otherwise = x
-unlessKept nameMap x otherwise = x
-unlessKept indirectMap x otherwise = x
-unlessKept kept x otherwise = otherwise
-
--- Everything from here on is said over a table of ids
-module _ (kindOf : ℕ → Kind) where
-  pub record Puts (p : List ℕ) (id : ℕ) (part : Cursor) (r : List ℕ) : Type 0 where
-    pub says : r ≡ unlessKept (kindOf id) (set (set p id (part .at)) (12 + id) (part .end)) p
-
-  -- each place is where its id is
-  abbrev pub AllStand : List ℕ → List ℕ → Table Part → Type 0
-  AllStand s p f = (id : ℕ) → Stands s (placedAt p id) (unlessKept (kindOf id) (lookup id f) none)
-
-  -- What a judgement says of the payload that begins at an offset of what was lent
-  pub record Accepts (s : List ℕ) (at : ℕ) (bs p : List ℕ) : Type 0 where
-    pub held : Table (Content Part)
-    pub lying : Table Part
-    pub judged : judgeNames kindOf at bs ≡ accepted held
-    pub framed : judgeFrames at bs ≡ accepted lying
-    pub all-stand : AllStand s p lying
-
-  abbrev pub judgesTo : List ℕ → ℕ → List ℕ → Verdict → List ℕ → Type 0
-  judgesTo s at bs Accepted p = Accepts s at bs p
-  judgesTo s at bs (Refused r) p = judgeNames kindOf at bs ≡ refused (numberOf (r .reason)) (r .offset .0)
-
-  pub record Judges (s : List ℕ) (at : ℕ) (bs : List ℕ) (r : Verdict) (p : List ℕ) : Type 0 where
-    pub says : judgesTo s at bs r p
+pub record KnownFrames (s : List ℕ) (c : Cursor) : Type 0 where
+  pub inside : Inside s c
+  pub known : AcceptedBy (judgeFrames (c .at)) (left s c)
 
 -- where an id lies in an accepted payload
 pub record Finds (s : List ℕ) (at : ℕ) (bs : List ℕ) (id : ℕ) (r : Held) : Type 0 where

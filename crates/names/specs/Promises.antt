@@ -16,9 +16,10 @@ use Rattle.format.specs.declared.Query.the-variants.{ItsName, ItsContents, Name
 use Rattle.format.specs.declared.Answer.{Answer}
 use Rattle.format.specs.declared.Verdict.{Verdict}
 use Rattle.names.specs.Contents.{kindMeant, Asks, Rules}
-use Rattle.names.specs.Frames.{frame, subsection, FrameReads}
-use Rattle.names.specs.Places.{Puts, placedAt, AsksAt, Finds}
+use Rattle.names.specs.Frames.{frame, FrameReads, FrameStands}
+use Rattle.names.specs.Places.{AsksAt, Finds}
 use Rattle.names.specs.declared.frames.FrameRead.{FrameRead}
+use Rattle.names.specs.declared.frames.Framed.{Framed}
 use Rattle.names.specs.declared.kinds.Kind.{Kind}
 use Rattle.tables.specs.Telling.{Tells}
 use Rattle.tables.specs.declared.Held.{Held}
@@ -57,8 +58,8 @@ names-content s part kind r = Rules (kindMeant kind) s part r
 abbrev pub names-frame : (s : List ℕ) (c : Cursor) (least : ℕ) → FrameRead → Type 0
 names-frame s c least r = FrameReads frame least s c r
 
-abbrev pub names-subsection : (s : List ℕ) (c : Cursor) (edition : Edition) (least : ℕ) → FrameRead → Type 0
-names-subsection s c edition least r = FrameReads (subsection (kindIn edition)) least s c r
+abbrev pub names-frame-here : (s : List ℕ) (c : Cursor) → Framed → Type 0
+names-frame-here s c r = FrameStands s c r
 
 -- names::judging
 abbrev pub names-judge : (p : List ℕ) (edition : Edition) → Verdict → Type 0
@@ -70,13 +71,6 @@ names-find s c id r = Finds s (c .at) (left s c) id r
 -- names::kinds
 abbrev pub names-kind-of : (edition : Edition) (id : ℕ) → Kind → Type 0
 names-kind-of edition id r = kindMeant r ≡ kindIn edition id
-
--- names::places
-abbrev pub names-put-place : (old : List ℕ) (edition : Edition) (id : ℕ) (part : Cursor) → List ℕ → Type 0
-names-put-place old edition id part new = Puts (kindIn edition) old id part new
-
-abbrev pub names-place-of : (places : List ℕ) (id : ℕ) → Held → Type 0
-names-place-of places id r = r ≡ placedAt places id
 
 -- names::telling
 abbrev pub names-tidy-name : (s : List ℕ) (part : Cursor) → Tidy → Type 0

@@ -1,28 +1,32 @@
 // What the contents at a place answer.
-ghost use Rattle.format.specs.Names.{nameMap, indirectMap};
+ghost use Rattle.format.specs.Names.{oneName, nameMap, indirectMap};
 ghost use Rattle.names.specs.Places.{subInside, KnownAt};
 ghost use Rattle.names.specs.Promises.{names-the-name, names-named, names-named-within, names-all-kept};
-use crate::contents::one_name;
 use format::Answer;
 use format::Offset;
 use format::Place;
+use reading::again::part_here;
 use tables::Held;
 use tables::finding::answer_of;
 use tables::finding::find_group;
 use tables::finding::find_row;
 
-// The one name there.
+// The one name there. It was accepted, so its text is not looked at again.
 pub fn the_name(s: &[u8], place: Held) -> Answer
-    requires { ⌜ subInside (now s) place ⌝ }
+    requires { ⌜ KnownAt oneName (now s) place ⌝ }
     ensures { λ r. ⌜ names-the-name (now (s .entry)) place r ⌝ }
 {
     match place {
         Held::Nothing => Answer::None,
-        Held::Part(part) => one_name(s, part),
+        Held::Part(part) => {
+            let name = part_here(part, s);
+            let text = name.part;
+            answer_of(Held::Part(text))
+        }
     }
 }
 
-// The name at `key` of the name map there. It was accepted, so its text is not looked at again, and nothing behind the key.
+// The name at `key` of the name map there, likewise, and nothing behind the key.
 pub fn named(s: &[u8], place: Held, key: u32) -> Answer
     requires { ⌜ KnownAt nameMap (now s) place ⌝ }
     ensures { λ r. ⌜ names-named (now (s .entry)) place key r ⌝ }

@@ -1,15 +1,13 @@
 // From subsection to subsection.
 ghost use Rattle.reading.specs.Cursors.{Inside};
-ghost use Rattle.names.specs.Promises.{names-frame, names-subsection};
-use crate::contents::content;
-use crate::kinds::kind_of;
-use format::Answer;
-use format::Edition;
+ghost use Rattle.names.specs.Frames.{KnownFrame};
+ghost use Rattle.names.specs.Promises.{names-frame, names-frame-here};
 use format::Offset;
 use format::Reason;
 use format::Refusal;
 use reading::Cursor;
 use reading::PartRead;
+use reading::again::part_here;
 use reading::wide;
 
 // What reading a subsection finds: its id, where its contents lie, the cursor behind it, and whether its size took its
@@ -44,17 +42,24 @@ pub fn frame(s: &[u8], c: Cursor, least: u32) -> FrameRead
     }
 }
 
-// The same, with its contents judged by its id.
-pub fn subsection(s: &[u8], c: Cursor, edition: Edition, least: u32) -> FrameRead
-    requires { ⌜ Inside (now s) c ⌝ }
-    ensures { λ r. ⌜ names-subsection (now (s .entry)) c edition least r ⌝ }
+// A subsection of an accepted payload: its id, where its contents lie, and the cursor behind it.
+pub struct Framed {
+    pub id: u8,
+    pub part: Cursor,
+    pub next: Cursor,
+}
+
+// The subsection that begins here: it was accepted, so nothing of it is tested again.
+pub fn frame_here(s: &[u8], c: Cursor) -> Framed
+    requires { ⌜ KnownFrame (now s) c ⌝ }
+    ensures { λ r. ⌜ names-frame-here (now (s .entry)) c r ⌝ }
 {
-    match frame(s, c, least) {
-        FrameRead::Refused(r) => FrameRead::Refused(r),
-        FrameRead::End => FrameRead::End,
-        FrameRead::Frame(id, part, next, shortest) => match content(s, part, kind_of(edition, id)) {
-            Answer::Refused(r) => FrameRead::Refused(r),
-            _ => FrameRead::Frame(id, part, next, shortest),
-        },
-    }
+    let at = c.at;
+    let end = c.end;
+    let id = s[at];
+    let rest = Cursor { at: at + 1, end };
+    let contents = part_here(rest, s);
+    let part = contents.part;
+    let next = contents.next;
+    Framed { id, part, next }
 }

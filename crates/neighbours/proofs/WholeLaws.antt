@@ -29,7 +29,7 @@ use Rattle.tables.specs.declared.Held.the-variants.{Part as At}
 use Rattle.tables.proofs.Held as held-type
 use Rattle.names.specs.Frames.{judgeFrames, readUnder}
 use Rattle.names.specs.Places.{subOf, Stands, Finds}
-use Rattle.names.proofs.AskLaws.{as-absent}
+use Rattle.names.proofs.AskLaws.{as-absent, all-framed}
 use Rattle.names.proofs.ContentLaws.{Lax, map-stands, indirect-stands}
 use Rattle.names.proofs.FrameLaws.{subsections-lie}
 use Rattle.neighbours.specs.Maps.{whyMeant, SaysInMap, SaysInGroup}
@@ -127,4 +127,4 @@ module _ (p : List ℕ) (v : Verdict) (says : verdictOf v ≡ verdict (judgeName
             let same : says .value ≡ l .value = one-value (says .stands) (l .stands) in
             rw (holds .judged, r .held, ← l .is, ← same) (says .says)
 
-pub ruleset whole = (function-refused, local-refused, no-functions, no-locals, functions-known, locals-known, function-said, local-said, over-inside, needs)
+pub ruleset whole = (function-refused, local-refused, no-functions, no-locals, functions-known, locals-known, function-said, local-said, all-framed, over-inside, needs)

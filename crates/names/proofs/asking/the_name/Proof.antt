@@ -1,21 +1,26 @@
-use Rattle.names.proofs.AskLaws.{place-steps}
+use Rattle.names.proofs.AskLaws.{map-steps}
 use Rattle.names.proofs.asking.the_name.Statement.{statement}
 use Rattle.names.proofs.asking.the_name.Tie as tie
 
 enum-told : tie.Need-enum-told
-enum-told c = search place-steps
+enum-told c = search map-steps
 
 enum-known-place : tie.Need-enum-known-place
-enum-known-place c = search place-steps
+enum-known-place c = search map-steps
 
-one-name-requires : tie.Need-one-name-requires
-one-name-requires c κs = search place-steps
+part-here-requires : tie.Need-part-here-requires
+part-here-requires c κs = search map-steps
+
+answer-of-requires : tie.Need-answer-of-requires
+answer-of-requires c κs = search map-steps
 
 returns : tie.Need-returns
-returns c = search place-steps
+returns c = search map-steps
 
 returns-2 : tie.Need-returns-2
-returns-2 c = search place-steps
+returns-2 c = search map-steps
 
 pub the-name-spec : {M : Type 1} → statement M
-the-name-spec = tie.close (tie.spec enum-told enum-known-place one-name-requires returns returns-2)
+the-name-spec =
+    tie.close
+    (tie.spec enum-told enum-known-place part-here-requires answer-of-requires returns returns-2)

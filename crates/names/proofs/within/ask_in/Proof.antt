@@ -1,4 +1,4 @@
-use Rattle.names.proofs.AskLaws.{accepts, questions}
+use Rattle.names.proofs.AskLaws.{questions}
 use Rattle.names.proofs.within.ask_in.Statement.{statement}
 use Rattle.names.proofs.within.ask_in.Tie as tie
 
@@ -18,10 +18,7 @@ returns : tie.Need-returns
 returns c = search questions
 
 answer-requires : tie.Need-answer-requires
-answer-requires c κs =
-    let judges = c .before .before .before .judge-in .ensures in
-    let is-accepted = accepts _ judges (c .before .before .match .keys1) in
-    (search questions, is-accepted)
+answer-requires c κs = search questions
 
 returns-2 : tie.Need-returns-2
 returns-2 c = search questions
