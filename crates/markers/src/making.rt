@@ -81,10 +81,11 @@ pub fn make(p: &[u8], indices: &mut [u32], offsets: &mut [u32]) -> Answer
     let Verdict::Accepted = verdict else {
         return Answer::Refused(refusal_of(verdict));
     };
+    let place = find(p, Cursor::over(p), FUNCTION_NAMES);
     if TOO_LONG <= p.len() {
         return refused(Reason::SubsectionTooLarge, 0);
     }
-    match find(p, Cursor::over(p), FUNCTION_NAMES) {
+    match place {
         Held::Nothing => Answer::Found(Place {
             offset: Offset(0),
             length: 0,

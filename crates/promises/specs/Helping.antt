@@ -1,11 +1,11 @@
 -- Wrong programs in the place of the public functions that the calls stand on: one that gives the same whatever it is given, one that never refuses, one that always does. Each promise rules them out.
-use Prim.Native.Nat.{ℕ, _+_}
+use Prim.Native.Nat.{ℕ}
 use mathlib.Core.Bool.{Bool, true, false, cond, _||_}
 use mathlib.Core.List.{List, [], _∷_}
 use mathlib.Core.Option.{some}
 use mathlib.Core.Path.{_≡_, refl, ap}
 use lib.Dec.{eqb, ltb}
-use lib.ListN.{length, getD, set}
+use lib.ListN.{length}
 use Rattle.format.specs.Names.{Kind, oneName, nameMap, indirectMap, kept, known, knownKind, wider, widerKind, kindIn}
 use Rattle.format.specs.Numbers.{fewest, shortest}
 use Rattle.format.specs.Questions.{idOf}
@@ -16,7 +16,6 @@ use Rattle.format.specs.Tables.{lookup}
 use Rattle.format.specs.Walk.{greatestId, isCustom, isData, rank, nameRow, isRow, idRules, nameRules}
 use Rattle.format.specs.declared.Reason.the-variants.{NoPreamble, PastItsPart}
 use Rattle.names.specs.Contents.{kindMeant}
-use Rattle.names.specs.Places.{placedAt, nowhere, unlessKept, Puts}
 use Rattle.format.specs.Verdicts.{refusalIn}
 use Rattle.format.specs.declared.Verdict.{Verdict}
 use Rattle.format.specs.declared.Verdict.the-variants.{Accepted, Refused}
@@ -25,8 +24,6 @@ use Rattle.format.specs.declared.Edition.the-variants.{First, Wider}
 use Rattle.tables.specs.Telling.{isFilled}
 use Rattle.tables.specs.declared.telling.Tidy.{Tidy}
 use Rattle.tables.specs.declared.telling.Tidy.the-variants.{Behind}
-use Rattle.tables.specs.declared.Held.{Held}
-use Rattle.tables.specs.declared.Held.the-variants.{Nothing as Absent, Part as At}
 use Rattle.reading.specs.Cursors.{overAll}
 use Rattle.sorting.specs.Order.{code}
 use Rattle.reading.specs.declared.Cursor.{Cursor}
@@ -82,27 +79,10 @@ pub one-table : (kind : Kind) → RuledOut (λ (edition : Edition) r. kindMeant 
 unfolding known knownKind wider widerKind lookup
 one-table kind = by-two-inputs {says = kindMeant} (λ edition r meets. meets) (λ k. some k) isKept First Wider refl refl refl refl kind
 
--- names: no place is ever put, or the module's name is put whatever the id
+-- tables: always filled, or never
 abbrev front : Cursor
 front = record { at = 2; end = 3 }
 
-put-told : Tells (λ (x : List ℕ × ℕ × Cursor) r. Puts knownKind (x .0) (x .1) (x .2) r) (λ r. getD r 0 0) (λ x. getD (unlessKept (knownKind (x .1)) (set (set (x .0) (x .1) (x .2 .at)) (12 + x .1) (x .2 .end)) (x .0)) 0 0)
-put-told x r meets = ap (λ places. getD places 0 0) (meets .says)
-
-pub put-place : (begins : ℕ) → RuledOut (λ (x : List ℕ × ℕ × Cursor) r. Puts knownKind (x .0) (x .1) (x .2) r) (λ _ r. getD r 0 0 ≡ begins)
-unfolding knownKind known lookup
-put-place begins = by-two-inputs put-told (λ n. some n) (eqb 2) (nowhere, 0, front) (nowhere, 1, front) refl refl refl refl begins
-
-abbrev isAt : Held → Bool
-isAt Absent = false
-isAt (At c) = true
-
--- names: one place for every id
-pub place-of : (place : Held) → RuledOut (λ (x : List ℕ × ℕ) r. r ≡ placedAt (x .0) (x .1)) (λ _ r. r ≡ place)
-unfolding placedAt
-place-of place = by-two-inputs {says = λ r. r} (λ x r meets. meets) (λ r. some r) isAt (set (set nowhere 0 2) 12 3, 0) (nowhere, 0) {k = At front} {l = Absent} refl refl refl refl place
-
--- tables: always filled, or never
 pub is-filled : (wrong : Bool) → RuledOut (λ (read : Tidy) r. r ≡ isFilled read) (λ _ r. r ≡ wrong)
 is-filled wrong = by-two-inputs {says = λ r. r} (λ read r meets. meets) (λ b. some b) (λ b. b) (Behind (record { at = 1; end = 1 })) (Behind front) refl refl refl refl wrong
 

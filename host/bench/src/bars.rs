@@ -7,7 +7,7 @@ use crate::operation::{Operation, Who};
 use crate::pairs;
 use crate::payload::Kind;
 use crate::shared::{self, Looked};
-use crate::table::{executed, payloads_of, Row};
+use crate::table::{executed, payloads_of, shorter_payloads_of, Row};
 
 /// What an operation is held to.
 #[derive(Clone, Copy)]
@@ -189,12 +189,62 @@ fn of_walk(payload: &str) -> Bar<'_> {
     }
 }
 
+/// A payload of fewer bytes is short.
+const SHORT: u64 = 200;
+
+/// How a short payload of names or of hints is judged and asked.
+const OF_SHORT: [Operation; 16] = [
+    Operation::Judge,
+    Operation::Tell,
+    Operation::LookUp,
+    Operation::Markers,
+    Operation::Why,
+    Operation::ListFunctions,
+    Operation::ListLocals,
+    Operation::WideJudge,
+    Operation::WideTell,
+    Operation::WideLookUp,
+    Operation::WideListGlobals,
+    Operation::JudgeHints,
+    Operation::TellHints,
+    Operation::LookHintUp,
+    Operation::ListHints,
+    Operation::ListMetadata,
+];
+
+/// Two of a few bytes, whose name is looked up a second time once they are judged: one has a single entry, and in the other
+/// every number takes its most bytes. The second reader looks for it while it judges.
+const LOOKED_UP_AGAIN: [&str; 2] = [
+    "fixture:by-hand-hints-before-code",
+    "fixture:by-hand-padded-numbers",
+];
+
+/// A short payload: a tenth more than the second reader, and two tenths where a name is looked up in one of those two.
+fn of_short(payload: &str, operation: Operation) -> Bar<'_> {
+    let is_dearer = operation == Operation::LookUp && LOOKED_UP_AGAIN.contains(&payload);
+    let times = if is_dearer { 1.2 } else { 1.1 };
+    Bar {
+        payload,
+        operation,
+        most: Most::TimesSecondReader(times),
+    }
+}
+
+/// The bars of all short payloads that were counted.
+fn of_all_short(rows: &[Row]) -> impl Iterator<Item = Bar<'_>> {
+    OF_SHORT.into_iter().flat_map(move |operation| {
+        let short = shorter_payloads_of(rows, operation, SHORT);
+        short.map(move |payload| of_short(payload, operation))
+    })
+}
+
 /// A line for each bar, or a sentence on those that are broken.
 pub fn lines(rows: &[Row]) -> Result<String, String> {
     let mut kept = String::new();
     let mut broken = String::new();
     let mut all: Vec<Bar<'_>> = bars().collect::<Vec<_>>();
     all.extend(payloads_of(rows, Operation::Walk).map(of_walk));
+    all.extend(of_all_short(rows));
     for bar in all {
         let (is_kept, line) = held(rows, &bar)?;
         match is_kept {
@@ -291,9 +341,14 @@ mod tests {
         table::rows(&counts).expect("rows")
     }
 
-    /// A run that measures one operation. The second reader takes what judging takes, whatever it is.
+    /// A run that measures one operation on a payload that is not short. The second reader takes what judging takes,
+    /// whatever it is.
     fn run(payload: &str, operation: Operation, by_library: u64) -> String {
-        let mut counts = format!("payload\t{payload}\t1\n");
+        run_over(SHORT, payload, operation, by_library)
+    }
+
+    fn run_over(bytes: u64, payload: &str, operation: Operation, by_library: u64) -> String {
+        let mut counts = format!("payload\t{payload}\t{bytes}\n");
         for who in Who::BOTH {
             let number = region(operation, who);
             let sum = match who {
@@ -353,6 +408,32 @@ mod tests {
         let said = lines(&rows).expect_err("one is broken");
         let line = "go: 'walk' takes 1.001 times what the second reader takes, at most 1 is the bar, so speed it up.\n";
         assert_eq!(said, line);
+    }
+
+    /// The rows that reach every bar, and one of a short payload.
+    fn with_short(payload: &str, operation: Operation, by_library: u64) -> Vec<Row> {
+        let short = run_over(SHORT - 1, payload, operation, by_library);
+        let all = rows("go", Operation::Walk, 0).into_iter();
+        all.chain(table::rows(&short).expect("a row")).collect()
+    }
+
+    #[test]
+    fn so_is_one_of_a_short_payload() {
+        let asked = with_short("fixture:go-names", Operation::LookUp, 1_101);
+        let line = "fixture:go-names: 'judge, look last function up' takes 1.101 times what the second reader takes, at most 1.1 is the bar, so speed it up.\n";
+        assert_eq!(lines(&asked).expect_err("one is broken"), line);
+        let judged = with_short("fixture:by-hand-padded-numbers", Operation::Judge, 1_101);
+        assert!(lines(&judged).is_err());
+    }
+
+    #[test]
+    fn two_short_payloads_have_a_bar_of_their_own() {
+        for payload in LOOKED_UP_AGAIN {
+            let near = with_short(payload, Operation::LookUp, 1_200);
+            assert!(lines(&near).is_ok());
+            let beyond = with_short(payload, Operation::LookUp, 1_201);
+            assert!(lines(&beyond).is_err());
+        }
     }
 
     #[test]

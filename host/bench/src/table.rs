@@ -42,6 +42,16 @@ pub fn payloads_of(rows: &[Row], operation: Operation) -> impl Iterator<Item = &
     rows.iter().filter(wanted).map(|row| row.payload.as_str())
 }
 
+/// Those of them that have fewer bytes than so many.
+pub fn shorter_payloads_of(
+    rows: &[Row],
+    operation: Operation,
+    bytes: u64,
+) -> impl Iterator<Item = &str> {
+    let wanted = move |row: &&Row| row.operation == operation.words() && row.bytes < bytes;
+    rows.iter().filter(wanted).map(|row| row.payload.as_str())
+}
+
 /// The rows of a file that has, for each run, its mapping and the plugin's counts.
 pub fn rows(counts: &str) -> Result<Vec<Row>, String> {
     let lines: Vec<&str> = counts.lines().collect();

@@ -11,12 +11,12 @@ use Rattle.format.specs.Reading.{verdict, accepted}
 use Rattle.format.specs.Tables.{Table}
 use Rattle.format.specs.declared.Answer.{Answer}
 use Rattle.tables.proofs.Same.{tells-same}
-use Rattle.names.proofs.Same.{kind-same, frame-same, put-same, stands-same}
+use Rattle.names.proofs.Same.{kind-same, frame-same, framed-same, stands-same}
 use Rattle.names.specs.Frames.{judgeFrames}
 use Rattle.names.specs.declared.kinds.Kind.{Kind}
 use Rattle.reading.specs.Cursors.{left}
 use Rattle.reading.specs.declared.Cursor.{Cursor}
-use Rattle.names.specs.Promises.{names-ask, names-ask-bytes, names-the-name, names-named, names-named-within, names-all-kept, names-one-name, names-content, names-frame, names-subsection, names-judge, names-find, names-kind-of, names-put-place, names-place-of, names-tidy-name, names-is-canonical, names-is-canonical-widely, names-ask-in}
+use Rattle.names.specs.Promises.{names-ask, names-ask-bytes, names-the-name, names-named, names-named-within, names-all-kept, names-one-name, names-content, names-frame, names-frame-here, names-judge, names-find, names-kind-of, names-tidy-name, names-is-canonical, names-is-canonical-widely, names-ask-in}
 
 pub record Names : Type 0 where
   -- names
@@ -31,14 +31,11 @@ pub record Names : Type 0 where
   names-one-name : Determines2 names-one-name
   -- names::frames
   names-frame : Determines3 names-frame
-  names-subsection : Determines4 names-subsection
+  names-frame-here : Determines2 names-frame-here
   -- names::judging
   names-judge : Determines2 names-judge
   -- names::kinds
   names-kind-of : Determines2 names-kind-of
-  -- names::places
-  names-put-place : Determines4 names-put-place
-  names-place-of : Determines2 names-place-of
   -- names::telling
   names-tidy-name : Determines2 names-tidy-name
   names-is-canonical : Determines1 names-is-canonical
@@ -58,11 +55,9 @@ determined =
       names-all-kept = λ s place a b h h′. same-answer a b (h .says ∙ sym (h′ .says));
       names-one-name = λ s part a b h h′. same-answer a b (h .says ∙ sym (h′ .says));
       names-frame = λ s c least. frame-same;
-      names-subsection = λ s c edition least. frame-same;
+      names-frame-here = λ s c. framed-same;
       names-judge = λ p edition. meaning-determined same-verdict _;
       names-kind-of = λ edition id. meaning-determined kind-same _;
-      names-put-place = λ old edition id part. put-same;
-      names-place-of = λ places id. equal-determined _;
       names-tidy-name = λ s part. tells-same;
       names-is-canonical = λ p. equal-determined _;
       names-is-canonical-widely = λ p. equal-determined _;

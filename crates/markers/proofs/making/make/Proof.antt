@@ -32,8 +32,8 @@ find-requires c κs = search making
 enum-told-3 : tie.Need-enum-told-3
 enum-told-3 c = search making
 
-enum-known-part : tie.Need-enum-known-part
-enum-known-part c = search making
+enum-known-place : tie.Need-enum-known-place
+enum-known-place c = search making
 
 mark-requires : tie.Need-mark-requires
 mark-requires c κs = search making
@@ -51,4 +51,4 @@ returns-4 : tie.Need-returns-4
 returns-4 c = search making
 
 pub make-spec : {M : Type 1} → statement M
-make-spec = tie.close (tie.spec judge-requires enum-told enum-told-2 refusal-of-requires returns refused-requires returns-2 over-requires find-requires enum-told-3 enum-known-part mark-requires returns-3 same-length same-length-2 returns-4)
+make-spec = tie.close (tie.spec judge-requires enum-told enum-told-2 refusal-of-requires returns over-requires find-requires refused-requires returns-2 enum-told-3 enum-known-place mark-requires returns-3 same-length same-length-2 returns-4)
