@@ -81,6 +81,7 @@ pub fn make(p: &[u8], indices: &mut [u32], offsets: &mut [u32]) -> Answer
     let Verdict::Accepted = verdict else {
         return Answer::Refused(refusal_of(verdict));
     };
+    // looked for before the length is: behind that test the loop takes an instruction more a name
     let place = find(p, Cursor::over(p), FUNCTION_NAMES);
     if TOO_LONG <= p.len() {
         return refused(Reason::SubsectionTooLarge, 0);

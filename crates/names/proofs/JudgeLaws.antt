@@ -13,14 +13,13 @@ use denote.Enum.Declared.{tagOf}
 use lib.Dec.{leb}
 use lib.ListN.{length, getD}
 use lib.Seq.{length-slice, slice-cons, slice-empty}
-use Rattle.format.specs.Refusals.{numberOf}
 use Rattle.format.specs.Reading.{Outcome, got, stop, Reader, andThen, _>>=_, return, accepted, judge, verdict}
 use Rattle.format.specs.Verdicts.{verdictOf}
 use Rattle.format.specs.Parts.{Part, sized, goOn, inside}
 use Rattle.format.specs.Questions.{answered}
 use Rattle.format.specs.Tables.{Table, nil, row, lookup}
 use Rattle.format.specs.Names.{Kind, Content, contents, subsections, payload, judgeNames}
-use Rattle.format.specs.Laws.Outcomes.{not-got, not-accepted, got-value, got-next, got-rest, byTest, byOutcome, judged, accepted-is}
+use Rattle.format.specs.Laws.Outcomes.{not-accepted, got-value, got-next, got-rest, byTest, byOutcome, judged, accepted-is}
 use Rattle.format.specs.Laws.Codecs.{sized-codec}
 use Rattle.format.specs.Laws.Passing.{sized-passes}
 use Rattle.format.specs.declared.Answer.{Answer}
@@ -31,15 +30,14 @@ use Rattle.format.specs.declared.Verdict.the-variants.{Accepted as IsAccepted, 
 use Rattle.format.proofs.Answer as answer-type
 use Rattle.reading.proofs.Laws.{left-all, over-inside}
 use Rattle.reading.proofs.Standing.{stand}
-use Rattle.reading.specs.Cursors.{Inside, left, partOf, overAll}
+use Rattle.reading.specs.Cursors.{Inside, left, overAll}
 use Rattle.reading.specs.declared.Cursor.{Cursor}
 use Rattle.names.specs.Contents.{Rules}
 use Rattle.names.specs.Frames.{Headed, frame, frames, judgeFrames, behindId, Forward, FrameReads, KnownFrame, FrameStands}
-use Rattle.names.specs.Places.{Stands, KnownFrames, Finds}
+use Rattle.names.specs.Places.{KnownFrames, Finds}
 use Rattle.names.specs.declared.frames.FrameRead.{FrameRead}
 use Rattle.names.specs.declared.frames.FrameRead.the-variants.{Frame, End, Refused as NoFrame}
 use Rattle.names.specs.declared.frames.Framed.{Framed}
-use Rattle.tables.specs.declared.Held.{Held}
 use Rattle.tables.specs.declared.Held.the-variants.{Nothing as Absent, Part as At}
 use Rattle.names.proofs.frames.FrameRead as frame-type
 use Rattle.names.proofs.FrameSteps.{as-end}
