@@ -21,12 +21,12 @@ use Rattle.reading.specs.declared.Cursor.{Cursor}
 use Rattle.reading.proofs.PartSteps.{take-drop}
 use Rattle.copying.proofs.Laws.{part-length}
 use Rattle.names.specs.Contents.{kindMeant}
-use Rattle.names.specs.Frames.{behindId}
+use Rattle.names.specs.Frames.{behindId, KnownFrame, FrameStands}
 use Rattle.names.specs.declared.kinds.Kind.{Kind}
 use Rattle.rewrite.specs.Contents.{ContentStands, KnownContent, leftOf, Trims}
-use Rattle.rewrite.specs.Subsections.{lengthLeft, subBytes, KnownFrame, FrameStands, PayloadStands, KnownPayload, UnchangedHere, FindsChanged}
+use Rattle.rewrite.specs.Subsections.{lengthLeft, subBytes, PayloadStands, KnownPayload, UnchangedHere, FindsChanged}
 use Rattle.rewrite.specs.declared.contents.Left.{Left}
-use Rattle.rewrite.specs.declared.subsections.Frame.{Frame}
+use Rattle.names.specs.declared.frames.Framed.{Framed}
 use Rattle.rewrite.specs.declared.subsections.Changed.{Changed}
 use Rattle.rewrite.specs.declared.subsections.Changed.the-variants.{Nothing, Subsection}
 use Rattle.rewrite.proofs.subsections.Changed as changed-type
@@ -50,7 +50,7 @@ unfolding writePart
 written-length x = length-append (shortest (length x)) x
 
 -- A subsection that comes out as long as it is comes out as it is
-module _ {kindOf : ℕ → AnyKind} {s : List ℕ} {c : Cursor} {t : Table (Content Part)} (w : PayloadStands kindOf s c t) (h : c .at < c .end) {r : Frame} (f : FrameStands s c r) where
+module _ {kindOf : ℕ → AnyKind} {s : List ℕ} {c : Cursor} {t : Table (Content Part)} (w : PayloadStands kindOf s c t) (h : c .at < c .end) {r : Framed} (f : FrameStands s c r) where
   pub sub-same : {v : Content Part} → ContentStands (kindOf (r .id)) s (r .part) v → Bytes s → length (subBytes (r .id) (trim (bare v))) ≡ r .next .at - c .at → left s c ≡ subBytes (r .id) (trim (bare v)) ++ left s (r .next)
   sub-same {v} z bytes long =
       let stands = f .contents .stands in
@@ -98,7 +98,7 @@ module _ {kindOf : ℕ → AnyKind} {s : List ℕ} {c next : Cursor} (t : Passin
     pub pass-frame : KnownFrame s next
     pass-frame = frame-known (t .here) h
 
-    module _ {r : Frame} (f : FrameStands s next r) where
+    module _ {r : Framed} (f : FrameStands s next r) where
       pub pass-less : r .next .end - r .next .at < next .end - next .at
       pass-less = frame-less (t .here) h f
 

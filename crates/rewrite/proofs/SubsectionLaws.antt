@@ -31,14 +31,14 @@ use Rattle.reading.proofs.Standing.{stand}
 use Rattle.copying.proofs.Laws.{part-length, part-fits}
 use Rattle.copying.proofs.Measuring.{shortest-short}
 use Rattle.names.specs.Contents.{kindMeant}
-use Rattle.names.specs.Frames.{behindId}
+use Rattle.names.specs.Frames.{behindId, KnownFrame, FrameStands}
 use Rattle.names.specs.declared.kinds.Kind.{Kind}
 use Rattle.rewrite.specs.Contents.{ContentStands, KnownContent, sizesOf, leftOf, Trims}
-use Rattle.rewrite.specs.Subsections.{smallLeft, lengthLeft, subBytes, KnownFrame, FrameStands, PayloadStands, KnownPayload, MeasuresPayload}
+use Rattle.rewrite.specs.Subsections.{smallLeft, lengthLeft, subBytes, PayloadStands, KnownPayload, MeasuresPayload}
 use Rattle.rewrite.specs.declared.contents.Sizes.{Sizes}
 use Rattle.rewrite.specs.declared.contents.Left.{Left}
 use Rattle.rewrite.specs.declared.contents.Left.the-variants.{Nothing, Contents}
-use Rattle.rewrite.specs.declared.subsections.Frame.{Frame}
+use Rattle.names.specs.declared.frames.Framed.{Framed}
 use Rattle.rewrite.proofs.contents.Left as left-type
 use Rattle.rewrite.proofs.ContentLaws.{one-content, as-nothing}
 use Rattle.rewrite.proofs.PutLaws.{left-shorter}
@@ -189,7 +189,7 @@ module _ {kindOf : ℕ → AnyKind} {s : List ℕ} {c : Cursor} {t : Table (Cont
         let i : Inside s (behindId c) = record { ahead = omega arith; within = w .inside .within } in
         record { inside = w .inside; ahead = h; contents = record { value = _; next = _; stands = stand sized-passes i reads-there } }
 
-    module _ {r : Frame} (f : FrameStands s c r) where
+    module _ {r : Framed} (f : FrameStands s c r) where
       -- the code found what stands there
       there : _≡_ {A = Outcome Part} (got (front .part) (front .behind) (front .left-behind)) (got (partOf s (r .part)) (r .next .at) (left s (r .next)))
       there = sym reads-there ∙ f .contents .stands .reads
@@ -254,7 +254,7 @@ module _ {kindOf : ℕ → AnyKind} {s : List ℕ} {c next : Cursor} {total : �
     pub names-frame : KnownFrame s next
     names-frame = frame-known (t .here) h
 
-    module _ {r : Frame} (f : FrameStands s next r) where
+    module _ {r : Framed} (f : FrameStands s next r) where
       pub names-less : r .next .end - r .next .at < next .end - next .at
       names-less = frame-less (t .here) h f
 

@@ -23,12 +23,13 @@ use Rattle.writing.proofs.Laws.{wrote-nothing, wrote-join, wrote-length, writes
 use Rattle.names.specs.Contents.{kindMeant}
 use Rattle.names.specs.declared.kinds.Kind.{Kind}
 use Rattle.rewrite.specs.Contents.{ContentStands, KnownContent, Trims, FitsContent, PutsContent}
-use Rattle.rewrite.specs.Subsections.{subBytes, KnownFrame, FrameStands, TrimsSubsection, FitsSubsection, PutsSubsection, PayloadStands, KnownPayload, MeasuresPayload, NeedsRoom, ChangedAt, FindsChanged, FitsPayload, PutsPayload, RewritesNames}
+use Rattle.rewrite.specs.Subsections.{subBytes, TrimsSubsection, FitsSubsection, PutsSubsection, PayloadStands, KnownPayload, MeasuresPayload, NeedsRoom, ChangedAt, FindsChanged, FitsPayload, PutsPayload, RewritesNames}
 use Rattle.rewrite.specs.Whole.{FitsWhole, PutsWhole}
 use Rattle.rewrite.specs.declared.contents.Sizes.{Sizes}
 use Rattle.rewrite.specs.declared.contents.Left.{Left}
 use Rattle.rewrite.specs.declared.contents.Left.the-variants.{Contents}
-use Rattle.rewrite.specs.declared.subsections.Frame.{Frame}
+use Rattle.names.specs.Frames.{KnownFrame, FrameStands}
+use Rattle.names.specs.declared.frames.Framed.{Framed}
 use Rattle.rewrite.specs.declared.subsections.Changed.{Changed}
 use Rattle.rewrite.specs.declared.subsections.Changed.the-variants.{Subsection}
 use Rattle.rewrite.proofs.contents.Left as left-type
@@ -116,7 +117,7 @@ module _ {kindOf : ℕ → AnyKind} {s : List ℕ} {c : Cursor} {old new : List 
     pub each-frame : KnownFrame s next
     each-frame = frame-known (t .here) h
 
-    module _ {r : Frame} (f : FrameStands s next r) where
+    module _ {r : Framed} (f : FrameStands s next r) where
       pub each-less : r .next .end - r .next .at < next .end - next .at
       each-less = frame-less (t .here) h f
 
@@ -164,7 +165,7 @@ module _ {kindOf : ℕ → AnyKind} {s : List ℕ} {c : Cursor} {old : List ℕ}
     pub names-same : {new : List ℕ} {next : ℕ} → tagOf changed-type.the-type x ≡ 0 → PutsWhole s c old new 0 next → PutsPayload kindOf s c old new 0 next
     names-same h p = record { value = f .value; stands = f .stands; wrote = rw (unchanged-here h) (p .wrote) }
 
-    module _ {at : ℕ} {frame : Frame} {z : Left} (e : x ≡ Subsection at frame z) where
+    module _ {at : ℕ} {frame : Framed} {z : Left} (e : x ≡ Subsection at frame z) where
       first : ChangedAt kindOf s c at frame z
       first = rw e at (found .finds)
 

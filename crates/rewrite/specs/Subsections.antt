@@ -3,25 +3,23 @@ use Prim.Native.Nat.{ℕ, _+_, _≤_, _<_}
 use mathlib.Core.List.{List, [], _∷_, _++_}
 use mathlib.Core.Option.{Option, none, some}
 use mathlib.Core.Path.{_≡_}
-use lib.ListN.{length, getD}
+use lib.ListN.{length}
 use Rattle.format.specs.Reading.{got, accepted}
 use Rattle.format.specs.Numbers.{shortest, limit32}
-use Rattle.format.specs.Parts.{Part, sized}
+use Rattle.format.specs.Parts.{Part}
 use Rattle.format.specs.Tables.{Table}
 use Rattle.format.specs.Names.{Kind, Content, payload}
 use Rattle.format.specs.Canonical.{bare, trim, writePart, writeContent, rewriteNames}
 use Rattle.format.specs.Outputs.{Writes}
 use Rattle.format.specs.declared.Written.{Written}
-use Rattle.names.specs.Frames.{behindId}
+use Rattle.names.specs.declared.frames.Framed.{Framed}
 use Rattle.reading.specs.Cursors.{Inside, left}
 use Rattle.reading.specs.declared.Cursor.{Cursor}
 use Rattle.writing.specs.Wrote.{Wrote}
-use Rattle.reading.specs.Standing.{Known, TakesPart}
 use Rattle.rewrite.specs.Contents.{ContentStands, Trims}
 use Rattle.rewrite.specs.declared.contents.Sizes.{Sizes}
 use Rattle.rewrite.specs.declared.contents.Left.{Left}
 use Rattle.rewrite.specs.declared.contents.Left.the-variants.{Nothing, Contents}
-use Rattle.rewrite.specs.declared.subsections.Frame.{Frame}
 use Rattle.rewrite.specs.declared.subsections.Changed.{Changed}
 use Rattle.rewrite.specs.declared.subsections.Changed.the-variants.{Nothing as NoneChanged, Subsection}
 
@@ -39,15 +37,6 @@ lengthLeft (some x) = 1 + (length (shortest (x .length)) + x .length)
 abbrev pub subBytes : ℕ → Option (Content (List ℕ)) → List ℕ
 subBytes id none = []
 subBytes id (some d) = id ∷ writePart (writeContent d)
-
-pub record KnownFrame (s : List ℕ) (c : Cursor) : Type 0 where
-  pub inside : Inside s c
-  pub ahead : c .at < c .end
-  pub contents : Known sized s (behindId c)
-
-pub record FrameStands (s : List ℕ) (c : Cursor) (r : Frame) : Type 0 where
-  pub id-is : r .id ≡ getD s (c .at) 0
-  pub contents : TakesPart s (behindId c) (record { part = r .part; next = r .next })
 
 -- Everything from here on is said over a table of ids
 module _ (kindOf : ℕ → Kind) where
@@ -90,7 +79,7 @@ module _ (kindOf : ℕ → Kind) where
     pub needed : room < r → r ≡ length (rewriteNames value)
 
   -- what is written are the bytes before `at` as they are, what is left of the subsection there, and what is left of those behind it
-  pub record ChangedAt (s : List ℕ) (c : Cursor) (at : ℕ) (frame : Frame) (x : Left) : Type 0 where
+  pub record ChangedAt (s : List ℕ) (c : Cursor) (at : ℕ) (frame : Framed) (x : Left) : Type 0 where
     pub value : Table (Content Part)
     pub stands : PayloadStands s c value
     pub before : Inside s (record { at = c .at; end = at })

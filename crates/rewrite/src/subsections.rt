@@ -2,7 +2,7 @@
 ghost use mathlib.Core.Path.{_≡_};
 ghost use Rattle.format.specs.Names.{kindIn};
 ghost use Rattle.rewrite.specs.Contents.{leftOf};
-ghost use Rattle.rewrite.specs.Subsections.{smallLeft, lengthLeft, KnownFrame, FrameStands, TrimsSubsection, FitsSubsection, PutsSubsection, KnownPayload, MeasuresPayload, NeedsRoom, FindsChanged, FitsPayload, PutsPayload, RewritesNames};
+ghost use Rattle.rewrite.specs.Subsections.{smallLeft, lengthLeft, TrimsSubsection, FitsSubsection, PutsSubsection, KnownPayload, MeasuresPayload, NeedsRoom, FindsChanged, FitsPayload, PutsPayload, RewritesNames};
 use crate::contents::Left;
 use crate::contents::content_left;
 use crate::contents::put_content;
@@ -13,25 +13,19 @@ use format::Offset;
 use format::Reason;
 use format::Refusal;
 use format::Written;
+use names::frames::Framed;
+use names::frames::frame_here;
 use names::kinds::kind_of;
 use reading::Cursor;
-use reading::again::part_here;
 use writing::put_byte;
 use writing::put_number;
 
 const ID_LENGTH: usize = 1;
 
-// A subsection that was read: its id, where its contents lie, and the cursor behind it.
-pub struct Frame {
-    pub id: u8,
-    pub part: Cursor,
-    pub next: Cursor,
-}
-
 // The first subsection that comes out shorter than it is, if one does: where it begins, its frame, and what is left of it.
 pub enum Changed {
     Nothing,
-    Subsection(usize, Frame, Left),
+    Subsection(usize, Framed, Left),
 }
 
 // How long a subsection is with its id and its size; nothing where nothing is left of it.
@@ -46,21 +40,6 @@ fn subsection_length(left: Left) -> usize
             ID_LENGTH + contents
         }
     }
-}
-
-// The subsection that begins here: it was accepted.
-fn frame_here(s: &[u8], c: Cursor) -> Frame
-    requires { ⌜ KnownFrame (now s) c ⌝ }
-    ensures { λ r. ⌜ FrameStands (now (s .entry)) c r ⌝ }
-{
-    let at = c.at;
-    let end = c.end;
-    let id = s[at];
-    let rest = Cursor { at: at + 1, end };
-    let contents = part_here(rest, s);
-    let part = contents.part;
-    let next = contents.next;
-    Frame { id, part, next }
 }
 
 // How long what is left of all subsections is.
