@@ -11,12 +11,15 @@ use Rattle.format.specs.Older.{times, firstAt, firstIn}
 use Rattle.format.specs.Laws.Options.{or-none, or-else}
 use Rattle.format.specs.Laws.Outcomes.{byTest, byOutcome}
 use Rattle.format.specs.declared.Hint.{Hint}
-use Rattle.older.specs.Seeking.{atOffset, inFunction, asked}
+use Rattle.older.specs.Seeking.{nothing, atOffset, inFunction, asked}
 
 -- a list answers with the first answer of what it has
 pub record Firsts {A : Type 0} (each : A → Option Hint) (all : List A → Option Hint) : Type 0 where
   pub of-none : all [] ≡ none
   pub of-more : (x : A) (xs : List A) → all (x ∷ xs) ≡ orElse (each x) (all xs)
+
+pub nothing-firsts : {A : Type 0} → Firsts {A = A} nothing nothing
+nothing-firsts = record { of-none = refl; of-more = λ x xs. refl }
 
 pub offset-firsts : (offset : ℕ) → Firsts (atOffset offset) (firstAt offset)
 unfolding firstAt

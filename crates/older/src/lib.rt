@@ -1,8 +1,8 @@
-// The older edition of branch hints (K2): judged, and asked for the first hint of a pair, in one pass. Every public call takes any bytes.
+// The older edition of branch hints (K2): judged, and asked for the first hint of a pair, in one pass each. Every public call takes any bytes.
 ghost use mathlib.Core.Path.{_≡_};
-ghost use Rattle.format.specs.Older.{times, vector, kindNumbered, olderKind, olderHint, olderEntry, firstAt, firstIn};
+ghost use Rattle.format.specs.Older.{times, vector, olderHint, olderEntry, firstAt, firstIn};
 ghost use Rattle.reading.specs.Cursors.{Inside};
-ghost use Rattle.older.specs.Seeking.{atOffset, inFunction, asked, opening, Reads, Seeks, firstHeld, heldWhere, heldAs, filledWith};
+ghost use Rattle.older.specs.Seeking.{atOffset, firstWhere, inFunction, nothing, asked, Seeks, firstHeld, heldAs, filledWith};
 ghost use Rattle.older.specs.Promises.{older-hint-in, older-judge-in, older-judge, older-hint};
 use format::FunctionIndex;
 use format::Hint;
@@ -12,69 +12,42 @@ use format::Offset;
 use format::Reason;
 use format::Refusal;
 use format::Verdict;
+use judging::entries;
+use judging::kind;
+use judging::zero_byte;
 use reading::Cursor;
 use reading::NumberRead;
 
 pub mod again;
+mod judging;
 
-// A kind is 0 for unlikely or 1 for likely.
+// A kind that is unlikely.
 const UNLIKELY: u32 = 0;
 
-const LIKELY: u32 = 1;
+// What was found so far, or what one hint, one entry or a list answers with: nothing, or one of the two hints.
+const NOTHING: u32 = 0;
 
-// What stands between an entry's function and its hints.
-const ZERO: u8 = 0;
+const HELD_UNLIKELY: u32 = 1;
 
-// The hint that was found so far, or that one hint, one entry or a list answers with.
-enum Held {
-    Nothing,
-    Hint(Hint),
-}
+const HELD_LIKELY: u32 = 2;
 
-// What reading and asking finds: what was read answers with, and the cursor behind it.
+// What reading and asking finds: what it answers with, and the cursor behind what was read.
 enum Seek {
-    Behind(Held, Cursor),
+    Behind(u32, Cursor),
     Refused(Refusal),
 }
 
-// The hint of a kind that was read.
-fn hint_of(kind: u32) -> Hint
-    ensures { λ r. ⌜ r ≡ kindNumbered kind ⌝ }
-{
-    if kind == UNLIKELY {
-        return Hint::Unlikely;
-    }
-    Hint::Likely
-}
-
-// A kind: a number, however it is padded, that is refused above 1 before anything behind it is read.
-fn kind(c: Cursor, s: &[u8]) -> NumberRead
-    requires { ⌜ Inside (now s) c ⌝ }
-    ensures { λ r. ⌜ Reads kindNumbered olderKind (now (s .entry)) c r ⌝ }
-{
-    let first = c.at;
-    match c.number(s) {
-        NumberRead::Refused(r) => NumberRead::Refused(r),
-        NumberRead::Value(k, next, shortest) => {
-            if LIKELY < k {
-                return NumberRead::Refused(Refusal {
-                    reason: Reason::NotHint,
-                    offset: Offset(first),
-                });
-            }
-            NumberRead::Value(k, next, shortest)
-        }
-    }
-}
-
 // What a hint at an offset answers where this one is wanted.
-fn held_at(wanted: u32, offset: u32, kind: u32) -> Held
+fn held_at(wanted: u32, offset: u32, kind: u32) -> u32
     ensures { λ r. ⌜ r ≡ heldAs wanted offset kind ⌝ }
 {
     if wanted == offset {
-        return Held::Hint(hint_of(kind));
+        if kind == UNLIKELY {
+            return HELD_UNLIKELY;
+        }
+        return HELD_LIKELY;
     }
-    Held::Nothing
+    NOTHING
 }
 
 // A hint: its kind, and then its offset.
@@ -92,13 +65,13 @@ fn hint_here(c: Cursor, s: &[u8], wanted: u32) -> Seek
 }
 
 // The first of two answers that is there.
-fn first_of(held: Held, answer: Held) -> Held
+fn first_of(held: u32, answer: u32) -> u32
     ensures { λ r. ⌜ r ≡ firstHeld held answer ⌝ }
 {
-    match held {
-        Held::Nothing => answer,
-        Held::Hint(h) => Held::Hint(h),
+    if held == NOTHING {
+        return answer;
     }
+    held
 }
 
 // So many hints, in any order.
@@ -108,7 +81,7 @@ fn hints_times(c: Cursor, s: &[u8], wanted: u32, n: u32) -> Seek
 {
     let mut next = c;
     let mut more = n;
-    let mut held = Held::Nothing;
+    let mut held: u32 = NOTHING;
     while 0 < more {
         match hint_here(next, s, wanted) {
             Seek::Refused(r) => {
@@ -124,53 +97,55 @@ fn hints_times(c: Cursor, s: &[u8], wanted: u32, n: u32) -> Seek
     Seek::Behind(held, next)
 }
 
-// The hints of an entry: how many, and so many.
-fn hints_here(c: Cursor, s: &[u8], wanted: u32) -> Seek
+// A hint of a function that is not wanted. Judging has the same step and the same loop: each has one caller, so that it becomes one piece of code with it.
+fn hint_passed(c: Cursor, s: &[u8]) -> Seek
     requires { ⌜ Inside (now s) c ⌝ }
-    ensures { λ r. ⌜ Seeks (asked (firstAt wanted) (vector olderHint)) (now (s .entry)) c r ⌝ }
+    ensures { λ r. ⌜ Seeks (asked nothing olderHint) (now (s .entry)) c r ⌝ }
+{
+    match kind(c, s) {
+        NumberRead::Refused(r) => Seek::Refused(r),
+        NumberRead::Value(_, d, _) => match d.number(s) {
+            NumberRead::Refused(r) => Seek::Refused(r),
+            NumberRead::Value(_, next, _) => Seek::Behind(NOTHING, next),
+        },
+    }
+}
+
+// So many of them.
+fn hints_passed(c: Cursor, s: &[u8], n: u32) -> Seek
+    requires { ⌜ Inside (now s) c ⌝ }
+    ensures { λ r. ⌜ Seeks (asked nothing (times olderHint n)) (now (s .entry)) c r ⌝ }
+{
+    let mut next = c;
+    let mut more = n;
+    while 0 < more {
+        match hint_passed(next, s) {
+            Seek::Refused(r) => {
+                return Seek::Refused(r);
+            }
+            Seek::Behind(_, after) => {
+                next = after;
+                more = more - 1;
+            }
+        }
+    }
+    Seek::Behind(NOTHING, next)
+}
+
+// The hints of an entry: how many, and so many. Only those of the function that is wanted are asked.
+fn hints_here(c: Cursor, s: &[u8], sought: bool, wanted: u32) -> Seek
+    requires { ⌜ Inside (now s) c ⌝ }
+    ensures { λ r. ⌜ Seeks (asked (firstWhere sought wanted) (vector olderHint)) (now (s .entry)) c r ⌝ }
 {
     match c.number(s) {
         NumberRead::Refused(r) => Seek::Refused(r),
-        NumberRead::Value(n, d, _) => hints_times(d, s, wanted, n),
-    }
-}
-
-// An entry's function, and the zero byte behind it.
-fn opened(c: Cursor, s: &[u8]) -> NumberRead
-    requires { ⌜ Inside (now s) c ⌝ }
-    ensures { λ r. ⌜ Reads (λ f. f) opening (now (s .entry)) c r ⌝ }
-{
-    match c.number(s) {
-        NumberRead::Refused(r) => NumberRead::Refused(r),
-        NumberRead::Value(function, d, shortest) => {
-            let at = d.at;
-            let end = d.end;
-            if end <= at {
-                return NumberRead::Refused(Refusal {
-                    reason: Reason::PastItsPart,
-                    offset: Offset(at),
-                });
+        NumberRead::Value(n, d, _) => {
+            if sought {
+                return hints_times(d, s, wanted, n);
             }
-            let zero = s[at];
-            if zero == ZERO {
-                return NumberRead::Value(function, Cursor { at: at + 1, end }, shortest);
-            }
-            NumberRead::Refused(Refusal {
-                reason: Reason::NotZero,
-                offset: Offset(at),
-            })
+            hints_passed(d, s, n)
         }
     }
-}
-
-// What an entry's hints answer where its function is the one that is wanted.
-fn held_in(wanted: u32, function: u32, answer: Held) -> Held
-    ensures { λ r. ⌜ r ≡ heldWhere wanted function answer ⌝ }
-{
-    if wanted == function {
-        return answer;
-    }
-    Held::Nothing
 }
 
 // An entry: its function, a zero byte, and its hints.
@@ -178,11 +153,11 @@ fn entry_here(c: Cursor, s: &[u8], function: u32, offset: u32) -> Seek
     requires { ⌜ Inside (now s) c ⌝ }
     ensures { λ r. ⌜ Seeks (asked (inFunction function offset) olderEntry) (now (s .entry)) c r ⌝ }
 {
-    match opened(c, s) {
+    match c.number(s) {
         NumberRead::Refused(r) => Seek::Refused(r),
-        NumberRead::Value(k, d, _) => match hints_here(d, s, offset) {
+        NumberRead::Value(k, d, _) => match zero_byte(d, s) {
             Seek::Refused(r) => Seek::Refused(r),
-            Seek::Behind(answer, next) => Seek::Behind(held_in(function, k, answer), next),
+            Seek::Behind(_, e) => hints_here(e, s, function == k, offset),
         },
     }
 }
@@ -194,7 +169,7 @@ fn entries_times(c: Cursor, s: &[u8], function: u32, offset: u32, n: u32) -> See
 {
     let mut next = c;
     let mut more = n;
-    let mut held = Held::Nothing;
+    let mut held: u32 = NOTHING;
     while 0 < more {
         match entry_here(next, s, function, offset) {
             Seek::Refused(r) => {
@@ -222,7 +197,7 @@ fn entries_here(c: Cursor, s: &[u8], function: u32, offset: u32) -> Seek
 }
 
 // The entries fill the payload: what was held is its answer.
-fn filled(held: Held, next: Cursor) -> HintAnswer
+fn filled(held: u32, next: Cursor) -> HintAnswer
     ensures { λ r. ⌜ r ≡ filledWith held next ⌝ }
 {
     if next.at < next.end {
@@ -231,10 +206,13 @@ fn filled(held: Held, next: Cursor) -> HintAnswer
             offset: Offset(next.at),
         });
     }
-    match held {
-        Held::Nothing => HintAnswer::None,
-        Held::Hint(h) => HintAnswer::Found(h),
+    if held == NOTHING {
+        return HintAnswer::None;
     }
+    if held == HELD_UNLIKELY {
+        return HintAnswer::Found(Hint::Unlikely);
+    }
+    HintAnswer::Found(Hint::Likely)
 }
 
 // The first hint for a pair, in a payload that lies in `s` where the cursor says: one pass judges it and asks it.
@@ -248,15 +226,23 @@ pub fn hint_in(s: &[u8], c: Cursor, f: FunctionIndex, at: InstructionOffset) -> 
     }
 }
 
-// Judges a payload that lies in `s` where the cursor says: every question is refused as the payload is.
+// Judges a payload that lies in `s` where the cursor says: its entries fill it.
 pub fn judge_in(s: &[u8], c: Cursor) -> Verdict
     requires { ⌜ Inside (now s) c ⌝ }
     ensures { λ r. ⌜ older-judge-in (now (s .entry)) c r ⌝ }
 {
-    match hint_in(s, c, FunctionIndex(0), InstructionOffset(0)) {
-        HintAnswer::None => Verdict::Accepted,
-        HintAnswer::Found(_) => Verdict::Accepted,
-        HintAnswer::Refused(r) => Verdict::Refused(r),
+    match entries(c, s) {
+        Seek::Refused(r) => Verdict::Refused(r),
+        Seek::Behind(_, next) => {
+            let at = next.at;
+            if at < next.end {
+                return Verdict::Refused(Refusal {
+                    reason: Reason::LeftOver,
+                    offset: Offset(at),
+                });
+            }
+            Verdict::Accepted
+        }
     }
 }
 

@@ -2,12 +2,6 @@ use Rattle.older.proofs.Steps.{held-steps}
 use Rattle.older.proofs.first_of.Statement.{statement}
 use Rattle.older.proofs.first_of.Tie as tie
 
-enum-told : tie.Need-enum-told
-enum-told c = search held-steps
-
-enum-known-held : tie.Need-enum-known-held
-enum-known-held c = search held-steps
-
 returns : tie.Need-returns
 returns c = search held-steps
 
@@ -15,4 +9,4 @@ returns-2 : tie.Need-returns-2
 returns-2 c = search held-steps
 
 pub first-of-spec : {M : Type 1} → statement M
-first-of-spec = tie.close (tie.spec enum-told enum-known-held returns returns-2)
+first-of-spec = tie.close (tie.spec returns returns-2)

@@ -17,8 +17,14 @@ hints-times-requires c κs = search vector-steps
 returns : tie.Need-returns
 returns c = search vector-steps
 
+hints-passed-requires : tie.Need-hints-passed-requires
+hints-passed-requires c κs = search vector-steps
+
 returns-2 : tie.Need-returns-2
 returns-2 c = search vector-steps
 
+returns-3 : tie.Need-returns-3
+returns-3 c = search vector-steps
+
 pub hints-here-spec : {M : Type 1} → statement M
-hints-here-spec = tie.close (tie.spec number-requires enum-known-r enum-known-n hints-times-requires returns returns-2)
+hints-here-spec = tie.close (tie.spec number-requires enum-known-r enum-known-n hints-times-requires returns hints-passed-requires returns-2 returns-3)

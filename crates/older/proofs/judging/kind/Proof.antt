@@ -1,6 +1,6 @@
 use Rattle.older.proofs.Steps.{kind-steps}
-use Rattle.older.proofs.kind.Statement.{statement}
-use Rattle.older.proofs.kind.Tie as tie
+use Rattle.older.proofs.judging.kind.Statement.{statement}
+use Rattle.older.proofs.judging.kind.Tie as tie
 
 number-requires : tie.Need-number-requires
 number-requires c κs = search kind-steps

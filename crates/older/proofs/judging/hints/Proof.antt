@@ -1,0 +1,26 @@
+use Rattle.older.proofs.Steps.{vector-steps}
+use Rattle.older.proofs.judging.hints.Statement.{statement}
+use Rattle.older.proofs.judging.hints.Tie as tie
+
+number-requires : tie.Need-number-requires
+number-requires c κs = search vector-steps
+
+enum-known-r : tie.Need-enum-known-r
+enum-known-r c = search vector-steps
+
+enum-known-n : tie.Need-enum-known-n
+enum-known-n c = search vector-steps
+
+hints-times-requires : tie.Need-hints-times-requires
+hints-times-requires c κs = search vector-steps
+
+returns : tie.Need-returns
+returns c = search vector-steps
+
+returns-2 : tie.Need-returns-2
+returns-2 c = search vector-steps
+
+pub hints-spec : {M : Type 1} → statement M
+hints-spec =
+    tie.close
+    (tie.spec number-requires enum-known-r enum-known-n hints-times-requires returns returns-2)
