@@ -1,45 +1,53 @@
 // A case: what is lent to its call, which is looked for in one group of calls after the other.
+use crate::code;
 use crate::leaves;
-use crate::lists;
+use crate::lent_lists;
 use crate::modules;
-use crate::outputs;
-use crate::pairs;
-use crate::payloads;
+use crate::naming;
 use crate::pieces::NUMBERS;
 use crate::pieces::bytes;
 use crate::pieces::call;
 use crate::pieces::first;
+use crate::pieces::first_word;
 use crate::pieces::head;
+use crate::pieces::is;
 use crate::pieces::numbers;
+use crate::pieces::other_words;
 use crate::pieces::part;
 use crate::pieces::second;
 use crate::telling::say;
-use crate::wide;
+use crate::why;
+use format::Edition;
 
 // So many bytes are lent at most.
 const ROOM: usize = 256;
 
-// A call's name as in the header, without `wm_`.
-fn put(name: &[u8], n: &[u32; NUMBERS], count: usize, p: &[u8], other: &[u8]) -> bool {
-    if leaves::answer(name, n, p) {
+// The calls of one edition alone.
+fn put_plainly(name: &[u8], n: &[u32; NUMBERS], count: usize, p: &[u8], other: &[u8]) -> bool {
+    if leaves::answer(name, p) {
         return true;
     }
     if modules::answer(name, n, p, other) {
         return true;
     }
-    if payloads::answer(name, n, p) {
+    if code::answer(name, n, p, other) {
         return true;
     }
-    if wide::answer(name, n, p) {
+    if why::answer(name, n, p) {
         return true;
     }
-    if pairs::answer(name, n, p, other) {
+    lent_lists::answer(name, n, count, p)
+}
+
+// A call's name as in the header, without `wm_`.
+fn put(name: &[u8], n: &[u32; NUMBERS], count: usize, p: &[u8], other: &[u8]) -> bool {
+    if is(first_word(name), b"wide") {
+        return naming::answer(other_words(name), Edition::Wider, n, p, other);
+    }
+    if naming::answer(name, Edition::First, n, p, other) {
         return true;
     }
-    if outputs::answer(name, n, p, other) {
-        return true;
-    }
-    lists::answer(name, n, count, p)
+    put_plainly(name, n, count, p, other)
 }
 
 pub fn answer(line: &[u8]) {

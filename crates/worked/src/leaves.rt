@@ -1,12 +1,6 @@
-// A number and a name by themselves, as `reading` reads them, and a name as a part of its payload.
-use crate::pieces::NUMBERS;
-use crate::pieces::is;
-use crate::telling::say;
-use crate::telling::say_bytes;
-use crate::telling::say_number;
-use format::Edition;
-use format::FunctionIndex;
-use format::Question;
+// A number and a name by themselves, as `reading` reads them.
+use crate::pieces::which;
+use crate::telling::tell;
 use format::Refusal;
 use reading::Cursor;
 use reading::NumberRead;
@@ -28,53 +22,32 @@ fn name(s: &[u8]) -> PartRead {
     all.name(s)
 }
 
-fn say_refusal(r: Refusal) {
+fn told_refusal(r: Refusal) -> bool {
     let reason = r.reason;
     let at = r.offset;
-    say(b"  refused");
-    say_number(reason.number() as u64);
-    say_number(at.0 as u64);
-    say(b"\n");
+    tell(b"  refused", &[reason.number() as u64, at.0 as u64])
 }
 
 // A number's value, and the offset behind it.
-fn say_value(read: NumberRead) {
+fn told_value(read: NumberRead) -> bool {
     match read {
-        NumberRead::Refused(r) => say_refusal(r),
-        NumberRead::Value(v, next, _) => {
-            say(b"  value");
-            say_number(v as u64);
-            say_number(next.at as u64);
-            say(b"\n");
-        }
+        NumberRead::Refused(r) => told_refusal(r),
+        NumberRead::Value(v, next, _) => tell(b"  value", &[v as u64, next.at as u64]),
     }
 }
 
 // That a name is accepted, and the offset behind it.
-fn say_name(read: PartRead) {
+fn told_name(read: PartRead) -> bool {
     match read {
-        PartRead::Refused(r) => say_refusal(r),
-        PartRead::Part(_, next, _) => {
-            say(b"  accepted");
-            say_number(next.at as u64);
-            say(b"\n");
-        }
+        PartRead::Refused(r) => told_refusal(r),
+        PartRead::Part(_, next, _) => tell(b"  accepted", &[next.at as u64]),
     }
 }
 
-pub fn answer(call: &[u8], n: &[u32; NUMBERS], p: &[u8]) -> bool {
-    if is(call, b"number") {
-        say_value(number(p));
-        return true;
+pub fn answer(call: &[u8], p: &[u8]) -> bool {
+    match which(call, b"number name") {
+        0 => told_value(number(p)),
+        1 => told_name(name(p)),
+        _ => false,
     }
-    if is(call, b"name") {
-        say_name(name(p));
-        return true;
-    }
-    if is(call, b"function_name_bytes") {
-        let question = Question::FunctionName(FunctionIndex(n[0]));
-        say_bytes(b"  bytes", names::ask_bytes(p, Edition::First, question));
-        return true;
-    }
-    false
 }

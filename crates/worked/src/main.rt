@@ -7,15 +7,15 @@ use pieces::end_of;
 use pieces::part;
 
 mod calls;
+mod code;
 mod leaves;
-mod lists;
+mod lent_lists;
 mod modules;
+mod naming;
 mod outputs;
-mod pairs;
-mod payloads;
 mod pieces;
 mod telling;
-mod wide;
+mod why;
 
 const LINE_END: u8 = b'\n';
 

@@ -10,6 +10,8 @@ const SPACE: u8 = b' ';
 
 const BAR: u8 = b'|';
 
+const JOINT: u8 = b'_';
+
 const TEN: u32 = 10;
 
 const SIXTEEN: u32 = 16;
@@ -76,6 +78,15 @@ pub fn second(line: &[u8]) -> &[u8] {
     behind(behind(line, BAR), BAR)
 }
 
+// The first word of a call's name, and the words behind it.
+pub fn first_word(name: &[u8]) -> &[u8] {
+    before(name, JOINT)
+}
+
+pub fn other_words(name: &[u8]) -> &[u8] {
+    behind(name, JOINT)
+}
+
 // Whether two are the same bytes.
 pub fn is(s: &[u8], word: &[u8]) -> bool {
     let n = s.len();
@@ -90,6 +101,21 @@ pub fn is(s: &[u8], word: &[u8]) -> bool {
         at += 1;
     }
     true
+}
+
+// Where a word stands in a list of words, counted from 0: behind the last, where it does not.
+pub fn which(word: &[u8], list: &[u8]) -> usize {
+    let mut count = 0;
+    let mut at = 0;
+    while at < list.len() {
+        let end = end_of(list, at, SPACE);
+        if is(part(list, at, end), word) {
+            return count;
+        }
+        count += 1;
+        at = end + 1;
+    }
+    count
 }
 
 // A byte, or a space behind the last one.

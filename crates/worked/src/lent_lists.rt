@@ -2,15 +2,17 @@
 use crate::outputs::ROOM;
 use crate::outputs::UNTOUCHED;
 use crate::pieces::NUMBERS;
-use crate::pieces::is;
 use crate::pieces::place;
+use crate::pieces::which;
 use crate::pieces::wide;
 use crate::telling::say_bytes;
 use crate::telling::say_numbers;
 use crate::telling::told;
-use wakemiono::quick::wm_markers;
-use wakemiono::quick::wm_quick_function_name;
-use wakemiono::wm_function_names_write;
+use crate::telling::told_length;
+use format::FunctionIndex;
+use lists::function_names;
+use markers::asking::quick;
+use markers::making::make;
 
 // What stands in a list before a call, so that a place left alone shows.
 const UNMARKED: u32 = 99;
@@ -35,7 +37,7 @@ fn write_into(n: &[u32; NUMBERS], count: usize, text: &[u8], out: &mut [u8]) {
     let behind = place(LISTED, n[1]);
     let indices = listed(n, place(LISTED, 0), behind);
     let lengths = listed(n, behind, count);
-    told(wm_function_names_write(indices, lengths, text, out));
+    told_length(function_names(indices, lengths, text, out));
     say_bytes(b"  output", out);
 }
 
@@ -45,14 +47,15 @@ fn write_in(n: &[u32; NUMBERS], count: usize, text: &[u8], room: &mut [u8], leng
     }
 }
 
-fn write(n: &[u32; NUMBERS], count: usize, text: &[u8]) {
+fn write(n: &[u32; NUMBERS], count: usize, text: &[u8]) -> bool {
     let mut room = [UNTOUCHED; ROOM];
     write_in(n, count, text, &mut room, place(0, n[0]));
+    true
 }
 
 // Markers: how long the two lists are.
 fn mark_into(p: &[u8], indices: &mut [u32], offsets: &mut [u32]) {
-    told(wm_markers(p, indices, offsets));
+    told(make(p, indices, offsets));
     say_numbers(b"  indices", indices);
     say_numbers(b"  offsets", offsets);
 }
@@ -65,7 +68,7 @@ fn mark_in(p: &[u8], indices: &mut [u32], many: usize, offsets: &mut [u32], othe
     }
 }
 
-fn mark(n: &[u32; NUMBERS], p: &[u8]) {
+fn mark(n: &[u32; NUMBERS], p: &[u8]) -> bool {
     let mut indices = [UNMARKED; NUMBERS];
     let mut offsets = [UNMARKED; NUMBERS];
     mark_in(
@@ -75,28 +78,22 @@ fn mark(n: &[u32; NUMBERS], p: &[u8]) {
         &mut offsets,
         place(0, n[1]),
     );
+    true
 }
 
 // A quick question: the end, the function, how many indices there are, these, and the offsets.
-fn ask(n: &[u32; NUMBERS], count: usize, p: &[u8]) {
+fn ask(n: &[u32; NUMBERS], count: usize, p: &[u8]) -> bool {
     let behind = place(MARKED, n[2]);
     let indices = listed(n, place(MARKED, 0), behind);
     let offsets = listed(n, behind, count);
-    told(wm_quick_function_name(p, indices, offsets, wide(n[0]), n[1]));
+    told(quick(p, indices, offsets, wide(n[0]), FunctionIndex(n[1])))
 }
 
 pub fn answer(call: &[u8], n: &[u32; NUMBERS], count: usize, p: &[u8]) -> bool {
-    if is(call, b"function_names_write") {
-        write(n, count, p);
-        return true;
+    match which(call, b"function_names_write markers quick_function_name") {
+        0 => write(n, count, p),
+        1 => mark(n, p),
+        2 => ask(n, count, p),
+        _ => false,
     }
-    if is(call, b"markers") {
-        mark(n, p);
-        return true;
-    }
-    if is(call, b"quick_function_name") {
-        ask(n, count, p);
-        return true;
-    }
-    false
 }

@@ -1,10 +1,10 @@
 use lib.Seq.{length-take-le}
 use borrow.Author.Needs.{needs}
-use Rattle.worked.proofs.lists.mark_in.Statement.{statement}
-use Rattle.worked.proofs.lists.mark_in.Tie as tie
-use Rattle.worked.proofs.lists.mark_in.Reads as reads
-use Rattle.worked.proofs.lists.mark_in.Lts as lts
-use Rattle.worked.proofs.lists.mark_into.Reads as mark-into-reads
+use Rattle.worked.proofs.lent_lists.mark_in.Statement.{statement}
+use Rattle.worked.proofs.lent_lists.mark_in.Tie as tie
+use Rattle.worked.proofs.lent_lists.mark_in.Reads as reads
+use Rattle.worked.proofs.lent_lists.mark_in.Lts as lts
+use Rattle.worked.proofs.lent_lists.mark_into.Reads as mark-into-reads
 
 slice-relend-prefix-mark-into : tie.Need-slice-relend-prefix-mark-into
 slice-relend-prefix-mark-into c = search needs

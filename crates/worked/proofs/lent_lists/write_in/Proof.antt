@@ -1,10 +1,10 @@
 use lib.Seq.{length-take-le}
 use borrow.Author.Needs.{needs}
-use Rattle.worked.proofs.lists.write_in.Statement.{statement}
-use Rattle.worked.proofs.lists.write_in.Tie as tie
-use Rattle.worked.proofs.lists.write_in.Reads as reads
-use Rattle.worked.proofs.lists.write_in.Lts as lts
-use Rattle.worked.proofs.lists.write_into.Reads as write-into-reads
+use Rattle.worked.proofs.lent_lists.write_in.Statement.{statement}
+use Rattle.worked.proofs.lent_lists.write_in.Tie as tie
+use Rattle.worked.proofs.lent_lists.write_in.Reads as reads
+use Rattle.worked.proofs.lent_lists.write_in.Lts as lts
+use Rattle.worked.proofs.lent_lists.write_into.Reads as write-into-reads
 
 slice-relend-prefix-write-into : tie.Need-slice-relend-prefix-write-into
 slice-relend-prefix-write-into c = search needs
