@@ -50,20 +50,23 @@ fn put(name: &[u8], n: &[u32; NUMBERS], count: usize, p: &[u8], other: &[u8]) ->
     put_plainly(name, n, count, p, other)
 }
 
-pub fn answer(line: &[u8]) {
+// A case with its bytes.
+fn answer_with(line: &[u8], p: &[u8], other: &[u8]) {
     let mut n = [0; NUMBERS];
     let count = numbers(head(line), &mut n);
+    if !put(call(line), &n, count, p, other) {
+        say(b"  there is no such call\n");
+    }
+}
+
+pub fn answer(line: &[u8]) {
     let mut payload = [0; ROOM];
     let length = bytes(first(line), &mut payload);
     let mut other = [0; ROOM];
     let other_length = bytes(second(line), &mut other);
-    if !put(
-        call(line),
-        &n,
-        count,
+    answer_with(
+        line,
         part(&payload, 0, length),
         part(&other, 0, other_length),
-    ) {
-        say(b"  there is no such call\n");
-    }
+    );
 }

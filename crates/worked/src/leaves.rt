@@ -6,22 +6,6 @@ use reading::Cursor;
 use reading::NumberRead;
 use reading::PartRead;
 
-fn number(s: &[u8]) -> NumberRead {
-    let all = Cursor {
-        at: 0,
-        end: s.len(),
-    };
-    all.number(s)
-}
-
-fn name(s: &[u8]) -> PartRead {
-    let all = Cursor {
-        at: 0,
-        end: s.len(),
-    };
-    all.name(s)
-}
-
 fn told_refusal(r: Refusal) -> bool {
     let reason = r.reason;
     let at = r.offset;
@@ -29,16 +13,24 @@ fn told_refusal(r: Refusal) -> bool {
 }
 
 // A number's value, and the offset behind it.
-fn told_value(read: NumberRead) -> bool {
-    match read {
+fn told_number(s: &[u8]) -> bool {
+    let all = Cursor {
+        at: 0,
+        end: s.len(),
+    };
+    match all.number(s) {
         NumberRead::Refused(r) => told_refusal(r),
         NumberRead::Value(v, next, _) => tell(b"  value", &[v as u64, next.at as u64]),
     }
 }
 
 // That a name is accepted, and the offset behind it.
-fn told_name(read: PartRead) -> bool {
-    match read {
+fn told_name(s: &[u8]) -> bool {
+    let all = Cursor {
+        at: 0,
+        end: s.len(),
+    };
+    match all.name(s) {
         PartRead::Refused(r) => told_refusal(r),
         PartRead::Part(_, next, _) => tell(b"  accepted", &[next.at as u64]),
     }
@@ -46,8 +38,8 @@ fn told_name(read: PartRead) -> bool {
 
 pub fn answer(call: &[u8], p: &[u8]) -> bool {
     match which(call, b"number name") {
-        0 => told_value(number(p)),
-        1 => told_name(name(p)),
+        0 => told_number(p),
+        1 => told_name(p),
         _ => false,
     }
 }

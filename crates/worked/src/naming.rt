@@ -53,13 +53,21 @@ fn question(place: usize, a: u32, b: u32) -> Question {
     }
 }
 
+// A call without the word that puts it to two payloads.
+fn unpaired(call: &[u8]) -> &[u8] {
+    if is(first_word(call), b"pair") {
+        return other_words(call);
+    }
+    call
+}
+
 // The bytes of a name, as a part of its payload.
 fn told_part(p: &[u8], edition: Edition, q: Question) -> bool {
     say_bytes(b"  bytes", names::ask_bytes(p, edition, q));
     true
 }
 
-// A question, by the words behind its first.
+// A question to one payload, by the words behind its first.
 fn put(words: &[u8], edition: Edition, q: Question, p: &[u8]) -> bool {
     match which(words, b"name name_in name_bytes") {
         0 => told(names::ask(p, edition, q)),
@@ -69,41 +77,26 @@ fn put(words: &[u8], edition: Edition, q: Question, p: &[u8]) -> bool {
     }
 }
 
-fn ask(call: &[u8], edition: Edition, n: &[u32; NUMBERS], p: &[u8]) -> bool {
-    let place = which(first_word(call), &ASKED);
-    if place < QUESTIONS {
-        return put(other_words(call), edition, question(place, n[0], n[1]), p);
-    }
-    false
-}
-
 // The same over two payloads, the separate one first.
 fn put_to_both(words: &[u8], edition: Edition, q: Question, p: &[u8], own: &[u8]) -> bool {
-    if is(words, b"name") {
-        return told_pair(pairs::ask(p, own, edition, q));
+    match which(words, b"name") {
+        0 => told_pair(pairs::ask(p, own, edition, q)),
+        _ => false,
     }
-    false
 }
 
-fn ask_both(call: &[u8], edition: Edition, n: &[u32; NUMBERS], p: &[u8], own: &[u8]) -> bool {
-    let place = which(first_word(call), &ASKED);
-    if place < QUESTIONS {
-        return put_to_both(
-            other_words(call),
-            edition,
-            question(place, n[0], n[1]),
-            p,
-            own,
-        );
-    }
-    false
-}
-
+// A question to two payloads is one that lost a word.
 fn asked(call: &[u8], edition: Edition, n: &[u32; NUMBERS], p: &[u8], own: &[u8]) -> bool {
-    if is(first_word(call), b"pair") {
-        return ask_both(other_words(call), edition, n, p, own);
+    let words = unpaired(call);
+    let place = which(first_word(words), &ASKED);
+    if QUESTIONS <= place {
+        return false;
     }
-    ask(call, edition, n, p)
+    let q = question(place, n[0], n[1]);
+    if words.len() == call.len() {
+        return put(other_words(words), edition, q, p);
+    }
+    put_to_both(other_words(words), edition, q, p, own)
 }
 
 // Whether a payload is canonical.

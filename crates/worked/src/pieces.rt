@@ -103,7 +103,7 @@ pub fn is(s: &[u8], word: &[u8]) -> bool {
     true
 }
 
-// Where a word stands in a list of words, counted from 0: behind the last, where it does not.
+// Where a word stands in a list of words, counted from 0: behind the last, where it does not. So a group of calls is told apart by one call, and not by a comparison with each word.
 pub fn which(word: &[u8], list: &[u8]) -> usize {
     let mut count = 0;
     let mut at = 0;

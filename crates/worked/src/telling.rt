@@ -26,9 +26,6 @@ const SEPARATE: u64 = 1;
 
 const OWN: u64 = 2;
 
-// So many numbers say why: code, offset, position, and on either side whether there is a neighbour and its index.
-const EXPLAINED: usize = 7;
-
 pub fn say(words: &[u8]) {
     io::write_all(STDOUT_FILENO, words);
 }
@@ -60,27 +57,35 @@ pub fn tell(words: &[u8], numbers: &[u64]) -> bool {
 }
 
 // Code, offset and length.
-fn told_place(code: u8, offset: Offset, length: usize) -> bool {
-    tell(b"  found", &[code as u64, offset.0 as u64, length as u64])
+fn tell_answer(words: &[u8], code: u64, offset: u64, length: u64) -> bool {
+    tell(words, &[code, offset, length])
+}
+
+fn told_none() -> bool {
+    tell_answer(b"  none", 0, 0, 0)
+}
+
+fn told_place(code: u8, at: Offset, length: usize) -> bool {
+    tell_answer(b"  found", code as u64, at.0 as u64, length as u64)
+}
+
+// So many bytes from the front: the whole payload, where it was accepted, or what was written. A walk tells how many sections there are in the same words.
+fn told_all(length: usize) -> bool {
+    tell_answer(b"  found", 0, 0, length as u64)
 }
 
 fn told_refusal(r: Refusal) -> bool {
     let reason = r.reason;
     let at = r.offset;
-    tell(b"  refused", &[reason.number() as u64, at.0 as u64, 0])
+    tell_answer(b"  refused", reason.number() as u64, at.0 as u64, 0)
 }
 
 pub fn told(answer: Answer) -> bool {
     match answer {
-        Answer::None => tell(b"  none", &[0, 0, 0]),
+        Answer::None => told_none(),
         Answer::Refused(r) => told_refusal(r),
         Answer::Found(p) => told_place(0, p.offset, p.length),
     }
-}
-
-// So many bytes from the front: the whole payload, where it was accepted, or what was written. A walk tells how many sections there are in the same words.
-fn told_all(length: usize) -> bool {
-    tell(b"  found", &[0, 0, length as u64])
 }
 
 pub fn told_verdict(verdict: Verdict, length: usize) -> bool {
@@ -106,25 +111,26 @@ pub fn told_length(written: Written) -> bool {
 
 pub fn told_section(answer: SectionAnswer) -> bool {
     match answer {
-        SectionAnswer::None => told(Answer::None),
+        SectionAnswer::None => told_none(),
         SectionAnswer::Refused(r) => told_refusal(r),
         SectionAnswer::Found(p) => told_place(p.id, p.at, p.length),
     }
 }
 
-fn told_likelihood(hint: Hint) -> bool {
-    match hint {
-        Hint::Unlikely => tell(b"  unlikely", &[0, 0, 0]),
-        Hint::Likely => tell(b"  likely", &[0, 0, 0]),
+pub fn told_hint(answer: HintAnswer) -> bool {
+    match answer {
+        HintAnswer::None => told_none(),
+        HintAnswer::Refused(r) => told_refusal(r),
+        HintAnswer::Found(hint) => match hint {
+            Hint::Unlikely => tell_answer(b"  unlikely", 0, 0, 0),
+            Hint::Likely => tell_answer(b"  likely", 0, 0, 0),
+        },
     }
 }
 
-pub fn told_hint(answer: HintAnswer) -> bool {
-    match answer {
-        HintAnswer::None => told(Answer::None),
-        HintAnswer::Refused(r) => told_refusal(r),
-        HintAnswer::Found(hint) => told_likelihood(hint),
-    }
+// The same, and whose it is.
+fn tell_whose(words: &[u8], code: u64, offset: u64, length: u64, whose: u64) -> bool {
+    tell(words, &[code, offset, length, whose])
 }
 
 fn of_whose(whose: Whose) -> u64 {
@@ -134,24 +140,20 @@ fn of_whose(whose: Whose) -> u64 {
     }
 }
 
-// Code, offset and length, and whose it is.
 fn told_its_refusal(whose: u64, r: Refusal) -> bool {
     let reason = r.reason;
     let at = r.offset;
-    tell(
-        b"  refused",
-        &[reason.number() as u64, at.0 as u64, 0, whose],
-    )
+    tell_whose(b"  refused", reason.number() as u64, at.0 as u64, 0, whose)
 }
 
 fn told_its_place(whose: u64, p: Place) -> bool {
     let at = p.offset;
-    tell(b"  found", &[0, at.0 as u64, p.length as u64, whose])
+    tell_whose(b"  found", 0, at.0 as u64, p.length as u64, whose)
 }
 
 pub fn told_pair(answer: PairAnswer) -> bool {
     match answer {
-        PairAnswer::None => tell(b"  none", &[0, 0, 0, NOBODY]),
+        PairAnswer::None => tell_whose(b"  none", 0, 0, 0, NOBODY),
         PairAnswer::Refused(whose, r) => told_its_refusal(of_whose(whose), r),
         PairAnswer::Found(whose, p) => told_its_place(of_whose(whose), p),
     }
@@ -161,8 +163,13 @@ pub fn told_join(written: JoinWritten) -> bool {
     match written {
         JoinWritten::PayloadRefused(whose, r) => told_its_refusal(of_whose(whose), r),
         JoinWritten::Refused(r) => told_its_refusal(NOBODY, r),
-        JoinWritten::Length(n) => tell(b"  found", &[0, 0, n as u64, NOBODY]),
+        JoinWritten::Length(n) => tell_whose(b"  found", 0, 0, n as u64, NOBODY),
     }
+}
+
+// Code, offset and position; no neighbours.
+fn tell_why(words: &[u8], code: u64, offset: u64, position: u64) -> bool {
+    tell(words, &[code, offset, position, 0, 0, 0, 0])
 }
 
 // Whether there is a neighbour, and its index.
@@ -191,18 +198,14 @@ fn told_between(below: Side, above: Side) -> bool {
 fn told_why_refused(r: Refusal) -> bool {
     let reason = r.reason;
     let at = r.offset;
-    tell(
-        b"  refused",
-        &[reason.number() as u64, at.0 as u64, 0, 0, 0, 0, 0],
-    )
+    tell_why(b"  refused", reason.number() as u64, at.0 as u64, 0)
 }
 
-// Code, offset, position, and on either side whether there is a neighbour and its index.
 pub fn told_why(why: Why) -> bool {
     match why {
-        Why::Named(id, position) => tell(b"  found", &[id as u64, 0, position as u64, 0, 0, 0, 0]),
-        Why::NoSubsection => tell(b"  no subsection", &[0; EXPLAINED]),
-        Why::NoGroup => tell(b"  no group", &[0; EXPLAINED]),
+        Why::Named(id, position) => tell_why(b"  found", id as u64, 0, position as u64),
+        Why::NoSubsection => tell_why(b"  no subsection", 0, 0, 0),
+        Why::NoGroup => tell_why(b"  no group", 0, 0, 0),
         Why::NoEntry(below, above) => told_between(on_side(below), on_side(above)),
         Why::Refused(r) => told_why_refused(r),
     }
@@ -210,10 +213,7 @@ pub fn told_why(why: Why) -> bool {
 
 // A yes or no.
 pub fn told_yes(yes: bool) -> bool {
-    if yes {
-        return tell(b" ", &[1]);
-    }
-    tell(b" ", &[0])
+    tell(b" ", &[yes as u64])
 }
 
 // Bytes, in hexadecimal.
