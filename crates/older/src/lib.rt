@@ -4,6 +4,9 @@ ghost use Rattle.format.specs.Older.{times, vector, olderHint, olderEntry, firs
 ghost use Rattle.reading.specs.Cursors.{Inside};
 ghost use Rattle.older.specs.Seeking.{atOffset, firstWhere, inFunction, nothing, asked, Seeks, firstHeld, heldAs, filledWith};
 ghost use Rattle.older.specs.Promises.{older-hint-in, older-judge-in, older-judge, older-hint};
+use crate::judging::entries;
+use crate::judging::kind;
+use crate::judging::zero_byte;
 use format::FunctionIndex;
 use format::Hint;
 use format::HintAnswer;
@@ -12,9 +15,6 @@ use format::Offset;
 use format::Reason;
 use format::Refusal;
 use format::Verdict;
-use judging::entries;
-use judging::kind;
-use judging::zero_byte;
 use reading::Cursor;
 use reading::NumberRead;
 
