@@ -30,7 +30,7 @@ struct Bar<'a> {
 /// Rewriting older hints: in order it is a few passes, and out of order they are sorted without any memory but the output.
 /// Markers: thirteen in a hundred more than judging, whatever the names are like, and a quick question among 14,000 of them.
 const BARS: [Bar<'static>; 14] = [
-    rewriting("old-hints", 4.0),
+    rewriting("old-hints", 5.0),
     rewriting("old-hints-shuffled", 500.0),
     rewriting("old-hints-apart-shuffled", 500.0),
     rewriting("old-hints-falling", 1_500.0),
@@ -368,7 +368,7 @@ mod tests {
         let said = lines(&rows).expect("none is broken");
         let walks = payloads_of(&rows, Operation::Walk).count();
         assert_eq!(said.lines().count(), bars().count() + walks);
-        assert!(said.starts_with("old-hints: 'rewrite old hints' takes 4.000 times 'judge old hints', at most 4 is the bar"));
+        assert!(said.starts_with("old-hints: 'rewrite old hints' takes 5.000 times 'judge old hints', at most 5 is the bar"));
     }
 
     #[test]
