@@ -18,14 +18,14 @@ use Rattle.format.specs.Laws.Codecs.{Sorted, end, next, sized-codec}
 use Rattle.format.specs.Laws.Merging.{sorted-row}
 use Rattle.format.specs.Laws.Names.{SubFine, payload-sound}
 use Rattle.format.specs.Laws.Outcomes.{byTest}
-use Rattle.names.specs.Frames.{behindId}
+use Rattle.names.specs.Frames.{behindId, FrameStands as FrameThere}
 use Rattle.reading.specs.Cursors.{left}
 use Rattle.reading.specs.Standing.{Known, TakesPart}
 use Rattle.reading.specs.declared.Cursor.{Cursor}
 use Rattle.reading.specs.declared.again.Piece.{Piece}
 use Rattle.tables.specs.declared.Held.{Held}
 use Rattle.tables.specs.declared.Held.the-variants.{Nothing, Part as APart}
-use Rattle.rewrite.specs.Subsections.{PayloadStands, FrameStands as FrameThere}
+use Rattle.rewrite.specs.Subsections.{PayloadStands}
 use Rattle.rewrite.proofs.SubsectionLaws.{nothing-to-come, front, frame-known, content-known, onward}
 use Rattle.joining.specs.Contents.{HeldContent}
 use Rattle.joining.specs.Subsections.{KnownFrames, FrameStands, FrameHere, FrameTaken, SubsectionNext}
