@@ -69,7 +69,7 @@ use Rattle.promises.specs.Laws.Exactly.{RefusedBy, JudgedThrough, walkRe
 use Rattle.promises.specs.Laws.Entries.{lists-names, lists-metadata, lists-hints}
 use Rattle.promises.specs.Laws.ListsRefused.{lists-refused}
 use Rattle.promises.specs.Laws.Faults.{answers-otherwise, writes-otherwise, faults, or-short, older-or-short, through-faults, format-faults}
-use Rattle.promises.specs.Laws.Rows.{rows-refused, rows-numbered, came-rows}
+use Rattle.promises.specs.Laws.Rows.{rows-answered, came-rows}
 use Rattle.promises.specs.Laws.OldLists.{rows as olderListed, older-came, functions-listed, offsets-listed, likely-listed, row-told, every-row, no-row, rows-risen}
 use Rattle.promises.specs.Laws.Older.{older-likely, older-unlikely, older-none, older-hint-refused, older-refused, older-never-15, older-ordered, sections-apart, never-empty}
 use Rattle.promises.specs.Laws.Refusing.{Numbered, FairlyJudged, names-fair, any-fair, hint-fair, item-of-fair, items-fair, older-fair, older-fair-by, walk-fair}
@@ -456,11 +456,7 @@ pub old-hints-listed : OldHintsListed
 old-hints-listed = λ p fs os ks fs′ os′ ks′ a. record {
   answers = λ b w.
       let c = older-came p fs os ks fs′ os′ ks′ a w in
-      record {
-        answers = came-rows olderListed (judgeOlder 0 p) c;
-        refuses = rows-refused olderColumns (λ es. some (olderListed es)) (judgeOlder 0 p) (fs ∷ os ∷ ks ∷ []) (fs′ ∷ os′ ∷ ks′ ∷ []) a c (OlderFault p) (faults (older-hints-refused 0) p b);
-        numbered = rows-numbered olderColumns (λ es. some (olderListed es)) (judgeOlder 0 p) (fs ∷ os ∷ ks ∷ []) (fs′ ∷ os′ ∷ ks′ ∷ []) a c (older-fair 0 p .numbered);
-      };
+      rows-answered olderColumns (λ es. some (olderListed es)) (judgeOlder 0 p) (fs ∷ os ∷ ks ∷ []) (fs′ ∷ os′ ∷ ks′ ∷ []) a c (OlderFault p) (faults (older-hints-refused 0) p b) (older-fair 0 p .numbered) (came-rows olderListed (judgeOlder 0 p) c);
   functions-left = functions-listed p fs os ks fs′ os′ ks′ a;
   offsets-left = offsets-listed p fs os ks fs′ os′ ks′ a;
   likely-left = likely-listed p fs os ks fs′ os′ ks′ a;

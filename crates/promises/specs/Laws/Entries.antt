@@ -42,7 +42,7 @@ use Rattle.promises.specs.Laws.EntryRows.{bareRow, RowIn, IsHint, Meant,
 use Rattle.promises.specs.Laws.Faults.{faults}
 use Rattle.promises.specs.Laws.Markers.{put-first, first-of}
 use Rattle.promises.specs.Laws.OldLists.{at-inside, map-at}
-use Rattle.promises.specs.Laws.Rows.{Came, cameRefused, cameNone, cameShort, cameListed, came, came-unchanged, rows-refused, rows-numbered, came-reply, came-rows, came-none}
+use Rattle.promises.specs.Laws.Rows.{Came, cameRefused, cameNone, cameShort, cameListed, came, came-unchanged, rows-answered, came-reply, came-rows, came-none}
 use Rattle.promises.specs.Laws.Refusing.{names-fair, any-fair, hint-fair, items-fair}
 use Rattle.promises.specs.Laws.WrittenBack.{textOf, indicesOf, lengthsOf, namesOf, written-back}
 
@@ -220,11 +220,7 @@ pub lists-names : {Ids : ℕ → Kind → Type 0} {kindOf : ℕ → Kind} → Sa
 lists-names {Ids} {kindOf} ids = record {
   answers = λ p id lists lists′ a b w.
       let c = came placeColumns _ lists lists′ a (names-found kindOf id p w) in
-      record {
-        answers = came-reply c;
-        refuses = rows-refused placeColumns (λ t. thenSome (lookup id t) contentRows) (judgeNames kindOf 0 p) lists lists′ a c (NamePayloadFault Ids p) (faults (ids-refused ids 0) p b);
-        numbered = rows-numbered placeColumns (λ t. thenSome (lookup id t) contentRows) (judgeNames kindOf 0 p) lists lists′ a c (names-fair kindOf 0 p .numbered);
-      };
+      rows-answered placeColumns (λ t. thenSome (lookup id t) contentRows) (judgeNames kindOf 0 p) lists lists′ a c (NamePayloadFault Ids p) (faults (ids-refused ids 0) p b) (names-fair kindOf 0 p .numbered) (came-reply c);
   unchanged = λ p id lists lists′ a w. came-unchanged (came placeColumns (nameRows kindOf id p) lists lists′ a w);
   left = λ p id fs ss os ns fs′ ss′ os′ ns′ a w.
       let l = left-by (came placeColumns (nameRows kindOf id p) (fs ∷ ss ∷ os ∷ ns ∷ []) (fs′ ∷ ss′ ∷ os′ ∷ ns′ ∷ []) a w) in
@@ -241,11 +237,7 @@ pub lists-metadata : MetadataListed
 lists-metadata = record {
   answers = λ p lists lists′ a b w.
       let c = came placeColumns _ lists lists′ a (items-found anyItem p w) in
-      record {
-        answers = came-rows groupRows (judgeMetadata anyItem 0 p) c;
-        refuses = rows-refused placeColumns (λ t. some (groupRows t)) (judgeMetadata anyItem 0 p) lists lists′ a c (MetadataFault Unknown AnyItemFault p) (faults (metadata-refused 0) p b);
-        numbered = rows-numbered placeColumns (λ t. some (groupRows t)) (judgeMetadata anyItem 0 p) lists lists′ a c (items-fair any-fair 0 p .numbered);
-      };
+      rows-answered placeColumns (λ t. some (groupRows t)) (judgeMetadata anyItem 0 p) lists lists′ a c (MetadataFault Unknown AnyItemFault p) (faults (metadata-refused 0) p b) (items-fair any-fair 0 p .numbered) (came-rows groupRows (judgeMetadata anyItem 0 p) c);
   unchanged = λ p lists lists′ a w. came-unchanged (came placeColumns (itemRows anyItem p) lists lists′ a w);
   left = λ p fs ss os ns fs′ ss′ os′ ns′ a w.
       let l = left-by (came placeColumns (itemRows anyItem p) (fs ∷ ss ∷ os ∷ ns ∷ []) (fs′ ∷ ss′ ∷ os′ ∷ ns′ ∷ []) a w) in
@@ -260,11 +252,7 @@ pub lists-hints : HintsListed
 lists-hints = record {
   answers = λ p lists lists′ a b w.
       let c = came hintColumns _ lists lists′ a (items-found hintItem p w) in
-      record {
-        answers = came-rows groupRows (judgeMetadata hintItem 0 p) c;
-        refuses = rows-refused hintColumns (λ t. some (groupRows t)) (judgeMetadata hintItem 0 p) lists lists′ a c (MetadataFault BranchHint HintFault p) (faults (hints-refused 0) p b);
-        numbered = rows-numbered hintColumns (λ t. some (groupRows t)) (judgeMetadata hintItem 0 p) lists lists′ a c (items-fair hint-fair 0 p .numbered);
-      };
+      rows-answered hintColumns (λ t. some (groupRows t)) (judgeMetadata hintItem 0 p) lists lists′ a c (MetadataFault BranchHint HintFault p) (faults (hints-refused 0) p b) (items-fair hint-fair 0 p .numbered) (came-rows groupRows (judgeMetadata hintItem 0 p) c);
   unchanged = λ p lists lists′ a w. came-unchanged (came hintColumns (itemRows hintItem p) lists lists′ a w);
   left = λ p fs os ls fs′ os′ ls′ a w.
       let l = left-by (came hintColumns (itemRows hintItem p) (fs ∷ os ∷ ls ∷ []) (fs′ ∷ os′ ∷ ls′ ∷ []) a w) in

@@ -16,7 +16,7 @@ use Rattle.format.specs.Reading.{Judged, accepted, refused, mapJudged}
 use Rattle.grammar.specs.Modules.{Among, here, further}
 use Rattle.wakemiono.specs.Boundary.{wmNone, wmFound, wmRefused, WmLists}
 use Rattle.wakemiono.specs.declared.WmAnswer.{WmAnswer}
-use Rattle.promises.specs.Demands.{Reply, replyNone, replyFound, replyRefused, numbers, isAmong, RowsReply, rowsListed, rowsRefused, RowsRefused, unlisted, fewPlaces, rowCount}
+use Rattle.promises.specs.Demands.{Answers, Reply, replyNone, replyFound, replyRefused, numbers, isAmong, RowsReply, rowsListed, rowsRefused, RowsRefused, unlisted, fewPlaces, rowCount}
 use Rattle.promises.specs.Laws.Telling.{byJudged}
 
 -- WHAT A CALL COMES TO: a refusal, none, 13, or all rows in every list
@@ -124,7 +124,7 @@ module _ {A X : Type 0} (columns : List (Listed X → ℕ)) (f : A → Option (L
           let there : RowsRefused (λ n at. j ≡ refused n at) j (λ v. rowCount (f v)) lists 13 (rowCount (f v)) = fewPlaces e₁ h (rw many few) in
           rw (← codes s q, ← places s q, ← many) there
 
-  pub rows-refused : (Fault : (number offset : ℕ) → Type 0) → ((n at : ℕ) → (j ≡ refused n at) ↔ Fault n at) → (n at : ℕ) → (a ≡ wmRefused n at) ↔ RowsRefused Fault j (λ v. rowCount (f v)) lists n at
+  rows-refused : (Fault : (number offset : ℕ) → Type 0) → ((n at : ℕ) → (j ≡ refused n at) ↔ Fault n at) → (n at : ℕ) → (a ≡ wmRefused n at) ↔ RowsRefused Fault j (λ v. rowCount (f v)) lists n at
   rows-refused Fault same n at = (λ e. to (refused-to e), λ r. refused-from (from r))
     where
       to : {n at : ℕ} → Unlisted n at → RowsRefused Fault j (λ v. rowCount (f v)) lists n at
@@ -136,12 +136,16 @@ module _ {A X : Type 0} (columns : List (Listed X → ℕ)) (f : A → Option (L
       from (fewPlaces e h few) = fewPlaces e h few
 
   -- and its number is one of the list
-  pub rows-numbered : ((n at : ℕ) → j ≡ refused n at → isAmong numbers n ≡ true) → (n at : ℕ) → a ≡ wmRefused n at → isAmong numbers n ≡ true
+  rows-numbered : ((n at : ℕ) → j ≡ refused n at → isAmong numbers n ≡ true) → (n at : ℕ) → a ≡ wmRefused n at → isAmong numbers n ≡ true
   rows-numbered fair n at e = of (refused-to e)
     where
       of : {n at : ℕ} → Unlisted n at → isAmong numbers n ≡ true
       of (unlisted {number = n} {offset = at} e) = fair n at e
       of (fewPlaces e h few) = refl
+
+  -- so demand 1 holds of the call, in whatever forms it answers
+  pub rows-answered : {Forms : WmAnswer → Type 0} (Fault : (number offset : ℕ) → Type 0) → ((n at : ℕ) → (j ≡ refused n at) ↔ Fault n at) → ((n at : ℕ) → j ≡ refused n at → isAmong numbers n ≡ true) → Forms a → Answers Forms (RowsRefused Fault j (λ v. rowCount (f v)) lists) a
+  rows-answered Fault same fair forms = record { answers = forms; refuses = rows-refused Fault same; numbered = rows-numbered fair }
 
 pub came-reply : {X : Type 0} {columns : List (Listed X → ℕ)} {found : Judged (Option (List (Listed X)))} {lists lists′ : List (List ℕ)} {a : WmAnswer} → Came columns found lists lists′ a → Reply a
 came-reply (cameRefused n at e q is) = rw q (replyRefused n at)
