@@ -12,7 +12,6 @@ use denote.Enum.Declared.{tagOf}
 use lib.Dec.{ltb, eqb}
 use lib.Seq.{slice-empty, slice-cons, length-slice}
 use Rattle.format.specs.Reading.{Outcome, got, stop, Reader, andThen, return, atEnd, filling, Judged as AnyJudged, accepted, refused, judge, mapJudged, verdict}
-use Rattle.format.specs.Options.{thenSome}
 use Rattle.format.specs.Parts.{Part, sized, name, remaining}
 use Rattle.format.specs.Tables.{lookup, table}
 use Rattle.format.specs.Names.{Kind as AnyKind, oneName, nameMap, indirectMap, known, knownKind, wider, widerKind, kindIn, Content, single, names, namesBy, contents}

@@ -16,11 +16,11 @@ use Rattle.format.specs.declared.Query.{Query}
 use Rattle.format.specs.Laws.Outcomes.{got-value, got-next, got-rest, byTest, inTurn, passed, judged, mapped, accepted-is}
 use Rattle.format.specs.Laws.Turns.{inSubsection}
 use Rattle.names.specs.Contents.{asksIn}
-use Rattle.names.specs.Frames.{frame, each, frames, judgeFrames, readUnder}
+use Rattle.names.specs.Frames.{frame, frames, judgeFrames, readUnder}
 
 -- subsections that were read: the first of them, and those behind it
 pub inFrames {ℓ} : {C : Type ℓ} (most least o id : ℕ) (bs : List ℕ) {t : Table Part} {o′ : ℕ} {rest : List ℕ} → frames (suc most) least o (id ∷ bs) ≡ got t o′ rest → ((p : Part) (o₁ : ℕ) (r₁ : List ℕ) (more : Table Part) → sized (suc o) bs ≡ got p o₁ r₁ → frames most (suc id) o₁ r₁ ≡ got more o′ rest → row id p more ≡ t → C) → C
-unfolding frames each frame
+unfolding frames frame
 inFrames most least o id bs e k =
     inTurn (frame least o (id ∷ bs)) _ e λ h o₁ r₁ e₁ e₂.
     passed (leb least id) _ _ _ _ _ e₁ λ t e₃. inTurn (sized (suc o) bs) _ e₃ λ p o₂ r₂ e₄ e₅.
@@ -29,7 +29,7 @@ inFrames most least o id bs e k =
 
 -- none are left at the end
 pub no-frames : (most least o : ℕ) {t : Table Part} {o′ : ℕ} {rest : List ℕ} → frames most least o [] ≡ got t o′ rest → nil ≡ t
-unfolding frames each frame
+unfolding frames frame
 no-frames zero least o e = got-value e
 no-frames (suc most) least o e = got-value e
 
@@ -45,7 +45,7 @@ module _ (kindOf : ℕ → Kind) where
   nothing-lies most least o bs f e = record { table = nil; framed-so = f ∙ rw (got-next e, got-rest e); stands = λ id. rw (← got-value e) }
 
   pub subsections-lie : (most least o : ℕ) (bs : List ℕ) {t : Table (Content Part)} {o′ : ℕ} {rest : List ℕ} → subsections kindOf most least o bs ≡ got t o′ rest → Lying most least o bs t o′ rest
-  unfolding subsections frames each frame lookup
+  unfolding subsections frames frame lookup
   subsections-lie zero least o bs e = nothing-lies zero least o bs refl e
   subsections-lie (suc most) least o [] e = nothing-lies (suc most) least o [] refl e
   subsections-lie (suc most) least o (id ∷ bs) e =

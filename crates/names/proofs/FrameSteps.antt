@@ -25,7 +25,7 @@ use Rattle.names.proofs.frames.FrameRead as frame-type
 
 -- The frame: the id byte, its order, and the size
 module _ {least : ℕ} {s : List ℕ} {c : Cursor} (i : Inside s c) where
-  pub frame-end : c .end ≤ c .at → FrameReads frame least s c End
+  pub frame-end : c .end ≤ c .at → FrameReads least s c End
   unfolding frame
   frame-end h =
       let q : c .end ≡ c .at = omega (arith, i .ahead) in
@@ -33,7 +33,7 @@ module _ {least : ℕ} {s : List ℕ} {c : Cursor} (i : Inside s c) where
       record { means = rw nothing; forward = tt; tells = tt }
 
   module _ {b : ℕ} (h : c .at < c .end) (w : b ≡ getD s (c .at) 0) where
-    pub frame-low : b < least → FrameReads frame least s c (Refused (record { reason = SubsectionOrder; offset = record { 0 = c .at } }))
+    pub frame-low : b < least → FrameReads least s c (Refused (record { reason = SubsectionOrder; offset = record { 0 = c .at } }))
     unfolding frame
     frame-low l = record { means = rw (slice-cons (c .at) (c .end) s 0 h (i .within), ← w, lt-leb least b l); forward = tt; tells = tt }
 
@@ -41,11 +41,11 @@ module _ {least : ℕ} {s : List ℕ} {c : Cursor} (i : Inside s c) where
       sized-there : sized (suc (c .at)) (slice (suc (c .at)) (c .end) s) ≡ sized (c .at + 1) (left s (behindId c))
       sized-there = rw add-one
 
-      pub frame-refused : {r : Refusal} → x ≡ NoPart r → FrameReads frame least s c (Refused r)
+      pub frame-refused : {r : Refusal} → x ≡ NoPart r → FrameReads least s c (Refused r)
       unfolding frame
       frame-refused e = record { means = rw (slice-cons (c .at) (c .end) s 0 h (i .within), ← w, le-leb least b l, sized-there, ← rw e at (p .means)); forward = tt; tells = tt }
 
-      pub frame-taken : {part next : Cursor} {told : Bool} → x ≡ APart part next told → FrameReads frame least s c (Frame (getD s (c .at) 0) part next told)
+      pub frame-taken : {part next : Cursor} {told : Bool} → x ≡ APart part next told → FrameReads least s c (Frame (getD s (c .at) 0) part next told)
       unfolding frame
       frame-taken e =
           let behind : Inside s (behindId c) = record { ahead = omega arith; within = i .within } in

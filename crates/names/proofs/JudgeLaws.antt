@@ -44,7 +44,7 @@ use Rattle.names.proofs.FrameSteps.{as-end}
 use Rattle.names.proofs.FrameLaws.{inFrames, no-frames}
 
 -- a subsection that was read
-module _ {least : ℕ} {s : List ℕ} {c : Cursor} {x : FrameRead} (p : FrameReads frame least s c x) where
+module _ {least : ℕ} {s : List ℕ} {c : Cursor} {x : FrameRead} (p : FrameReads least s c x) where
   module _ {id : ℕ} {part next : Cursor} {told : Bool} (e : x ≡ Frame id part next told) where
     pub forward : Forward least s c id part next
     forward = rw e at (p .forward)
@@ -56,7 +56,7 @@ module _ {least : ℕ} {s : List ℕ} {c : Cursor} {x : FrameRead} (p : FrameRea
     frame-inside = forward .in-part
 
 -- where the end is kept beside the place
-pub frame-onward : {least : ℕ} {s : List ℕ} {at end : ℕ} {x : FrameRead} {id : ℕ} {part next : Cursor} {told : Bool} → FrameReads frame least s (record { at = at; end = end }) x → x ≡ Frame id part next told → end - next .at < end - at
+pub frame-onward : {least : ℕ} {s : List ℕ} {at end : ℕ} {x : FrameRead} {id : ℕ} {part next : Cursor} {told : Bool} → FrameReads least s (record { at = at; end = end }) x → x ≡ Frame id part next told → end - next .at < end - at
 frame-onward p e = let f = forward p e in omega (arith, f .moves, f .same-end, f .in-rest .ahead)
 
 pub as-refused : (x : FrameRead) → tagOf frame-type.the-type x ≡ 2 → (r : Refusal) × (x ≡ NoFrame r)
@@ -69,7 +69,7 @@ module _ (kindOf : ℕ → Kind) where
   abbrev then : (most id : ℕ) → Content Part → Reader (Table (Content Part))
   then most id c = subsections kindOf most (suc id) >>= λ more. return (row id c more)
 
-  abbrev onward : ℕ → Option (Headed Part) → Reader (Table (Content Part))
+  abbrev onward : ℕ → Option Headed → Reader (Table (Content Part))
   onward most none = return nil
   onward most (some h) = inside (contents (kindOf (h .id))) (h .value) >>= then most (h .id)
 
@@ -111,7 +111,7 @@ module _ {kindOf : ℕ → Kind} {s : List ℕ} {c : Cursor} where
   unfolding judgeNames payload
   turn-begins i = record { most = length (left s c); inside = i; enough = omega (arith, length-slice (c .at) (c .end) s (i .within)); same = refl }
 
-  module _ {next : Cursor} {least : ℕ} {x : FrameRead} (t : Turn kindOf s c next least) (f : FrameReads frame least s next x) where
+  module _ {next : Cursor} {least : ℕ} {x : FrameRead} (t : Turn kindOf s c next least) (f : FrameReads least s next x) where
     opened : verdict (judgeNames kindOf (c .at) (left s c)) ≡ verdict (judge (andThen (frame least (next .at) (left s next)) (onward kindOf (t .most - 1))))
     opened = t .same ∙ ap (λ r. verdict (judge r)) (by-frame kindOf (t .most) least (next .at) (left s next) (omega (arith, t .enough, length-slice (next .at) (next .end) s (t .inside .within))))
 
@@ -125,7 +125,7 @@ module _ {kindOf : ℕ → Kind} {s : List ℕ} {c : Cursor} where
       pub turn-bad : {r : Refusal} → y ≡ NotAnswered r → verdictOf (IsRefused r) ≡ verdict (judgeNames kindOf (c .at) (left s c))
       turn-bad {r} q = stops (contents (kindOf id) (part .at) (left s part)) r (after .at) (left s after) (then kindOf (t .most - 1) id) (rw (q, k) at (v .says)) ∙ sym (opened ∙ rw (← rw e at (f .means)))
 
-  module _ {at end least : ℕ} {x : FrameRead} (t : Turn kindOf s c (record { at = at; end = end }) least) (f : FrameReads frame least s (record { at = at; end = end }) x) {id : ℕ} {part after : Cursor} {told : Bool} (e : x ≡ Frame id part after told) {kind : Kind} {y : Answer} (k : kind ≡ kindOf id) (v : Rules kind s part y) where
+  module _ {at end least : ℕ} {x : FrameRead} (t : Turn kindOf s c (record { at = at; end = end }) least) (f : FrameReads least s (record { at = at; end = end }) x) {id : ℕ} {part after : Cursor} {told : Bool} (e : x ≡ Frame id part after told) {kind : Kind} {y : Answer} (k : kind ≡ kindOf id) (v : Rules kind s part y) where
     pub turn-next : (tagOf answer-type.the-type y ≡ 0) ⊎ (tagOf answer-type.the-type y ≡ 1) → Turn kindOf s c (record { at = after .at; end = end }) (id + 1)
     turn-next n =
         let far = forward f e in

@@ -2,15 +2,13 @@
 use Prim.Native.Nat.{ℕ}
 use mathlib.Core.Bool.{Bool}
 use mathlib.Core.List.{List}
-use mathlib.Core.Option.{Option, none, some}
-use mathlib.Core.Path.{_≡_, refl, sym, ap, subst, _∙_}
-use Rattle.format.specs.Reading.{Reader}
+use mathlib.Core.Option.{Option}
+use mathlib.Core.Path.{_≡_, refl, sym, ap, _∙_}
 use Rattle.format.specs.Parts.{Part}
-use Rattle.format.specs.Tables.{Table}
 use Rattle.format.specs.Names.{Kind as AnyKind, oneName, nameMap, indirectMap, kept}
-use Rattle.format.specs.Laws.Outcomes.{not-got, got-value, got-next, not-accepted, accepted-is}
+use Rattle.format.specs.Laws.Outcomes.{not-got, got-value, got-next}
 use Rattle.format.specs.Laws.Options.{not-some, some-is}
-use Rattle.format.specs.Laws.Refusals.{same-judgement, same-stop}
+use Rattle.format.specs.Laws.Refusals.{same-stop}
 use Rattle.reading.specs.declared.Cursor.{Cursor}
 use Rattle.reading.proofs.Same.{same-cursor, same-part}
 use Rattle.reading.proofs.Standing.{part-here-same}
@@ -59,16 +57,16 @@ pub kind-same : (a b : Kind) → kindMeant a ≡ kindMeant b → a ≡ b
 kind-same a b e = sym (kind-is a) ∙ ap kindOf e ∙ kind-is b
 
 -- a subsection
-same-frame : {read : ℕ → Reader (Option (Headed Part))} {least : ℕ} {s : List ℕ} {c : Cursor} {id k : ℕ} {part next part′ next′ : Cursor} {told told′ : Bool} → FrameReads read least s c (Frame id part next told) → FrameReads read least s c (Frame k part′ next′ told′) → Frame id part next told ≡ Frame k part′ next′ told′
+same-frame : {least : ℕ} {s : List ℕ} {c : Cursor} {id k : ℕ} {part next part′ next′ : Cursor} {told told′ : Bool} → FrameReads least s c (Frame id part next told) → FrameReads least s c (Frame k part′ next′ told′) → Frame id part next told ≡ Frame k part′ next′ told′
 same-frame {part = part} {next = next} {part′ = part′} {next′ = next′} {told = told} {told′ = told′} p q =
     let one = p .means ∙ sym (q .means) in
     let headed = some-is (got-value one) in
-    let parts = same-part part part′ (p .forward .in-part) (q .forward .in-part) (ap (λ (h : Headed Part). h .value) headed) in
+    let parts = same-part part part′ (p .forward .in-part) (q .forward .in-part) (ap (λ (h : Headed). h .value) headed) in
     let behind = same-cursor next next′ (got-next one) (p .forward .same-end ∙ sym (q .forward .same-end)) in
     let tells : told ≡ told′ = p .tells ∙ rw (parts, behind) (sym (q .tells)) in
     λ i. Frame (headed i .id) (parts i) (behind i) (tells i)
 
-pub frame-same : {read : ℕ → Reader (Option (Headed Part))} {least : ℕ} {s : List ℕ} {c : Cursor} (a b : FrameRead) → FrameReads read least s c a → FrameReads read least s c b → a ≡ b
+pub frame-same : {least : ℕ} {s : List ℕ} {c : Cursor} (a b : FrameRead) → FrameReads least s c a → FrameReads least s c b → a ≡ b
 frame-same (Frame id part next t) (Frame k part′ next′ t′) p q = same-frame p q
 frame-same (Frame id part next t) End p q = absurd (not-some (sym (got-value (p .means ∙ sym (q .means)))))
 frame-same (Frame id part next t) (NoFrame r) p q = absurd (not-got (sym (p .means ∙ sym (q .means))))

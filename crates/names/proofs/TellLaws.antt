@@ -77,13 +77,13 @@ tells-kept {s} {part} e = rw e (record { says = ap isYes (sym (kept-told (part .
 pub ruleset tell-contents = (tells-one, tells-map, tells-indirect, tells-kept, needs)
 
 -- a frame that was read: its id stands first, and its size behind
-inFrame {ℓ} : {C : Type ℓ} (least o : ℕ) (bs : List ℕ) {h : Headed Part} {o′ : ℕ} {rest : List ℕ} → frame least o bs ≡ got (some h) o′ rest → ((id : ℕ) (bs′ : List ℕ) → bs ≡ id ∷ bs′ → h .id ≡ id → least ≤ id → sized (suc o) bs′ ≡ got (h .value) o′ rest → C) → C
+inFrame {ℓ} : {C : Type ℓ} (least o : ℕ) (bs : List ℕ) {h : Headed} {o′ : ℕ} {rest : List ℕ} → frame least o bs ≡ got (some h) o′ rest → ((id : ℕ) (bs′ : List ℕ) → bs ≡ id ∷ bs′ → h .id ≡ id → least ≤ id → sized (suc o) bs′ ≡ got (h .value) o′ rest → C) → C
 unfolding frame
 inFrame least o [] e k = absurd (not-some (got-value e))
 inFrame least o (id ∷ bs) e k =
     passed (leb least id) _ _ _ _ _ e λ t e₁. inTurn (sized (suc o) bs) _ e₁ λ p o₁ r₁ e₂ e₃.
     let is = some-is (got-value e₃) in
-    k id bs refl (sym (ap (λ (h : Headed Part). h .id) is)) (leb-true least id t) (e₂ ∙ same-got (ap (λ (h : Headed Part). h .value) is) (got-next e₃) (got-rest e₃))
+    k id bs refl (sym (ap (λ (h : Headed). h .id) is)) (leb-true least id t) (e₂ ∙ same-got (ap (λ (h : Headed). h .value) is) (got-next e₃) (got-rest e₃))
   where
     same-got : {p q : Part} {o o′ : ℕ} {r r′ : List ℕ} → p ≡ q → o ≡ o′ → r ≡ r′ → got p o r ≡ got q o′ r′
     same-got a b c = cc
@@ -137,7 +137,7 @@ module _ {kindOf : ℕ → AnyKind} {s : List ℕ} where
   unfolding payload
   tell-begins h over = rw over (record { most = length s; inside = over-inside refl; enough = omega arith; same = rw (left-all s) (payload-told kindOf s h) })
 
-  module _ {next : Cursor} {least : ℕ} {x : FrameRead} (t : Telling kindOf s next least) (f : FrameReads frame least s next x) where
+  module _ {next : Cursor} {least : ℕ} {x : FrameRead} (t : Telling kindOf s next least) (f : FrameReads least s next x) where
     -- while bytes are left, one more may be read
     opened : 0 < length (left s next) → namesAreCanonical kindOf s ≡ isYes (told payloadForm (left s next) (subsections kindOf (suc (t .most - 1)) least (next .at) (left s next)))
     opened h =

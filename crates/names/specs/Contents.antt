@@ -11,7 +11,7 @@ use Rattle.format.specs.Names.{Kind as AnyKind, oneName, nameMap, indirectMap, 
 use Rattle.format.specs.Questions.{answerIn, answered, asPlace}
 use Rattle.format.specs.declared.Query.{Query}
 use Rattle.format.specs.declared.Answer.{Answer}
-use Rattle.format.specs.declared.Answer.the-variants.{None as NoAnswer, Found as FoundAt, Refused as NotAnswered}
+use Rattle.format.specs.declared.Answer.the-variants.{Found as FoundAt, Refused as NotAnswered}
 use Rattle.format.specs.declared.Reason.the-variants.{LeftOver}
 use Rattle.reading.specs.Cursors.{left, partOf}
 use Rattle.reading.specs.declared.Cursor.{Cursor}

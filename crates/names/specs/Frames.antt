@@ -19,13 +19,13 @@ use Rattle.names.specs.declared.frames.FrameRead.{FrameRead}
 use Rattle.names.specs.declared.frames.Framed.{Framed}
 use Rattle.names.specs.declared.frames.FrameRead.the-variants.{Frame, End, Refused}
 
--- an id, and what stands under it
-pub record Headed (A : Type 0) : Type 0 where
+-- an id, and the contents under it
+pub record Headed : Type 0 where
   pub id : ℕ
-  pub value : A
+  pub value : Part
 
 -- the subsection that begins here, its id at least `least`, none at the end; refusal 9 gives the id byte
-unfoldable pub frame : ℕ → Reader (Option (Headed Part))
+unfoldable pub frame : ℕ → Reader (Option Headed)
 frame least o [] = got none o []
 frame least o (id ∷ bs) = (do
   checked (leb least id) SubsectionOrder o
@@ -33,17 +33,13 @@ frame least o (id ∷ bs) = (do
   return (some (record { id = id; value = part }))) (suc o) bs
 
 -- one after the other up to the end, the first id at least `least` and each above the one before. `most` bounds their number and is never met
-module _ {A : Type 0} (one : ℕ → Reader (Option (Headed A))) where
-  abbrev pub onward : (ℕ → Reader (Table A)) → Option (Headed A) → Reader (Table A)
-  onward more none = return nil
-  onward more (some h) = more (suc (h .id)) >>= λ t. return (row (h .id) (h .value) t)
-
-  unfoldable pub each : (most least : ℕ) → Reader (Table A)
-  each zero least o bs = got nil o bs
-  each (suc most) least o bs = andThen (one least o bs) (onward (each most))
+abbrev pub onward : (ℕ → Reader (Table Part)) → Option Headed → Reader (Table Part)
+onward more none = return nil
+onward more (some h) = more (suc (h .id)) >>= λ t. return (row (h .id) (h .value) t)
 
 unfoldable pub frames : (most least : ℕ) → Reader (Table Part)
-frames = each frame
+frames zero least o bs = got nil o bs
+frames (suc most) least o bs = andThen (frame least o bs) (onward (frames most))
 
 -- of a payload that begins at an offset
 unfoldable pub judgeFrames : ℕ → List ℕ → Judged (Table Part)
@@ -55,7 +51,7 @@ readUnder kind none = accepted none
 readUnder kind (some p) = mapJudged some (judge (contents kind (p .at) (p .bytes)))
 
 -- What reading one finds
-abbrev pub frameOutcome : List ℕ → Cursor → FrameRead → Outcome (Option (Headed Part))
+abbrev pub frameOutcome : List ℕ → Cursor → FrameRead → Outcome (Option Headed)
 frameOutcome s c (Frame id part next shortest) = got (some (record { id = id; value = partOf s part })) (next .at) (left s next)
 frameOutcome s c End = got none (c .at) []
 frameOutcome s c (Refused r) = refusalOf r
@@ -84,8 +80,8 @@ frameTold s c (Frame id part next told) = told ≡ asFew (writePart (left s part
 frameTold s c End = Unit {0}
 frameTold s c (Refused r) = Unit {0}
 
-pub record FrameReads (read : ℕ → Reader (Option (Headed Part))) (least : ℕ) (s : List ℕ) (c : Cursor) (r : FrameRead) : Type 0 where
-  pub means : frameOutcome s c r ≡ read least (c .at) (left s c)
+pub record FrameReads (least : ℕ) (s : List ℕ) (c : Cursor) (r : FrameRead) : Type 0 where
+  pub means : frameOutcome s c r ≡ frame least (c .at) (left s c)
   pub forward : frameForward least s c r
   pub tells : frameTold s c r
 

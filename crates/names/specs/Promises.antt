@@ -16,7 +16,7 @@ use Rattle.format.specs.declared.Query.the-variants.{ItsName, ItsContents, Name
 use Rattle.format.specs.declared.Answer.{Answer}
 use Rattle.format.specs.declared.Verdict.{Verdict}
 use Rattle.names.specs.Contents.{kindMeant, Asks, Rules}
-use Rattle.names.specs.Frames.{frame, FrameReads, FrameStands}
+use Rattle.names.specs.Frames.{FrameReads, FrameStands}
 use Rattle.names.specs.Places.{AsksAt, Finds}
 use Rattle.names.specs.declared.frames.FrameRead.{FrameRead}
 use Rattle.names.specs.declared.frames.Framed.{Framed}
@@ -56,7 +56,7 @@ names-content s part kind r = Rules (kindMeant kind) s part r
 
 -- names::frames
 abbrev pub names-frame : (s : List ℕ) (c : Cursor) (least : ℕ) → FrameRead → Type 0
-names-frame s c least r = FrameReads frame least s c r
+names-frame s c least r = FrameReads least s c r
 
 abbrev pub names-frame-here : (s : List ℕ) (c : Cursor) → Framed → Type 0
 names-frame-here s c r = FrameStands s c r
