@@ -9,14 +9,14 @@ use reading::again::part_here;
 use reading::{Cursor, PartRead};
 
 // Where the first body of an accepted list stands, and how many they are.
-#[derive(Drop)]
+#[derive(Clone, Copy)]
 pub enum BodiesRead {
     All(Cursor, u32),
     Refused(Refusal),
 }
 
 // The bodies that are still to come: the function whose body is the next, where that stands, and how many they are.
-#[derive(Drop)]
+#[derive(Clone, Copy)]
 pub struct Bodies {
     pub first: u64,
     pub next: Cursor,
@@ -24,7 +24,7 @@ pub struct Bodies {
 }
 
 // A function's body, and the bodies behind it.
-#[derive(Drop)]
+#[derive(Clone, Copy)]
 pub enum Looked {
     Body(Cursor, Bodies),
     Nowhere,

@@ -10,7 +10,7 @@ use reading::Cursor;
 use reading::again::number_here;
 
 // What one function's hints come to: the cursor behind them and the bodies behind its own, or a refusal.
-#[derive(Drop)]
+#[derive(Clone, Copy)]
 enum Turned {
     Behind(Cursor, Bodies),
     Refused(Refusal),

@@ -12,7 +12,7 @@ use reading::Cursor;
 use reading::again::{number_here, part_here};
 
 // What the hints of a function come to: the cursor behind them, or the first that is refused.
-#[derive(Drop)]
+#[derive(Clone, Copy)]
 pub enum Sat {
     Behind(Cursor),
     Refused(Refusal),

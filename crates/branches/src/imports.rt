@@ -21,7 +21,7 @@ const GLOBAL: u32 = 3;
 const BOUNDED: u32 = 1;
 
 // How many functions are imported, or why the list is refused.
-#[derive(Drop)]
+#[derive(Clone, Copy)]
 pub enum Counted {
     Functions(u32),
     Refused(Refusal),

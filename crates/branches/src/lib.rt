@@ -1,4 +1,6 @@
 // K6: whether every branch hint of a module sits on br_if or if. The call takes any bytes.
+#![tactic(auto)]
+
 ghost use Rattle.std.specs.Prelude.{◌≡◌};
 ghost use Rattle.format.specs.Questions.{answered, as_place};
 ghost use Rattle.format.specs.Verdicts.{verdict_of};

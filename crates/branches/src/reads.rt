@@ -9,7 +9,7 @@ use format::{Offset, Reason, Refusal};
 use reading::{Cursor, NumberRead, wide};
 
 // What reading finds: a value, and the cursor behind it.
-#[derive(Drop)]
+#[derive(Clone, Copy)]
 pub enum Read {
     Value(u32, Cursor),
     Refused(Refusal),

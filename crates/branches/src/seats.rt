@@ -12,7 +12,7 @@ const IF: u8 = 0x04;
 const BR_IF: u8 = 0x0D;
 
 // A branch begins there, which is where the next hint is looked for; or what a hint is refused for.
-#[derive(Drop)]
+#[derive(Clone, Copy)]
 pub enum Reach {
     At(Cursor),
     Unreadable,

@@ -12,7 +12,7 @@ pub const CODE: u8 = 10;
 const FIRST: usize = 8;
 
 // The contents of a section, if there is one.
-#[derive(Drop)]
+#[derive(Clone, Copy)]
 pub enum Spot {
     Nowhere,
     At(Cursor),

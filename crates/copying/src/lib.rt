@@ -1,4 +1,6 @@
 // Tables that were accepted, in their fewest bytes: how long they are then, and written into an output.
+#![tactic(auto)]
+
 ghost use Rattle.std.specs.Prelude.{◌+◌, ◌^◌, ◌<◌, ◌≡◌, length};
 ghost use Rattle.format.specs.Numbers.{shortest, limit32};
 ghost use Rattle.format.specs.Parts.{sized};
@@ -13,14 +15,14 @@ use tables::stepping::{GroupStep, RowStep, Rows, behind, group_step, row_step, r
 use writing::{number_length, put_bytes, put_number};
 
 // How long something is in its fewest bytes, and the cursor behind it.
-#[derive(Drop)]
+#[derive(Clone, Copy)]
 pub struct Measured {
     pub length: usize,
     pub next: Cursor,
 }
 
 // How many groups have entries, how long these are in their fewest bytes, and the cursor behind all groups.
-#[derive(Drop)]
+#[derive(Clone, Copy)]
 pub struct Groups {
     pub kept: u32,
     pub length: usize,
@@ -28,7 +30,7 @@ pub struct Groups {
 }
 
 // Where the output goes on, and the cursor behind what was written.
-#[derive(Drop)]
+#[derive(Clone, Copy)]
 pub struct Put {
     pub at: usize,
     pub next: Cursor,

@@ -1,4 +1,6 @@
 // Every entry in one pass: all rows of a subsection of names, of metadata or of hints, put into lent lists. The calls, in `naming` and `items`, take any bytes and any lists.
+#![tactic(auto)]
+
 mod counting;
 mod hints;
 pub mod items;

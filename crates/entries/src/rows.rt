@@ -8,7 +8,7 @@ use reading::Cursor;
 use tables::stepping::{RowStep, Rows, behind, row_step};
 
 // Where the lists go on, and the cursor behind what was put.
-#[derive(Drop)]
+#[derive(Clone, Copy)]
 pub struct Put {
     pub at: usize,
     pub next: Cursor,

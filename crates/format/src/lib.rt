@@ -1,62 +1,64 @@
 // The types that every crate shares. What they mean is written in specs/.
+#![tactic(auto)]
+
 ghost use Rattle.format.specs.Promises.{FormatRefusalOf, FormatReasonNumber, FormatQuestionId, FormatQuestionQuery};
 
 // A byte offset, counted from the start of what was lent.
-#[derive(Drop)]
+#[derive(Clone, Copy)]
 pub struct Offset(pub usize);
 
 // R5.7: one type for each index space, so that one is not accepted for another.
-#[derive(Drop)]
+#[derive(Clone, Copy)]
 pub struct FunctionIndex(pub u32);
 
-#[derive(Drop)]
+#[derive(Clone, Copy)]
 pub struct LocalIndex(pub u32);
 
-#[derive(Drop)]
+#[derive(Clone, Copy)]
 pub struct TypeIndex(pub u32);
 
-#[derive(Drop)]
+#[derive(Clone, Copy)]
 pub struct FieldIndex(pub u32);
 
-#[derive(Drop)]
+#[derive(Clone, Copy)]
 pub struct TagIndex(pub u32);
 
 // K9: the index spaces that the wider edition names as well. A label is counted within its function.
-#[derive(Drop)]
+#[derive(Clone, Copy)]
 pub struct LabelIndex(pub u32);
 
-#[derive(Drop)]
+#[derive(Clone, Copy)]
 pub struct TableIndex(pub u32);
 
-#[derive(Drop)]
+#[derive(Clone, Copy)]
 pub struct MemoryIndex(pub u32);
 
-#[derive(Drop)]
+#[derive(Clone, Copy)]
 pub struct GlobalIndex(pub u32);
 
-#[derive(Drop)]
+#[derive(Clone, Copy)]
 pub struct ElementIndex(pub u32);
 
-#[derive(Drop)]
+#[derive(Clone, Copy)]
 pub struct DataIndex(pub u32);
 
 // Where in a function a piece of code metadata belongs: a byte offset within that function.
-#[derive(Drop)]
+#[derive(Clone, Copy)]
 pub struct CodeOffset(pub u32);
 
 // K2: the same counted from the function's first instruction, as the older edition of hints counts.
-#[derive(Drop)]
+#[derive(Clone, Copy)]
 pub struct InstructionOffset(pub u32);
 
 // By which table of ids a name payload is read: the specification's, or the extended name section's as well (K9).
-#[derive(Drop)]
+#[derive(Clone, Copy)]
 pub enum Edition {
     First,
     Wider,
 }
 
 // The questions to a name payload, each index in a space of its own.
-#[derive(Drop)]
+#[derive(Clone, Copy)]
 pub enum Question {
     ModuleName,
     FunctionName(FunctionIndex),
@@ -75,7 +77,7 @@ pub enum Question {
 
 // What can be asked of one subsection: its name, the name with an index, the name with an index within another, its
 // contents if kept.
-#[derive(Drop)]
+#[derive(Clone, Copy)]
 pub enum Query {
     ItsName,
     NameOf(u32),
@@ -109,7 +111,7 @@ pub const FIELD_NAMES: u8 = 10;
 pub const TAG_NAMES: u8 = 11;
 
 // Why an input is refused, in the order of the numbers, which are 1 to 30.
-#[derive(Drop)]
+#[derive(Clone, Copy)]
 pub enum Reason {
     NoPreamble,
     PastItsPart,
@@ -143,21 +145,21 @@ pub enum Reason {
     NotTheStore,
 }
 
-#[derive(Drop)]
+#[derive(Clone, Copy)]
 pub struct Refusal {
     pub reason: Reason,
     pub offset: Offset,
 }
 
 // Where a part of what was lent lies.
-#[derive(Drop)]
+#[derive(Clone, Copy)]
 pub struct Place {
     pub offset: Offset,
     pub length: usize,
 }
 
 // The answer to a question.
-#[derive(Drop)]
+#[derive(Clone, Copy)]
 pub enum Answer {
     None,
     Found(Place),
@@ -165,14 +167,14 @@ pub enum Answer {
 }
 
 // K3: which of two payloads, the one that was sent apart or the module's own.
-#[derive(Drop)]
+#[derive(Clone, Copy)]
 pub enum Whose {
     Separate,
     Own,
 }
 
 // The answer to a question over the two: whose name was found, or which of them is refused.
-#[derive(Drop)]
+#[derive(Clone, Copy)]
 pub enum PairAnswer {
     None,
     Found(Whose, Place),
@@ -181,7 +183,7 @@ pub enum PairAnswer {
 
 // The answer to writing the two as one: how many bytes it left at the front of the output, which of them is refused, or a
 // refusal of what is written.
-#[derive(Drop)]
+#[derive(Clone, Copy)]
 pub enum JoinWritten {
     Length(usize),
     PayloadRefused(Whose, Refusal),
@@ -189,20 +191,20 @@ pub enum JoinWritten {
 }
 
 // What judging a payload whole comes to.
-#[derive(Drop)]
+#[derive(Clone, Copy)]
 pub enum Verdict {
     Accepted,
     Refused(Refusal),
 }
 
-#[derive(Drop)]
+#[derive(Clone, Copy)]
 pub enum Hint {
     Unlikely,
     Likely,
 }
 
 // The answer to a question for a hint.
-#[derive(Drop)]
+#[derive(Clone, Copy)]
 pub enum HintAnswer {
     None,
     Found(Hint),
@@ -210,7 +212,7 @@ pub enum HintAnswer {
 }
 
 // The answer to a write: how many bytes it left at the front of the output.
-#[derive(Drop)]
+#[derive(Clone, Copy)]
 pub enum Written {
     Length(usize),
     Refused(Refusal),

@@ -1,4 +1,6 @@
 // Hints of the older edition that were accepted: whether they are in order already, as compilers write them, and then written, or listed as rows, in one pass.
+#![tactic(auto)]
+
 pub mod rows;
 
 ghost use Rattle.std.specs.Prelude.{◌+◌, ◌^◌, ◌≤◌, ◌<◌, ◌++◌, ◌≡◌, length};
@@ -28,7 +30,7 @@ const KIND_LENGTH: usize = 1;
 const ZERO_LENGTH: usize = 1;
 
 // So many hints: whether their offsets rise, how long they are in their fewest bytes, and the cursor behind them.
-#[derive(Drop)]
+#[derive(Clone, Copy)]
 pub struct HintSurvey {
     pub rising: bool,
     pub length: usize,
@@ -36,7 +38,7 @@ pub struct HintSurvey {
 }
 
 // So many entries: whether their functions and the hints of each rise, how many have hints, how long these are in their fewest bytes, and the cursor behind them.
-#[derive(Drop)]
+#[derive(Clone, Copy)]
 pub struct EntrySurvey {
     pub rising: bool,
     pub kept: u32,

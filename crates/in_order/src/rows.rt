@@ -13,7 +13,7 @@ use reading::Cursor;
 use reading::again::number_here;
 
 // So many entries: whether their functions and the hints of each rise, how many hints they have, and the cursor behind them.
-#[derive(Drop)]
+#[derive(Clone, Copy)]
 pub struct RowSurvey {
     pub rising: bool,
     pub rows: usize,

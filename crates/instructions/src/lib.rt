@@ -1,4 +1,6 @@
 // K6: one instruction of a function's body, stepped over by the immediates of core specification 1.0, and the locals before the first.
+#![tactic(auto)]
+
 ghost use Rattle.reading.specs.Cursors.{Inside};
 ghost use Rattle.instructions.specs.Immediates.{labels, indirect, memory, immediates};
 ghost use Rattle.instructions.specs.Ways.{Goes};
@@ -13,7 +15,7 @@ mod pieces;
 mod shapes;
 
 // What reading a piece of a body comes to: the cursor behind it, or that version 1.0 cannot read it.
-#[derive(Drop)]
+#[derive(Clone, Copy)]
 pub enum Way {
     Behind(Cursor),
     Unreadable,

@@ -9,7 +9,7 @@ use crate::Way;
 use reading::{Cursor, NumberRead};
 
 // What one byte has to be.
-#[derive(Drop)]
+#[derive(Clone, Copy)]
 pub enum ByteKind {
     ValueType,
     BlockType,

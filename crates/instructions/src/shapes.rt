@@ -3,7 +3,7 @@ ghost use Rattle.std.specs.Prelude.{◌≡◌};
 ghost use Rattle.instructions.specs.Opcodes.{shape_of};
 
 // The shapes that immediates have in core specification 1.0. Unknown is the shape of no instruction.
-#[derive(Drop)]
+#[derive(Clone, Copy)]
 pub enum Shape {
     Plain,
     Block,

@@ -17,14 +17,14 @@ use tables::Held;
 use writing::{put_bytes, put_number};
 
 // How long contents are, and how many entries or groups they begin by counting; one name and kept contents count none.
-#[derive(Drop)]
+#[derive(Clone, Copy)]
 pub struct Sizes {
     pub count: usize,
     pub length: usize,
 }
 
 // What is left of contents once nothing empty stays.
-#[derive(Drop)]
+#[derive(Clone, Copy)]
 pub enum Left {
     Nothing,
     Contents(Sizes),

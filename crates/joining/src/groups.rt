@@ -17,14 +17,14 @@ const TOO_MANY: usize = 1 << 32;
 const MOST_BYTES: usize = 5;
 
 // How many groups have entries, and how long these are in their fewest bytes.
-#[derive(Drop)]
+#[derive(Clone, Copy)]
 pub struct MergedGroups {
     pub kept: usize,
     pub length: usize,
 }
 
 // One of the groups: one if it has entries, how long it is in its fewest bytes, and the cursors behind its map in each payload.
-#[derive(Drop)]
+#[derive(Clone, Copy)]
 pub struct OneGroup {
     pub one: usize,
     pub length: usize,
@@ -33,7 +33,7 @@ pub struct OneGroup {
 }
 
 // Where the output goes on behind a group, and the cursors behind its map in each payload.
-#[derive(Drop)]
+#[derive(Clone, Copy)]
 pub struct PutGroup {
     pub at: usize,
     pub left: Cursor,

@@ -1,4 +1,6 @@
 // One canonical payload that answers as two (K3): the one that was sent apart, and the module's own. Maps are merged index by index, groups by function, and where both have something it is the separate payload's. The call takes any bytes.
+#![tactic(auto)]
+
 mod contents;
 mod groups;
 mod maps;

@@ -9,7 +9,7 @@ use tables::stepping::Rows;
 use writing::{number_length, put_number};
 
 // How many rows there are, how long they are in their fewest bytes, and the cursors behind the rows of each map.
-#[derive(Drop)]
+#[derive(Clone, Copy)]
 pub struct Merged {
     pub count: usize,
     pub length: usize,

@@ -12,21 +12,21 @@ use tables::Held;
 use tables::stepping::{GroupStep, RowStep, Rows, behind, group_step, row_step, rows_here};
 
 // The rows of a map that are to come, and the first of them, which is read ahead: of two maps only one row is taken at a time, and the other need not be read again.
-#[derive(Drop)]
+#[derive(Clone, Copy)]
 pub struct Ahead {
     pub rows: Rows,
     pub step: RowStep,
 }
 
 // What comes next of two maps: whose row it is, its index and its text, and the rows that are to come of each.
-#[derive(Drop)]
+#[derive(Clone, Copy)]
 pub enum NextRow {
     End,
     Row(Whose, u32, Cursor, Rows, Rows),
 }
 
 // What comes next of two lists of groups: the group's index, and where its map stands in each, if it does.
-#[derive(Drop)]
+#[derive(Clone, Copy)]
 pub enum NextGroup {
     End,
     Group(u32, Held, Held),

@@ -18,21 +18,21 @@ const ID_LENGTH: usize = 1;
 pub const TOO_LARGE: usize = 1 << 32;
 
 // What comes next of a payload: a subsection's id, where its contents lie, and the cursor behind it.
-#[derive(Drop)]
+#[derive(Clone, Copy)]
 pub enum NextFrame {
     End,
     Frame(u8, Cursor, Cursor),
 }
 
 // What comes next of two payloads: a subsection's id, where its contents lie in each, if they do, and the cursors behind it.
-#[derive(Drop)]
+#[derive(Clone, Copy)]
 pub enum NextSubsection {
     End,
     Subsection(u8, Held, Held, Cursor, Cursor),
 }
 
 // How long something is, if none of its subsections is too large.
-#[derive(Drop)]
+#[derive(Clone, Copy)]
 pub enum Total {
     Length(usize),
     TooLarge,

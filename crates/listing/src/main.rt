@@ -1,4 +1,6 @@
 // Lists the sections of the module on standard input.
+#![tactic(auto)]
+
 ghost use Rattle.std.specs.Prelude.{◌≡◌, ◌≤◌, length};
 ghost use Rattle.listing.specs.Input.{ReadIn};
 ghost use Rattle.listing.specs.Lines.{room};
@@ -15,7 +17,7 @@ const MODULE: usize = 65_537;
 const ROOM: usize = 2_098_176;
 
 // How many bytes of the input came, if it could be read.
-#[derive(Drop)]
+#[derive(Clone, Copy)]
 enum Input {
     Read(usize),
     Failed,

@@ -1,4 +1,6 @@
 // Function names, written from three lent lists: indices, name lengths in bytes, and the text of all names joined.
+#![tactic(auto)]
+
 ghost use Rattle.std.specs.Prelude.{◌++◌, ◌≡◌, ◌≤◌, ◌<◌, ◌+◌, eqb, length};
 ghost use Rattle.format.specs.Canonical.{write_part};
 ghost use Rattle.format.specs.Lists.{sum};
@@ -22,14 +24,14 @@ const ID_LENGTH: usize = 1;
 const TOO_LARGE: usize = 1 << 32;
 
 // What a check of the lists finds.
-#[derive(Drop)]
+#[derive(Clone, Copy)]
 enum Checked {
     Passed,
     Refused(Refusal),
 }
 
 // How long the subsection's contents are.
-#[derive(Drop)]
+#[derive(Clone, Copy)]
 enum Contents {
     Length(u32),
     Refused(Refusal),

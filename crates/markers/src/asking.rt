@@ -11,7 +11,7 @@ use tables::Held;
 use tables::finding::answer_of;
 
 // What reading an entry finds: its index, its text and the cursor behind it; or that it can't be read whole.
-#[derive(Drop)]
+#[derive(Clone, Copy)]
 pub enum EntryRead {
     Nothing,
     Entry(u32, Cursor, Cursor),

@@ -1,4 +1,6 @@
 // Markers beside large maps (K8): every sixteenth function entry, and the quick question that begins at one. The calls, in `making` and `asking`, take any bytes and any lists.
+#![tactic(auto)]
+
 pub mod asking;
 mod looking;
 pub mod making;

@@ -10,7 +10,7 @@ const HALF: usize = 8;
 const BLOCK: usize = 16;
 
 // What a look finds: a position at fault, no marker that is not above the key, or the offset of the last one.
-#[derive(Drop)]
+#[derive(Clone, Copy)]
 pub enum Looked {
     Fault(usize),
     Nothing,
@@ -18,7 +18,7 @@ pub enum Looked {
 }
 
 // How far the lists are in order, a block at a time; and where the last block that begins not above the key does.
-#[derive(Drop)]
+#[derive(Clone, Copy)]
 struct Reached {
     position: usize,
     near: usize,

@@ -23,7 +23,7 @@ const THREE_BYTES: u32 = 1 << 14;
 const GROUP: u32 = 1 << 7;
 
 // An index, and how many bytes stand before the last one of any number that is not below it.
-#[derive(Drop)]
+#[derive(Clone, Copy)]
 pub struct Index {
     pub value: u32,
     pub width: usize,

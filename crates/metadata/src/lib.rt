@@ -1,4 +1,6 @@
 // Code metadata: data that belongs to places in functions, and branch hints among it. Every public call takes any bytes.
+#![tactic(auto)]
+
 ghost use Rattle.std.specs.Prelude.{◌≡◌};
 ghost use Rattle.metadata.specs.Asking.{refused_by, filled_with, JudgesFor};
 ghost use Rattle.reading.specs.Cursors.{Inside};
@@ -20,7 +22,7 @@ pub mod telling;
 const LIKELY: u8 = 1;
 
 // The verdict on a payload, and what it has where it is asked: nothing, where it is refused.
-#[derive(Drop)]
+#[derive(Clone, Copy)]
 struct Judgement {
     verdict: Verdict,
     held: Held,

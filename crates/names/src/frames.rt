@@ -9,7 +9,7 @@ use reading::{Cursor, PartRead, wide};
 
 // What reading a subsection finds: its id, where its contents lie, the cursor behind it, and whether its size took its
 // fewest bytes.
-#[derive(Drop)]
+#[derive(Clone, Copy)]
 pub enum FrameRead {
     Frame(u8, Cursor, Cursor, bool),
     End,
@@ -41,7 +41,7 @@ pub fn frame(s: &[u8], c: Cursor, least: u32) -> FrameRead
 }
 
 // A subsection of an accepted payload: its id, where its contents lie, and the cursor behind it.
-#[derive(Drop)]
+#[derive(Clone, Copy)]
 pub struct Framed {
     pub id: u8,
     pub part: Cursor,

@@ -9,7 +9,7 @@ use format::{
     LOCAL_NAMES, MEMORY_NAMES, MODULE_NAME, TABLE_NAMES, TAG_NAMES, TYPE_NAMES,
 };
 
-#[derive(Drop)]
+#[derive(Clone, Copy)]
 pub enum Kind {
     OneName,
     NameMap,

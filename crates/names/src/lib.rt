@@ -1,4 +1,6 @@
 // The name payload: judged whole, and asked. No call has a precondition.
+#![tactic(auto)]
+
 ghost use Rattle.std.specs.Prelude.{◌≡◌};
 ghost use Rattle.format.specs.Names.{kind_in, judge_names};
 ghost use Rattle.format.specs.Questions.{answered, as_place, ask_at};

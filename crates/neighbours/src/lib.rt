@@ -1,4 +1,6 @@
 // Why a function or a local has no name, and where a name that is found stands (K7). The questions, in `functions` and `locals`, take any bytes.
+#![tactic(auto)]
+
 pub mod functions;
 pub mod locals;
 mod maps;
@@ -11,14 +13,14 @@ const FUNCTION_NAMES: u8 = 1;
 const LOCAL_NAMES: u8 = 2;
 
 // The nearest mapped index on one side, if any.
-#[derive(Drop)]
+#[derive(Clone, Copy)]
 pub enum Neighbour {
     Nothing,
     Index(u32),
 }
 
 // Where a name stands, its subsection and its position in its map; or why there is none, with the neighbours below and above.
-#[derive(Drop)]
+#[derive(Clone, Copy)]
 pub enum Why {
     Named(u8, u32),
     NoSubsection,

@@ -7,7 +7,7 @@ use reading::Cursor;
 use reading::again::{Number, number_here};
 
 // A hint that was read, and the cursor behind it.
-#[derive(Drop)]
+#[derive(Clone, Copy)]
 pub struct HintHere {
     pub kind: u32,
     pub offset: u32,

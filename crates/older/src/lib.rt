@@ -1,4 +1,6 @@
 // The older edition of branch hints (K2): judged, and asked for the first hint of a pair, in one pass each. Every public call takes any bytes.
+#![tactic(auto)]
+
 ghost use Rattle.std.specs.Prelude.{◌≡◌};
 ghost use Rattle.format.specs.Older.{times, vector, older_hint, older_entry, first_at, first_in};
 ghost use Rattle.reading.specs.Cursors.{Inside};
@@ -25,7 +27,7 @@ const HELD_UNLIKELY: u32 = 1;
 const HELD_LIKELY: u32 = 2;
 
 // What reading and asking finds: what it answers with, and the cursor behind what was read.
-#[derive(Drop)]
+#[derive(Clone, Copy)]
 enum Seek {
     Behind(u32, Cursor),
     Refused(Refusal),

@@ -1,4 +1,6 @@
 // K2: hints of the older edition that were accepted and stand in any order, rewritten, or listed as rows (`rows`), with no room but the output and a window that the caller has: two arrays of one length. They are gone through as many times as the window is filled, from the greatest function and offset down.
+#![tactic(auto)]
+
 mod backward;
 mod gathering;
 mod measuring;

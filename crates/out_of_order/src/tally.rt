@@ -15,7 +15,7 @@ pub const ZERO_LENGTH: usize = 1;
 // A payload may have so many bytes.
 pub const MOST: usize = 4_294_967_295;
 
-#[derive(Drop)]
+#[derive(Clone, Copy)]
 pub struct Tally {
     pub key: u64,
     pub hints: u32,

@@ -1,4 +1,6 @@
 // One question over two payloads (K3): the one that was sent apart answers unless it gives none, else the module's own. Both are judged whole. No call has a precondition.
+#![tactic(auto)]
+
 ghost use Rattle.std.specs.Prelude.{◌≡◌};
 ghost use Rattle.pairs.specs.Settling.{own_answer, beside_own, HandsBack};
 ghost use Rattle.pairs.specs.Promises.{PairsAsk, PairsAskBytes};

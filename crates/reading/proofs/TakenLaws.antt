@@ -1,14 +1,12 @@
 -- The part at an answer's place is the very bytes of what was lent.
 use Prim.Native.Nat.{ℕ, ◌+◌, ◌-◌, ◌≤◌, ◌<◌}
 use mathlib.Core.List.{List, []}
-use mathlib.Core.Logic.{◌⊎◌, ⊎_elim}
 use mathlib.Core.Option.{Option, none, some}
 use mathlib.Core.Path.{◌≡◌, refl, sym, ◌∙◌}
 use native.Mathlib.Nat.{zero-add}
 use native.Mathlib.Omega.{arith}
 use borrow.Author.Rules.{rules}
 use borrow.Author.Tests.{le-leb, lt-leb}
-use denote.Enum.Declared.{tag_of}
 use lib.ListN.{length, take, drop}
 use Rattle.format.specs.Reading.{Judged, accepted, refused}
 use Rattle.format.specs.Parts.{Part}
@@ -19,7 +17,6 @@ use Rattle.format.specs.Laws.Places.{PartIn, lies_there, lies_inside}
 use Rattle.format.specs.declared.Answer.{Answer}
 use Rattle.format.specs.declared.Answer.TheVariants.{None, Found, Refused}
 use Rattle.format.specs.declared.Place.{Place}
-use Rattle.format.specs.contracts.Answer as answer_type
 use Rattle.reading.specs.Taken.{taken_of, taken_from, Takes}
 
 -- taken at a place, or empty where none lies
@@ -45,10 +42,10 @@ module _ {s : List ℕ} {a : Answer} {at : ℕ × ℕ} where
         let n : p.offset.0 + p.length - p.offset.0 ≡ p.length = omega arith in
         record { bytes_are = rw (e, yes, n); begins_there = rw (e, yes) }
 
-pub taken_none : {s : List ℕ} (a : Answer) {at : ℕ × ℕ} → (tag_of answer_type.the_type a ≡ 0) ⊎ (tag_of answer_type.the_type a ≡ 2) → Takes s at a [] at
+pub taken_none : {s : List ℕ} (a : Answer) {at : ℕ × ℕ} → ((p : Place) → a ≡ Found p → ⊥) → Takes s at a [] at
 unfolding taken_of taken_from
 taken_none None h = empty refl refl
-taken_none (Found p) h = absurd (⊎_elim (λ t. omega arith) (λ t. omega arith) h)
+taken_none (Found p) h = absurd (h p refl)
 taken_none (Refused r) h = empty refl refl
 
 pub ruleset taken_steps = (taken_none, taken_far, taken_long, taken_there, rules)

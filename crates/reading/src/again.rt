@@ -7,14 +7,14 @@ ghost use Rattle.reading.specs.Promises.{ReadingNumberHere, ReadingPartHere};
 use crate::{Cursor, FOLLOWED, wide};
 
 // A number that was read, and the cursor behind it.
-#[derive(Drop)]
+#[derive(Clone, Copy)]
 pub struct Number {
     pub value: u32,
     pub next: Cursor,
 }
 
 // A sized part that was read, and the cursor behind it.
-#[derive(Drop)]
+#[derive(Clone, Copy)]
 pub struct Piece {
     pub part: Cursor,
     pub next: Cursor,

@@ -1,4 +1,6 @@
 // Reads numbers, sized parts and names out of lent bytes, left to right, from a cursor by value.
+#![tactic(auto)]
+
 ghost use Rattle.reading.specs.Cursors.{Inside, Followed, NumberReads};
 ghost use Rattle.reading.specs.Promises.{ReadingWide, ReadingOver, ReadingNumber, ReadingSized, ReadingName};
 
@@ -10,14 +12,14 @@ pub mod taking;
 pub mod text;
 
 // A place in what was lent, and the end of the innermost part around it.
-#[derive(Drop)]
+#[derive(Clone, Copy)]
 pub struct Cursor {
     pub at: usize,
     pub end: usize,
 }
 
 // What reading a number finds: its value, the cursor behind it, and whether it took its fewest bytes.
-#[derive(Drop)]
+#[derive(Clone, Copy)]
 pub enum NumberRead {
     Value(u32, Cursor, bool),
     Refused(Refusal),
@@ -25,7 +27,7 @@ pub enum NumberRead {
 
 // What reading a sized part or a name finds: a cursor over the part alone, the cursor behind it, and whether its length
 // took its fewest bytes.
-#[derive(Drop)]
+#[derive(Clone, Copy)]
 pub enum PartRead {
     Part(Cursor, Cursor, bool),
     Refused(Refusal),

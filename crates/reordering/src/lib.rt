@@ -1,4 +1,6 @@
 // K2: the canonical rewriting of hints of the older edition, whether a payload is its own, and every pair as a row (`listing`). Every public call takes any bytes. Hints that are in order already, as compilers write them, are put in one pass; others with a window of fixed size, in as many passes as it is filled.
+#![tactic(auto)]
+
 pub mod listing;
 
 ghost use Rattle.format.specs.Older.{times, vector, older_entry};

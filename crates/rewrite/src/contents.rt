@@ -12,14 +12,14 @@ use reading::again::{number_here, part_here};
 use writing::{number_length, put_number};
 
 // How long contents are, and how many entries or groups they begin by counting; one name and kept contents count none.
-#[derive(Drop)]
+#[derive(Clone, Copy)]
 pub struct Sizes {
     pub count: u32,
     pub length: usize,
 }
 
 // What is left of contents once nothing empty stays.
-#[derive(Drop)]
+#[derive(Clone, Copy)]
 pub enum Left {
     Nothing,
     Contents(Sizes),

@@ -1,4 +1,6 @@
 // Canonical rewritings of payloads into a lent output. Every public call takes any bytes.
+#![tactic(auto)]
+
 mod contents;
 mod items;
 mod subsections;

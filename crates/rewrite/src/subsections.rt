@@ -16,7 +16,7 @@ use writing::{put_byte, put_number};
 const ID_LENGTH: usize = 1;
 
 // The first subsection that comes out shorter than it is, if one does: where it begins, its frame, and what is left of it.
-#[derive(Drop)]
+#[derive(Clone, Copy)]
 pub enum Changed {
     Nothing,
     Subsection(usize, Framed, Left),

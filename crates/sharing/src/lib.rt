@@ -1,4 +1,6 @@
 // K12: payloads that customers share, in a store of blocks that the caller lends at each call. The table is the caller's too and goes by value: a table goes in, and the table behind the call comes out.
+#![tactic(auto)]
+
 mod asking;
 mod blocks;
 mod holds;
@@ -27,7 +29,7 @@ pub const CUSTOMERS: u32 = 16;
 
 // What is known between two calls: numbers alone, 776 bytes, with nothing between them. A hold is 0, or one more than the first block of its payload; users and size stand at the first block of a payload, and are 0 at every other.
 #[repr(C)]
-#[derive(Drop)]
+#[derive(Clone, Copy)]
 pub struct Table {
     pub holds: [u8; PLACES],
     pub users: [u8; PLACES],
@@ -48,14 +50,14 @@ pub fn start(bytes: u64) -> Table
 }
 
 // What an open leaves, and its answer: the hold, or a refusal.
-#[derive(Drop)]
+#[derive(Clone, Copy)]
 pub struct Opened {
     pub table: Table,
     pub answer: Written,
 }
 
 // The answer to a question: how long the name is that was copied.
-#[derive(Drop)]
+#[derive(Clone, Copy)]
 pub enum Told {
     None,
     Length(usize),
@@ -63,7 +65,7 @@ pub enum Told {
 }
 
 // What a close leaves, or the step that closes the gaps, and its verdict.
-#[derive(Drop)]
+#[derive(Clone, Copy)]
 pub struct Turned {
     pub table: Table,
     pub verdict: Verdict,

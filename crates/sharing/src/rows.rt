@@ -11,7 +11,7 @@ use crate::PLACES;
 use crate::blocks::{BLOCK, BODY, all_right, as_size, need};
 
 // The first block of a row.
-#[derive(Drop)]
+#[derive(Clone, Copy)]
 pub enum Row {
     At(usize),
     Nowhere,

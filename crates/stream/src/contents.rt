@@ -114,7 +114,7 @@ pub fn sizing_byte(s: Stream, b: u8) -> Stream
 }
 
 // How the text and the tracked names stand behind some bytes of a name.
-#[derive(Drop)]
+#[derive(Clone, Copy)]
 pub struct Spelled {
     pub text: Text,
     pub met: Met,

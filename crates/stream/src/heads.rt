@@ -14,7 +14,7 @@ use walk::rows::called;
 use walk::rules::{CUSTOM, Called, Ruling, judge_id};
 
 // A head that the part has whole: where the contents behind it begin, and how many bytes they have.
-#[derive(Drop)]
+#[derive(Clone, Copy)]
 pub enum Head {
     Unread,
     // its id
@@ -87,7 +87,7 @@ fn head_at(known: Known, part: &[u8]) -> Head
 }
 
 // One section: it is behind, or goes on in the next part, or its head is not read here.
-#[derive(Drop)]
+#[derive(Clone, Copy)]
 pub enum Passed {
     Behind(Known),
     Cut(Stream),
@@ -142,7 +142,7 @@ fn section_on(known: Known, part: &[u8], base: u64) -> Passed
 }
 
 // A state, and how far in the part it stands.
-#[derive(Drop)]
+#[derive(Clone, Copy)]
 pub struct Moved {
     pub stream: Stream,
     pub at: usize,

@@ -15,7 +15,7 @@ use walk::rules::{CUSTOM, Called, Ruling, Seen, judge_name, see};
 
 // Between two sections, at a place in the part: how many are behind, what the walk's rules know of them, and where the
 // payloads of the tracked ones lie.
-#[derive(Drop)]
+#[derive(Clone, Copy)]
 pub struct Known {
     pub at: usize,
     pub count: u64,
@@ -143,7 +143,7 @@ fn with_place(known: Known, row: u8, spot: Spot) -> Known
 }
 
 // What is known behind a custom section, or what the walk's rules have against its name.
-#[derive(Drop)]
+#[derive(Clone, Copy)]
 pub enum After {
     Behind(Known),
     Against(Reason),

@@ -11,7 +11,7 @@ use reading::Cursor;
 use walk::called::is_called;
 
 // It is over within the part, and this is known behind it; or it is read byte by byte.
-#[derive(Drop)]
+#[derive(Clone, Copy)]
 pub enum Lead {
     Behind(Known),
     ByBytes,

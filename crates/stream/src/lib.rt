@@ -1,4 +1,6 @@
 // K5: a module as it arrives, in parts that are cut anywhere. All work is by value: a state goes in, and the state behind it comes out.
+#![tactic(auto)]
+
 ghost use Rattle.std.specs.Prelude.{◌≡◌, ◌+◌, leb};
 ghost use Rattle.stream.specs.Calls.{most, untaken};
 ghost use Rattle.stream.specs.Promises.{StreamBegin, StreamTakePart, StreamFinish};
@@ -24,7 +26,7 @@ mod texts;
 
 // Where a payload lies, counted from the module's first byte: 0 and 0 where there is none.
 #[repr(C)]
-#[derive(Drop)]
+#[derive(Clone, Copy)]
 pub struct Spot {
     pub offset: u64,
     pub length: u64,
@@ -32,7 +34,7 @@ pub struct Spot {
 
 // How many bytes of each tracked name have been met.
 #[repr(C)]
-#[derive(Drop)]
+#[derive(Clone, Copy)]
 pub struct Met {
     pub name: u8,
     pub hints: u8,
@@ -42,7 +44,7 @@ pub struct Met {
 // What is known between two parts: numbers alone, 120 bytes, with nothing between them. What a phase has no use for is 0, so
 // that the same bytes leave the same state however they were cut.
 #[repr(C)]
-#[derive(Drop)]
+#[derive(Clone, Copy)]
 pub struct Stream {
     // how many bytes have come
     pub total: u64,
@@ -120,14 +122,14 @@ pub fn begin() -> Stream
 }
 
 // What a part leaves, and whether it was taken.
-#[derive(Drop)]
+#[derive(Clone, Copy)]
 pub struct Taken {
     pub stream: Stream,
     pub verdict: Verdict,
 }
 
 // Where a payload lies, if there is one: 1 and its place, or three zeros.
-#[derive(Drop)]
+#[derive(Clone, Copy)]
 pub struct Told {
     pub there: u64,
     pub offset: u64,
@@ -135,7 +137,7 @@ pub struct Told {
 }
 
 // What the finish says: a refusal's number and offset, or the count of sections and the places. What it does not say is 0.
-#[derive(Drop)]
+#[derive(Clone, Copy)]
 pub struct Ending {
     pub accepted: bool,
     pub refusal: u32,
@@ -146,7 +148,7 @@ pub struct Ending {
     pub older: Told,
 }
 
-#[derive(Drop)]
+#[derive(Clone, Copy)]
 pub struct Ended {
     pub stream: Stream,
     pub ending: Ending,

@@ -6,7 +6,7 @@ ghost use Rattle.stream.specs.Phases.{number_of, Countable, counted_of};
 use reading::wide;
 
 // What a byte makes of it: the number, what its bytes add up to so far, or too large a number.
-#[derive(Drop)]
+#[derive(Clone, Copy)]
 pub enum Counted {
     Whole(u32),
     Partly(u32),

@@ -7,7 +7,7 @@ ghost use Rattle.stream.specs.Phases.{text_of, Spellable};
 use reading::wide;
 
 // How many bytes a character still wants, the least code point of its form, and its own so far.
-#[derive(Drop)]
+#[derive(Clone, Copy)]
 pub struct Text {
     pub wanted: u8,
     pub least: u32,

@@ -12,14 +12,14 @@ use reading::text::is_text;
 use reading::{Cursor, NumberRead, PartRead};
 
 // What judging finds: the cursor behind what was accepted, or the refusal.
-#[derive(Drop)]
+#[derive(Clone, Copy)]
 pub enum Judged {
     Behind(Cursor),
     Refused(Refusal),
 }
 
 // The same of a row, with its number.
-#[derive(Drop)]
+#[derive(Clone, Copy)]
 enum JudgedRow {
     Row(u32, Cursor),
     Refused(Refusal),

@@ -1,4 +1,6 @@
 // Judges and searches, in one pass, lists of (rising number, value) and lists of (rising number, such a list).
+#![tactic(auto)]
+
 ghost use Rattle.std.proofs.Math.Option.{some};
 ghost use Rattle.std.specs.Prelude.{◌≡◌};
 ghost use Rattle.format.specs.Options.{is_some};
@@ -31,7 +33,7 @@ const SHORT_SIZE: u8 = 1;
 const SHORT_HINT: usize = 2;
 
 // What a row's value is: a name, data of any size, or a branch hint.
-#[derive(Drop)]
+#[derive(Clone, Copy)]
 pub enum Item {
     Name,
     Data,
@@ -39,14 +41,14 @@ pub enum Item {
 }
 
 // What a search is for: what a table has at this number.
-#[derive(Drop)]
+#[derive(Clone, Copy)]
 pub struct Wanted(pub u64);
 
 // No row has this number, which is above those that 32 bits hold: where nothing is wanted, a table is judged alone.
 pub const NOTHING: Wanted = Wanted(0x1_0000_0000);
 
 // What a search finds: the cursor behind the table, and before it the part that was found.
-#[derive(Drop)]
+#[derive(Clone, Copy)]
 pub enum Seek {
     None(Cursor),
     Found(Cursor, Cursor),
@@ -54,14 +56,14 @@ pub enum Seek {
 }
 
 // The part that was found so far, or that one row or a whole list answers with.
-#[derive(Drop)]
+#[derive(Clone, Copy)]
 pub enum Held {
     Nothing,
     Part(Cursor),
 }
 
 // What reading a row finds: its number, what its value answers, and the cursor behind it.
-#[derive(Drop)]
+#[derive(Clone, Copy)]
 enum RowRead {
     Row(u32, Held, Cursor),
     Refused(Refusal),

@@ -10,21 +10,21 @@ use reading::Cursor;
 use reading::again::{number_here, part_here};
 
 // The rows that are still to come: where the next begins, and how many they are.
-#[derive(Drop)]
+#[derive(Clone, Copy)]
 pub struct Rows {
     pub next: Cursor,
     pub more: u32,
 }
 
 // What a step through rows with parts finds: the row's number, its part, and the cursor behind it.
-#[derive(Drop)]
+#[derive(Clone, Copy)]
 pub enum RowStep {
     End,
     Row(u32, Cursor, Cursor),
 }
 
 // What a step through rows with tables finds: the row's number, and where its table stands. The cursor behind it is known once that was passed.
-#[derive(Drop)]
+#[derive(Clone, Copy)]
 pub enum GroupStep {
     End,
     Group(u32, Cursor),

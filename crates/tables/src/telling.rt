@@ -10,14 +10,14 @@ use crate::{Item, SHORT_HINT, index, is_item, is_short};
 use reading::{Cursor, NumberRead, PartRead};
 
 // What telling finds: the cursor behind what is canonical, or that it is refused or not canonical.
-#[derive(Drop)]
+#[derive(Clone, Copy)]
 pub enum Tidy {
     Behind(Cursor),
     Not,
 }
 
 // The same of a row, with its number.
-#[derive(Drop)]
+#[derive(Clone, Copy)]
 pub enum TidyRow {
     Row(u32, Cursor),
     Not,

@@ -1,4 +1,6 @@
 // The questions of names and metadata, put to a whole module. The walk comes first; then the payload is judged and asked where it lies, so that offsets count from the module's start. A second call hands the bytes of what was answered back as a part of the lent module: empty, and at its start, for none and for a refusal. No call has a precondition.
+#![tactic(auto)]
+
 ghost use Rattle.through.specs.Promises.{ThroughAsk, ThroughAskBytes, ThroughMetadata, ThroughMetadataBytes, ThroughHint, ThroughOlderHint};
 
 use crate::sections::{

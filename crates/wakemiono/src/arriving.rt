@@ -9,7 +9,7 @@ use stream::{Ending, Stream, finish, take_part};
 
 // The walk's answer, and beside it three places: NONE or FOUND, and where the payload lies.
 #[repr(C)]
-#[derive(Drop)]
+#[derive(Clone, Copy)]
 pub struct WmStreamAnswer {
     pub kind: u32,
     pub code: u32,
@@ -27,13 +27,13 @@ pub struct WmStreamAnswer {
 }
 
 // What a call leaves, and what it answers.
-#[derive(Drop)]
+#[derive(Clone, Copy)]
 pub struct Turned {
     pub state: Stream,
     pub answer: WmAnswer,
 }
 
-#[derive(Drop)]
+#[derive(Clone, Copy)]
 pub struct Over {
     pub state: Stream,
     pub answer: WmStreamAnswer,

@@ -23,7 +23,7 @@ const OWN: u64 = 2;
 
 // One answer for all these calls, by value.
 #[repr(C)]
-#[derive(Drop)]
+#[derive(Clone, Copy)]
 pub struct WmPairAnswer {
     pub kind: u32,
     pub code: u32,

@@ -1,4 +1,6 @@
 // The C boundary: every call takes any bytes, ends, and asks no prior check. include/wakemiono.h says the same for C.
+#![tactic(auto)]
+
 ghost use Rattle.std.specs.Prelude.{◌≡◌, length};
 ghost use Rattle.format.specs.Metadata.{hint_answered};
 ghost use Rattle.format.specs.Outputs.{written_as};
@@ -30,7 +32,7 @@ pub mod wide;
 
 // One answer for all calls, by value.
 #[repr(C)]
-#[derive(Drop)]
+#[derive(Clone, Copy)]
 pub struct WmAnswer {
     pub kind: u32,
     pub code: u32,

@@ -9,7 +9,7 @@ use crate::{ANSWERED_NONE, WmAnswer, all_of, of_refusal, of_verdict, of_written}
 use sharing::{Table, Told, ask, close, compact, open, start};
 
 // What a call leaves of a table, and what it answers.
-#[derive(Drop)]
+#[derive(Clone, Copy)]
 pub struct Shared {
     pub table: Table,
     pub answer: WmAnswer,

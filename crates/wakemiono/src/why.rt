@@ -19,7 +19,7 @@ const NO_ENTRY: u32 = 7;
 
 // One answer for both calls, by value: what its kind does not name is 0.
 #[repr(C)]
-#[derive(Drop)]
+#[derive(Clone, Copy)]
 pub struct WmWhy {
     pub kind: u32,
     pub code: u32,
@@ -32,7 +32,7 @@ pub struct WmWhy {
 }
 
 // Whether there is a neighbour, and its index.
-#[derive(Drop)]
+#[derive(Clone, Copy)]
 struct Side {
     has: u32,
     index: u32,

@@ -1,4 +1,6 @@
 // The framing of a module: its sections, one after the other. Every call takes any bytes.
+#![tactic(auto)]
+
 ghost use Rattle.walk.specs.Promises.{WalkCount, WalkSectionAt, WalkCustom, WalkCustomJoined};
 
 use crate::survey::{SectionAnswer, Surveyed};
@@ -10,7 +12,7 @@ pub mod rules;
 pub mod step;
 pub mod survey;
 
-#[derive(Drop)]
+#[derive(Clone, Copy)]
 pub enum Counted {
     Count(usize),
     Refused(Refusal),

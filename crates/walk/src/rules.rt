@@ -8,7 +8,7 @@ use crate::rows::{BEFORE_CODE, NAME};
 use format::Reason;
 
 // What the rules need to know of the sections before. Whether a row was there is one bit, the lowest the first row's.
-#[derive(Drop)]
+#[derive(Clone, Copy)]
 pub struct Seen {
     pub rank: u8,
     pub code: bool,
@@ -16,13 +16,13 @@ pub struct Seen {
 }
 
 // What a section is called, as far as the rules care: its row.
-#[derive(Drop)]
+#[derive(Clone, Copy)]
 pub enum Called {
     Row(u8),
     Other,
 }
 
-#[derive(Drop)]
+#[derive(Clone, Copy)]
 pub enum Ruling {
     Fine,
     Against(Reason),

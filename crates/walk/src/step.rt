@@ -13,13 +13,13 @@ use reading::text::is_text;
 use reading::{Cursor, PartRead};
 
 // What a section is beyond its id: a custom one has a name and a payload.
-#[derive(Drop)]
+#[derive(Clone, Copy)]
 pub enum Custom {
     None,
     Named(Cursor, Cursor),
 }
 
-#[derive(Drop)]
+#[derive(Clone, Copy)]
 pub struct Section {
     pub id: u8,
     pub at: Offset,
@@ -28,26 +28,26 @@ pub struct Section {
 }
 
 // The walk between two sections: where the next one begins, and what the rules know of those before.
-#[derive(Drop)]
+#[derive(Clone, Copy)]
 pub struct Walk {
     pub at: usize,
     pub seen: Seen,
 }
 
-#[derive(Drop)]
+#[derive(Clone, Copy)]
 pub enum Step {
     Section(Section, Walk),
     Done,
     Refused(Refusal),
 }
 
-#[derive(Drop)]
+#[derive(Clone, Copy)]
 pub enum Began {
     At(Walk),
     Refused(Refusal),
 }
 
-#[derive(Drop)]
+#[derive(Clone, Copy)]
 enum CustomRead {
     Read(Custom),
     Refused(Refusal),

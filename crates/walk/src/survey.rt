@@ -9,14 +9,14 @@ use crate::step::{Began, Custom, Section, Step, Walk};
 use format::{Answer, Offset, Place, Refusal};
 
 // A section's id, the offset of its id byte and the length of its contents.
-#[derive(Drop)]
+#[derive(Clone, Copy)]
 pub struct SectionPlace {
     pub id: u8,
     pub at: Offset,
     pub length: usize,
 }
 
-#[derive(Drop)]
+#[derive(Clone, Copy)]
 pub enum SectionAnswer {
     None,
     Found(SectionPlace),
@@ -24,14 +24,14 @@ pub enum SectionAnswer {
 }
 
 // What a pass has found so far: how many sections, the one at a position, and the first payload of a name.
-#[derive(Drop)]
+#[derive(Clone, Copy)]
 pub struct Tally {
     pub count: usize,
     pub section: SectionAnswer,
     pub payload: Answer,
 }
 
-#[derive(Drop)]
+#[derive(Clone, Copy)]
 pub enum Surveyed {
     Done(Tally),
     Refused(Refusal),

@@ -1,6 +1,8 @@
 // Runs the worked cases: each line of the file stdin is a call with what is lent to it, by its name in the header without `wm_`, and is printed with what the library answers beneath the C boundary, in the numbers of the header. The C calls themselves are compared with the second reader by the tests of the host. What is printed is held to the file stdout, so that a case costs no proof.
 //   CALL NUMBERS.. | BYTES.. | BYTES..      the bytes in hexadecimal; what a call has no use for is left out
 //   # ..                                    words for whoever reads the cases
+#![tactic(auto)]
+
 use libc::{STDIN_FILENO, STDOUT_FILENO};
 use pieces::{end_of, part};
 

@@ -9,7 +9,7 @@ pub const UNTOUCHED: u8 = 0xEE;
 pub const ROOM: usize = 64;
 
 // What is written: canonical payloads, and two payloads joined.
-#[derive(Drop)]
+#[derive(Clone, Copy)]
 pub enum Wanted {
     Names,
     Joined,

@@ -165,7 +165,7 @@ fn tell_why(words: &[u8], code: u64, offset: u64, position: u64) -> bool {
 }
 
 // Whether there is a neighbour, and its index.
-#[derive(Drop)]
+#[derive(Clone, Copy)]
 struct Side {
     has: u64,
     index: u64,

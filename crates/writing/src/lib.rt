@@ -1,4 +1,6 @@
 // Puts bytes into a lent output, one thing after the other: each function returns where the next one starts.
+#![tactic(auto)]
+
 ghost use Rattle.std.specs.Prelude.{◌≤◌, ◌<◌, ◌+◌, ◌≡◌, length};
 ghost use Rattle.format.specs.Numbers.{shortest};
 ghost use Rattle.writing.specs.Wrote.{Wrote};

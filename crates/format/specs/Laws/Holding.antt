@@ -11,17 +11,19 @@ use Rattle.format.specs.declared.Query.TheVariants.{ItsName, ItsContents, NameOf
 use Rattle.format.specs.Holding.{Has, first, later, HasWithin, Holds, the_name, the_entry, the_inner, the_contents}
 use Rattle.format.specs.Laws.Outcomes.{by_test}
 use Rattle.format.specs.Laws.Options.{not_some, some_is, by_option, in_then}
-use Rattle.format.specs.Laws.Codecs.{Sorted, next, TableFine}
+use Rattle.format.specs.Laws.Codecs.{Sorted, end, next, TableFine}
 use Rattle.format.specs.Laws.Tables.{lookup_here, lookup_there, lookup_fine}
 use Rattle.format.specs.Laws.Names.{NameFine, ContentFine, names_fine_lem, names_by_fine, SubFine}
 use Rattle.format.specs.Laws.CanonicalNames.{AcceptedNames, held, read_whole}
 
 module _ {A : Type 0} where
   pub has_least : {P : ℕ → A → Type 0} {k least : ℕ} {v : A} {t : Table A} → Sorted P least t → Has k v t → least ≤ k
+  has_least end h = elim h [ ]
   has_least (next l p s) first = l
   has_least (next l p s) (later h) = let further = has_least s h in omega arith
 
   pub has_lookup : {P : ℕ → A → Type 0} {k least : ℕ} {v : A} {t : Table A} → Sorted P least t → Has k v t → lookup k t ≡ some v
+  has_lookup end h = elim h [ ]
   has_lookup {k = k} {v = v} (next l p s) (first {t = t}) = lookup_here k v t
   has_lookup {k = k} (next l p s) (later {i = i} {w = w} {t = t} h) = let b = has_least s h in lookup_there k i w t (λ q. omega arith) ∙ has_lookup s h
 

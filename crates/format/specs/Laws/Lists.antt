@@ -76,7 +76,7 @@ written is ns text w e =
     }
 
 -- the lists' table has what the lists give
-lists_has : {is ns text : List ℕ} {k : ℕ} {x : List ℕ} → Lists k x is ns text → Has k x (listed is ns text)
+lists_has : {k : ℕ} {x : List ℕ} {is ns text : List ℕ} → Lists k x is ns text → Has k x (listed is ns text)
 unfolding listed
 lists_has (first_listed e) = rw e first
 lists_has (later_listed l) = later (lists_has l)

@@ -1,7 +1,7 @@
 -- K8. The quick question follows its rule, whatever it is given, and no other answer does.
 use Prim.Native.Nat.{ℕ, zero, suc, ◌≤◌, ◌<◌}
 use mathlib.Core.List.{List, [], ◌∷◌}
-use Rattle.std.specs.Prelude.{◌↔◌, ◌≡◌, leb, ltb, eqb, length, get_or}
+use Rattle.std.specs.Prelude.{◌↔◌, ◌≡◌, leb, ltb, eqb, length, get_or, cond}
 use Rattle.std.proofs.Math.Option.{Option, none, some}
 use Rattle.std.proofs.Math.Path.{refl}
 use Rattle.std.proofs.Common.{sym, ap, ◌∙◌, arith}
@@ -31,7 +31,7 @@ module _ (key : ℕ) where
   starts_at held [] os i q l = let w = l.within in absurd (omega arith)
   starts_at held (x ∷ is) [] i q l = absurd (omega arith)
   starts_at held (x ∷ is) (y ∷ os) zero q l = rw (le-leb x key l.not_above_lem) (all_above (some y) is os (λ i m. l.last (suc i) (omega arith) (omega arith)))
-  starts_at held (x ∷ is) (y ∷ os) (suc i) q l = starts_at _ is os i (omega arith) (record { within = let w = l.within in omega arith; not_above_lem = l.not_above_lem; last = λ j m n. l.last (suc j) (omega arith) (omega arith) })
+  starts_at held (x ∷ is) (y ∷ os) (suc i) q l = starts_at (cond (leb x key) (some y) held) is os i (omega arith) (record { within = let w = l.within in omega arith; not_above_lem = l.not_above_lem; last = λ j m n. l.last (suc j) (omega arith) (omega arith) })
 
   -- one marker before others
   above_first : (x : ℕ) (is : List ℕ) → key < x → AllAbove key is → AllAbove key (x ∷ is)

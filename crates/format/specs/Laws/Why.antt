@@ -31,7 +31,7 @@ use Rattle.format.specs.Laws.Holding.{has_least, has_lookup, lookup_has, none_ex
 
 module _ {A : Type 0} where
   -- a row that a table has is one that stands somewhere in it
-  at_has : {k n : ℕ} {v : A} {t : Table A} → At k v n t → Has k v t
+  at_has : {k : ℕ} {v : A} {n : ℕ} {t : Table A} → At k v n t → Has k v t
   at_has at_front = first
   at_has (behind_one a) = later (at_has a)
 
@@ -47,11 +47,14 @@ module _ {A : Type 0} where
   by_row (later h) f g = g h
 
   -- at most one answer is true
+  same_position : {P : ℕ → A → Type 0} {k j : ℕ} {v w : A} {n m least : ℕ} {t : Table A} → Sorted P least t → k ≡ j → At k v n t → At j w m t → n ≡ m
+  same_position s q at_front at_front = refl
+  same_position (next l p s) q at_front (behind_one b) = let above = has_least s (at_has b) in absurd (omega arith)
+  same_position (next l p s) q (behind_one a) at_front = let above = has_least s (at_has a) in absurd (omega arith)
+  same_position (next l p s) q (behind_one a) (behind_one b) = ap suc (same_position s q a b)
+
   one_position : {P : ℕ → A → Type 0} {k least n m : ℕ} {v w : A} {t : Table A} → Sorted P least t → At k v n t → At k w m t → n ≡ m
-  one_position s at_front at_front = refl
-  one_position (next l p s) at_front (behind_one b) = let above = has_least s (at_has b) in absurd (omega arith)
-  one_position (next l p s) (behind_one a) at_front = let above = has_least s (at_has a) in absurd (omega arith)
-  one_position (next l p s) (behind_one a) (behind_one b) = ap suc (one_position s a b)
+  one_position s a b = same_position s refl a b
 
   one_below : {k : ℕ} {t : Table A} {x y : Option ℕ} → NearestBelow k t x → NearestBelow k t y → x ≡ y
   one_below (none_below e) (none_below e') = refl

@@ -1,0 +1,5 @@
+use Rattle.reading.proofs.AsciiLaws.{runs}
+use Rattle.reading.proofs.ascii.after_quarter.Goals as goal
+
+pub returns-then-are_four_ascii : goal.returns-then-are_four_ascii
+returns-then-are_four_ascii c = search runs
