@@ -174,6 +174,31 @@ query_number (NameOf k) = refl
 query_number (NameWithin k j) = refl
 query_number ItsContents = refl
 
+-- a kind by its tag
+as_one_name : (k : Kind) → tag_of kind_type.the_type k ≡ 0 → k ≡ OneName
+as_one_name OneName h = refl
+as_one_name NameMap h = absurd (omega arith)
+as_one_name IndirectMap h = absurd (omega arith)
+as_one_name Kept h = absurd (omega arith)
+
+as_name_map : (k : Kind) → tag_of kind_type.the_type k ≡ 1 → k ≡ NameMap
+as_name_map OneName h = absurd (omega arith)
+as_name_map NameMap h = refl
+as_name_map IndirectMap h = absurd (omega arith)
+as_name_map Kept h = absurd (omega arith)
+
+as_indirect_map : (k : Kind) → tag_of kind_type.the_type k ≡ 2 → k ≡ IndirectMap
+as_indirect_map OneName h = absurd (omega arith)
+as_indirect_map NameMap h = absurd (omega arith)
+as_indirect_map IndirectMap h = refl
+as_indirect_map Kept h = absurd (omega arith)
+
+as_kept : (k : Kind) → tag_of kind_type.the_type k ≡ 3 → k ≡ Kept
+as_kept OneName h = absurd (omega arith)
+as_kept NameMap h = absurd (omega arith)
+as_kept IndirectMap h = absurd (omega arith)
+as_kept Kept h = refl
+
 module _ {kind_of : ℕ → AnyKind} {s : List ℕ} {c : Cursor} (a : KnownNames kind_of s c) (q : Question) {x : Query} {id : ℕ} (k : Kind) (asks : x ≡ query_of q) (of : id ≡ id_of q) (is : kind_meant k ≡ kind_of id) where
   -- no such answer
   none_said : (tag_of kind_type.the_type k ≡ tag_of query_type.the_type x → ⊥) → answered NoAnswer ≡ as_place (ask_at kind_of q c.at (left s c))
@@ -183,17 +208,17 @@ module _ {kind_of : ℕ → AnyKind} {s : List ℕ} {c : Cursor} (a : KnownNames
       let nothing = silent_in (kind_of id) x (lookup id (names_framed a).known.value) other (sym (under a id x) ∙ told a id x) in
       rw (← asks, ← of, told a id x, ← nothing)
 
-  pub name_none : tag_of query_type.the_type x ≡ 0 → (tag_of kind_type.the_type k ≡ 1) ⊎ ((tag_of kind_type.the_type k ≡ 2) ⊎ (tag_of kind_type.the_type k ≡ 3)) → answered NoAnswer ≡ as_place (ask_at kind_of q c.at (left s c))
-  name_none h n = none_said (λ e. ⊎_elim (λ t. omega (arith, e, h, t)) (λ m. ⊎_elim (λ t. omega (arith, e, h, t)) (λ t. omega (arith, e, h, t)) m) n)
+  pub name_none : tag_of query_type.the_type x ≡ 0 → (k ≡ OneName → ⊥) → answered NoAnswer ≡ as_place (ask_at kind_of q c.at (left s c))
+  name_none h n = none_said (λ e. n (as_one_name k (e ∙ h)))
 
-  pub map_none : {key : ℕ} → x ≡ NameOf key → (tag_of kind_type.the_type k ≡ 0) ⊎ ((tag_of kind_type.the_type k ≡ 2) ⊎ (tag_of kind_type.the_type k ≡ 3)) → answered NoAnswer ≡ as_place (ask_at kind_of q c.at (left s c))
-  map_none q n = let h : tag_of query_type.the_type x ≡ 1 = rw q in none_said (λ e. ⊎_elim (λ t. omega (arith, e, h, t)) (λ m. ⊎_elim (λ t. omega (arith, e, h, t)) (λ t. omega (arith, e, h, t)) m) n)
+  pub map_none : {key : ℕ} → x ≡ NameOf key → (k ≡ NameMap → ⊥) → answered NoAnswer ≡ as_place (ask_at kind_of q c.at (left s c))
+  map_none q n = none_said (λ e. n (as_name_map k (e ∙ rw q)))
 
-  pub indirect_none : {key inner : ℕ} → x ≡ NameWithin key inner → (tag_of kind_type.the_type k ≡ 0) ⊎ ((tag_of kind_type.the_type k ≡ 1) ⊎ (tag_of kind_type.the_type k ≡ 3)) → answered NoAnswer ≡ as_place (ask_at kind_of q c.at (left s c))
-  indirect_none q n = let h : tag_of query_type.the_type x ≡ 2 = rw q in none_said (λ e. ⊎_elim (λ t. omega (arith, e, h, t)) (λ m. ⊎_elim (λ t. omega (arith, e, h, t)) (λ t. omega (arith, e, h, t)) m) n)
+  pub indirect_none : {key inner : ℕ} → x ≡ NameWithin key inner → (k ≡ IndirectMap → ⊥) → answered NoAnswer ≡ as_place (ask_at kind_of q c.at (left s c))
+  indirect_none q n = none_said (λ e. n (as_indirect_map k (e ∙ rw q)))
 
-  pub kept_none : tag_of query_type.the_type x ≡ 3 → (tag_of kind_type.the_type k ≡ 0) ⊎ ((tag_of kind_type.the_type k ≡ 1) ⊎ (tag_of kind_type.the_type k ≡ 2)) → answered NoAnswer ≡ as_place (ask_at kind_of q c.at (left s c))
-  kept_none h n = none_said (λ e. ⊎_elim (λ t. omega (arith, e, h, t)) (λ m. ⊎_elim (λ t. omega (arith, e, h, t)) (λ t. omega (arith, e, h, t)) m) n)
+  pub kept_none : tag_of query_type.the_type x ≡ 3 → (k ≡ Kept → ⊥) → answered NoAnswer ≡ as_place (ask_at kind_of q c.at (left s c))
+  kept_none h n = none_said (λ e. n (as_kept k (e ∙ h)))
 
   -- what stands under the id
   module _ {place : Held} (finds : Finds s c.at (left s c) id place) where
