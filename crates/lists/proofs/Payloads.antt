@@ -70,11 +70,11 @@ module _ {is ns text : List ℕ} {size : ℕ} (m : Measured is ns text size) whe
   unfolding filled write_part
   payload_filled h =
       some_listed is ns text h m.joined.same_count
-      ∙ rw (content_long is ns text m.joined, m.decreases, content_is is ns text m.joined)
+      ∙ rw (content_long is ns text m.joined, m.measured, content_is is ns text m.joined)
 
   pub filled_long : length (filled is ns text size) ≡ needed_for size
   unfolding filled
-  filled_long = simp (length-append, rows_long is ns text (omega (arith, m.joined.add_up))) (omega (arith, m.decreases))
+  filled_long = simp (length-append, rows_long is ns text (omega (arith, m.joined.add_up))) (omega (arith, m.measured))
 
   module _ {old : List ℕ} where
     pub write_nothing : length is ≡ 0 → Writes (accepted (payload is ns text)) old old (Length 0)

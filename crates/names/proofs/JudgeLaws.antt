@@ -89,11 +89,11 @@ stops : {A B : Type 0} (r : Outcome A) (x : Refusal) (o : ℕ) (bs : List ℕ) (
 stops (got a o₁ r₁) x o bs f e = absurd (not_accepted e)
 stops (stop m at) x o bs f e = e
 
-goes_on : {A B : Type 0} (r : Outcome A) (y : Answer) (o : ℕ) (bs : List ℕ) (f : A → Reader B) (after : Outcome B) → verdict (answered y) ≡ verdict (judge r) → (tag_of answer_type.the_type y ≡ 0) ⊎ (tag_of answer_type.the_type y ≡ 1) → ((a : A) → verdict (judge (f a o bs)) ≡ verdict (judge after)) → verdict (judge (and_then (go_on r o bs) f)) ≡ verdict (judge after)
+goes_on : {A B : Type 0} (r : Outcome A) (y : Answer) (o : ℕ) (bs : List ℕ) (f : A → Reader B) (after : Outcome B) → verdict (answered y) ≡ verdict (judge r) → ((x : Refusal) → y ≡ NotAnswered x → ⊥) → ((a : A) → verdict (judge (f a o bs)) ≡ verdict (judge after)) → verdict (judge (and_then (go_on r o bs) f)) ≡ verdict (judge after)
 goes_on (got a o₁ r₁) y o bs f after e n g = g a
 goes_on (stop m at) NoAnswer o bs f after e n g = absurd (not_accepted (sym e))
 goes_on (stop m at) (FoundAt p) o bs f after e n g = absurd (not_accepted (sym e))
-goes_on (stop m at) (NotAnswered p) o bs f after e n g = ⊎_elim (λ t. absurd (omega arith)) (λ t. absurd (omega arith)) n
+goes_on (stop m at) (NotAnswered p) o bs f after e n g = absurd (n p refl)
 
 with_row : (id : ℕ) (c : Content Part) (r : Outcome (Table (Content Part))) → verdict (judge (and_then r (λ more. return (row id c more)))) ≡ verdict (judge r)
 with_row id c (got t o bs) = refl
@@ -126,7 +126,7 @@ module _ {kind_of : ℕ → Kind} {s : List ℕ} {c : Cursor} where
       turn_bad {r} q = stops (contents (kind_of id) part.at (left s part)) r after.at (left s after) (then kind_of (t.most - 1) id) (rw (q, k) at v.says) ∙ sym (opened ∙ rw (← rw e at f.means))
 
   module _ {at end least : ℕ} {x : FrameRead} (t : Turn kind_of s c (record { at = at; end = end }) least) (f : FrameReads least s (record { at = at; end = end }) x) {id : ℕ} {part after : Cursor} {told : Bool} (e : x ≡ Frame id part after told) {kind : Kind} {y : Answer} (k : kind ≡ kind_of id) (v : Rules kind s part y) where
-    pub turn_next : (tag_of answer_type.the_type y ≡ 0) ⊎ (tag_of answer_type.the_type y ≡ 1) → Turn kind_of s c (record { at = after.at; end = end }) (id + 1)
+    pub turn_next : ((r : Refusal) → y ≡ NotAnswered r → ⊥) → Turn kind_of s c (record { at = after.at; end = end }) (id + 1)
     turn_next n =
         let far = forward f e in
         let to_come_lem = subsections kind_of (t.most - 1) (suc id) after.at (left s after) in

@@ -151,9 +151,9 @@ module _ {s o : List ℕ} {at_s at_o : ℕ × ℕ} {a : PairAnswer} where
   pub hands_own : {w : Whose} {p : Place} {bytes : List ℕ} {begins : ℕ × ℕ} → a ≡ FoundIn w p → tag_of whose_type.the_type w ≡ 1 → Takes o at_o (Found p) bytes begins → HandsBack s o at_s at_o a bytes begins
   hands_own {w} e h t = let is : w ≡ Own = as_own w h in record { part = rw (e, is) t }
 
-pub hands_nothing : {s o : List ℕ} {at_s at_o : ℕ × ℕ} (a : PairAnswer) → (tag_of pair_type.the_type a ≡ 0) ⊎ (tag_of pair_type.the_type a ≡ 2) → HandsBack s o at_s at_o a [] at_s
+pub hands_nothing : {s o : List ℕ} {at_s at_o : ℕ × ℕ} (a : PairAnswer) → ((w : Whose) (p : Place) → a ≡ FoundIn w p → ⊥) → HandsBack s o at_s at_o a [] at_s
 hands_nothing NoName h = record { part = (refl, refl) }
-hands_nothing (FoundIn w p) h = absurd (⊎_elim (λ t. omega arith) (λ t. omega arith) h)
+hands_nothing (FoundIn w p) h = absurd (h w p refl)
 hands_nothing (RefusedBy w r) h = record { part = (refl, refl) }
 
 pub ruleset hands = (hands_separate, hands_own, hands_nothing, rules)

@@ -68,15 +68,15 @@ module _ (x m : List ℕ) {a : Answer} {place : Place} (e : answered a ≡ as_pl
   asked_there question q = let p = payload in rw (q, p.found, p.there)
 
 -- and where it found none, or refused, that is the answer
-not_there : (x m : List ℕ) (question : ℕ → List ℕ → Judged (Option Part)) (a : Answer) → answered a ≡ as_place (custom_payload x m) → (tag_of answer_type.the_type a ≡ 0) ⊎ (tag_of answer_type.the_type a ≡ 2) → answered a ≡ as_place (through x question m)
+not_there : (x m : List ℕ) (question : ℕ → List ℕ → Judged (Option Part)) (a : Answer) → answered a ≡ as_place (custom_payload x m) → ((p : Place) → a ≡ Found p → ⊥) → answered a ≡ as_place (through x question m)
 unfolding through as_place
 not_there x m question None e h = rw (place_none (custom_payload x m) e)
-not_there x m question (Found p) e h = absurd (⊎_elim (λ t. omega arith) (λ t. omega arith) h)
+not_there x m question (Found p) e h = absurd (h p refl)
 not_there x m question (Refused r) e h = rw (place_refused (custom_payload x m) e)
 
 -- Names
 module _ (kind_of : ℕ → Kind) (q : Question) (m : List ℕ) (a : Answer) (e : answered a ≡ as_place (custom_payload name_section m)) where
-  pub name_not_there : (tag_of answer_type.the_type a ≡ 0) ⊎ (tag_of answer_type.the_type a ≡ 2) → answered a ≡ as_place (ask_through kind_of q m)
+  pub name_not_there : ((p : Place) → a ≡ Found p → ⊥) → answered a ≡ as_place (ask_through kind_of q m)
   unfolding ask_through
   name_not_there h = not_there name_section m (ask_at kind_of q) a e h
 
@@ -92,7 +92,7 @@ unfolding item_called item_of
 item_is format = by_test (same format branch_hint) (λ t. rw t) (λ t. rw t)
 
 module _ (format : List ℕ) (f : FunctionIndex) (at : CodeOffset) (m : List ℕ) (a : Answer) (e : answered a ≡ as_place (custom_payload (metadata_section format) m)) where
-  pub data_not_there : (tag_of answer_type.the_type a ≡ 0) ⊎ (tag_of answer_type.the_type a ≡ 2) → answered a ≡ as_place (ask_metadata_through format f at m)
+  pub data_not_there : ((p : Place) → a ≡ Found p → ⊥) → answered a ≡ as_place (ask_metadata_through format f at m)
   unfolding ask_metadata_through
   data_not_there h = not_there (metadata_section format) m (ask_metadata (item_of format) f at) a e h
 

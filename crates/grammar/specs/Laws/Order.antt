@@ -80,6 +80,7 @@ lasting seen s t own later = record {
 }
 
 run_allows : {seen : Seen} {ss : List Section} {t : Section} → Run seen ss → Among t ss → Allows seen t
+run_allows end a = elim a [ ]
 run_allows (step h r) here = h
 run_allows {t = t} (step {seen = seen} {s = s} h r) (further a) = lasting seen s t h (run_allows r a)
 
@@ -90,6 +91,7 @@ record Pair (s t : Section) : Type 0 where
   second : Allows (after now s) t
 
 run_pair : {seen : Seen} {ss : List Section} {s t : Section} → Run seen ss → Before s t ss → Pair s t
+run_pair end b = elim b [ ]
 run_pair (step {seen = seen} h r) (from_here a) = record { now = seen; first = h; second = run_allows r a }
 run_pair (step h r) (from_further b) = run_pair r b
 

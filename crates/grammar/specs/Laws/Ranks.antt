@@ -42,9 +42,9 @@ in_among x [] e = false_true e
 in_among x (y ∷ ys) e = either (eqb x y) (is_in eqb x ys) e (λ t. rw (eqb-true x y t) here) (λ t. further (in_among x ys t))
 
 -- PLACES
-pub placed : (k : ℕ) {n : ℕ} {xs : List ℕ} → Among n xs → k ≤ place_from k xs n
-placed k {n} here = rw (eq-eqb n n refl) (omega arith)
-placed k {n} (further {x = x} a) = by_test (eqb n x) (λ t. rw t (omega arith)) (λ t. rw t (omega (arith, placed (suc k) a)))
+pub placed : {n : ℕ} (k : ℕ) {xs : List ℕ} → Among n xs → k ≤ place_from k xs n
+placed {n} k here = rw (eq-eqb n n refl) (omega arith)
+placed {n} k (further {x = x} a) = by_test (eqb n x) (λ t. rw t (omega arith)) (λ t. rw t (omega (arith, placed (suc k) a)))
 
 stands : (k : ℕ) (xs : List ℕ) (n : ℕ) → 0 < place_from k xs n → Among n xs
 stands k [] n h = absurd (omega arith)
@@ -55,6 +55,7 @@ both_among (from_here a) = (here, further a)
 both_among (from_further b) = let (p, q) = both_among b in (further p, further q)
 
 before_place : (k : ℕ) (xs : List ℕ) {i j : ℕ} → all_differ eqb xs ≡ true → Before i j xs → place_from k xs i < place_from k xs j
+before_place k [] d b = elim b [ ]
 before_place k (x ∷ xs) {i} {j} d (from_here a) =
     first_differs eqb x xs d λ differ _.
     rw (eq-eqb i i refl, ne_eqb j i (λ e. eqb-false i j (differ j a) (rw e))) (omega (arith, placed (suc k) a))

@@ -66,6 +66,7 @@ abbrev alike : Tracked → Tracked → Bool
 alike t u = same t.name u.name
 
 row_from {ℓ} : {C : Type ℓ} (k : ℕ) (ts : List Tracked) {t : Tracked} → all_differ alike ts ≡ true → Among t ts → ((d : ℕ) → first_row k ts (λ x. same x t.name) ≡ some (k + d) → get_elem? ts d ≡ some t → C) → C
+row_from k [] d a next = elim a [ ]
 row_from k (u ∷ ts) {t} d here next = next 0 (rw (same_self t.name, add-zero)) refl
 row_from k (u ∷ ts) {t} d (further a) next =
     first_differs alike u ts d λ differ rest.

@@ -38,15 +38,16 @@ rank_rises (step {seen = seen} {s = s} h r) =
     (λ t. omega (arith, rank_rises r, new_rank seen s t, h.order (eqb-false s.id 0 t)))
 
 -- each section is seen
-pub code_seen : (seen : Seen) {ss : List Section} {s : Section} → Among s ss → s.id ≡ 10 → (after_all seen ss).code ≡ true
-code_seen seen {s = s} (here {xs = xs}) e = code_stays (after seen s) xs (right seen.code (eqb s.id 10) (eq-eqb s.id 10 e))
+pub code_seen : {s : Section} (seen : Seen) {ss : List Section} → Among s ss → s.id ≡ 10 → (after_all seen ss).code ≡ true
+code_seen {s = s} seen (here {xs = xs}) e = code_stays (after seen s) xs (right seen.code (eqb s.id 10) (eq-eqb s.id 10 e))
 code_seen seen (further {x = x} a) e = code_seen (after seen x) a e
 
-pub there_seen : (seen : Seen) {ss : List Section} {s : Section} {row : ℕ} → Among s ss → row_in s.custom ≡ some row → (after_all seen ss).there row ≡ true
-there_seen seen {s = s} {row = row} (here {xs = xs}) e = there_stays (after seen s) xs row (right (seen.there row) (is_row (row_in s.custom) row) (is_this_row e))
+pub there_seen : {s : Section} (seen : Seen) {ss : List Section} {row : ℕ} → Among s ss → row_in s.custom ≡ some row → (after_all seen ss).there row ≡ true
+there_seen {s = s} seen {row = row} (here {xs = xs}) e = there_stays (after seen s) xs row (right (seen.there row) (is_row (row_in s.custom) row) (is_this_row e))
 there_seen seen (further {x = x} a) e = there_seen (after seen x) a e
 
 pub rank_seen : {seen : Seen} {ss : List Section} {s : Section} → Run seen ss → Among s ss → s.id ≢ 0 → rank s.id ≤ (after_all seen ss).rank
+rank_seen end a n = elim a [ ]
 rank_seen {s = s} (step {seen = seen} h r) here n = omega (arith, rank_rises r, new_rank seen s (ne_eqb s.id 0 n))
 rank_seen (step h r) (further a) n = rank_seen r a n
 

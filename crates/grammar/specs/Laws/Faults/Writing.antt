@@ -50,7 +50,7 @@ to_rising position least (x ∷ is) h k =
     rw (le-leb least x (h 0 x refl)) (to_rising (suc position) (suc x) is (λ i a e. let above = k 0 (suc i) x a (omega arith) refl e in omega arith) (λ i j a b l e e'. k (suc i) (suc j) a b (omega arith) e e'))
 
 -- Names that are text
-texts_of : (start : ℕ) {is ns text : List ℕ} {k : ℕ} {x : List ℕ} → bad_text_at start ns text ≡ none → Lists k x is ns text → utf8 x ≡ true
+texts_of : {k : ℕ} {x : List ℕ} (start : ℕ) {is ns text : List ℕ} → bad_text_at start ns text ≡ none → Lists k x is ns text → utf8 x ≡ true
 unfolding bad_text_at
 texts_of start u (first_listed {text = text} {n = n} e) = by_test (utf8 (take n text)) (λ t. rw (← e) t) (λ t. absurd (not_some (sym (rw t at u))))
 texts_of start u (later_listed {text = text} {n = n} l) = by_test (utf8 (take n text)) (λ t. texts_of (start + n) (rw t at u) l) (λ t. absurd (not_some (sym (rw t at u))))

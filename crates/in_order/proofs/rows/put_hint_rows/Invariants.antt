@@ -1,4 +1,4 @@
-use mathlib.Core.List.{◌∷◌}
+use mathlib.Core.List.{[], ◌∷◌}
 use Rattle.format.specs.Older.{older_hint}
 use Rattle.in_order.specs.Rows.{hints_rows}
 use Rattle.in_order.proofs.Listing.{PuttingRows}

@@ -1,4 +1,4 @@
-use mathlib.Core.List.{◌∷◌}
+use mathlib.Core.List.{[], ◌∷◌}
 use Rattle.format.specs.Older.{older_entry}
 use Rattle.in_order.specs.Rows.{entries_rows}
 use Rattle.in_order.proofs.Listing.{PuttingRows}

@@ -1,0 +1,17 @@
+use Rattle.entries.proofs.GroupLaws.{grouping}
+use Rattle.entries.proofs.maps.put_groups.Goals as goal
+
+pub loop-first-init : goal.loop-first-init
+loop-first-init c = search grouping
+
+pub returns-in-End : goal.returns-in-End
+returns-in-End c = search grouping
+
+pub rows_here-group-requires : goal.rows_here-group-requires
+rows_here-group-requires c = search grouping
+
+pub put_rows-put-requires : goal.put_rows-put-requires
+put_rows-put-requires c = search grouping
+
+pub loop-first-preserved : goal.loop-first-preserved
+loop-first-preserved c = search grouping
