@@ -46,7 +46,7 @@ module _ {s : List ℕ} {c : Cursor} (i : Inside s c) where
   pub byte_there : c.at < c.end → c.at < length s
   byte_there h = omega (arith, i.within)
 
-pub ruleset byte_Reads = (byte_missing, byte_got, byte_there, rules)
+pub ruleset byte_reads = (byte_missing, byte_got, byte_there, rules)
 
 module _ {read : Reader ℕ} {s : List ℕ} {c : Cursor} {x : Read} (g : Reads read s c x) where
   module _ {v : ℕ} {next : Cursor} (e : x ≡ Value v next) where

@@ -94,7 +94,7 @@ use Rattle.format.specs.declared.TagIndex.{TagIndex}
 use Rattle.format.specs.declared.Question.{Question}
 use Rattle.format.specs.declared.Question.TheVariants.{ModuleName, FunctionName, LocalName, LabelName, TypeName, TableName, MemoryName, GlobalName, ElementName, DataName, FieldName, TagName, KeptContents}
 -- Of metadata and hints: `ItemQuestion` is a function and an offset, each a record of one number; `ItemInRange q` says that both are below 4,294,967,296. `OlderInRange q` says it of a question for a hint of the older edition.
-use Rattle.format.specs.Theorems.{ItemInRange, OlderInRange}
+use Rattle.format.specs.Theorems.{ItemQuestion, ItemInRange, OlderInRange}
 -- THE CALLS, each by its promise: `WmWalk bytes a` says that the answer a is one that the promise of wm_walk allows for these bytes. It is the promise itself, the one name that stands in the `ensures` of the call in crates/wakemiono/src. What the promises come to is said below, so that nothing has to be known of how they are put. `WmName q` is the promise of the call that asks q: wm_module_name asks `ModuleName`, wm_function_name `FunctionName` of its function, wm_type_name `TypeName` of its index, wm_tag_name `TagName` of its tag, wm_local_name `LocalName` of its function and its local, wm_field_name `FieldName` of its index and its field, wm_kept `KeptContents` of its id; `WmNameIn q` is that of the same call with `_in`, which is lent a module. `WmWideName q` and `WmWideNameIn q` are those of the wider edition, wm_wide_module_name and so on, which has six more: wm_wide_label_name asks `LabelName` of its function and its label, wm_wide_table_name `TableName`, wm_wide_memory_name `MemoryName`, wm_wide_global_name `GlobalName`, wm_wide_element_name `ElementName` and wm_wide_data_name `DataName`. The calls that write are promised of the output before and after, too: `old` and `new`. `WmMarkers p is os is' os' a` is promised of both lists before the call, `is` and `os`, and after it; `WmOldHintsList p lists lists' a` of its three lists before the call and after it; `WmQuickFunctionName p is os end function a` of a payload, two lists, an end and the function asked. `WmPair q separate own a` is the promise of the call that asks q over two payloads, wm_pair_module_name and so on, and `WmWidePair` that of the wider edition; `WmPairJoin separate own old new a` is the join's. `WmStreamPart s p t a` is promised of the state before the call, s, a part, the state after the call, t, and the answer; `WmStreamFinish s t a` of both states and the answer; `WmStreamBegin b` of the state that comes back. `WmTableStart n t` is promised of the length of a store and the table that comes back; `WmTableOpen t s customer payload work u r work' a` of the table, the store and the work buffer before the call and after it, u, r and work'; `WmTableFunctionName t s customer hold function out out' a` of the output before and after, as nothing else is written to, and `WmTableClose t s customer hold u a` of the table. `WmNamesList p id lists lists' a`, `WmWideNamesList`, `WmMetadataList p lists lists' a` and `WmHintsList` are promised of all lists before the call and after it, in the order of the call.
 use Rattle.wakemiono.specs.Calls.{WmWalk, WmSection, WmCustom, WmNamesJudge, WmName, WmMetadataJudge, WmMetadata, WmHintsJudge, WmHint, WmNameIn, WmMetadataIn, WmHintIn, WmNamesCanonical, WmMetadataCanonical, WmHintsCanonical, WmFunctionNamesWrite, WmNamesIsCanonical, WmMetadataIsCanonical, WmHintsIsCanonical, WmWideNamesJudge, WmWideName, WmWideNameIn, WmWideNamesCanonical, WmWideNamesIsCanonical, WmOldHintsJudge, WmOldHint, WmOldHintIn, WmOldHintsCanonical, WmOldHintsIsCanonical, WmOldHintsList, WmWhyFunction, WmWhyLocal, WmMarkers, WmQuickFunctionName, WmPair, WmWidePair, WmPairJoin, WmWidePairJoin, WmStreamBegin, WmStreamPart, WmStreamFinish, WmHintsOnBranches, WmTableStart, WmTableOpen, WmTableFunctionName, WmTableClose, WmTableCompact, WmNamesList, WmWideNamesList, WmMetadataList, WmHintsList}
 -- HINTS ON BRANCHES, by crates/branches/specs: `hints_on_branches m` is the check of a module; `imported_functions` counts the functions that are imported, and `function_bodies` are the bodies. `Placed` has a `number`, where it stands, `at`, and its `value`: of hints, by function and then by offset. The rule without a step stands in Rule.antt, over the grammar of core specification 1.0 in Grammar.antt: `HasHints m`: walk and hint payload of m are accepted; `Hinted m first parts fs`: so are its import list and its list of bodies, `first` functions are imported, `parts` are the bodies and fs the hints. `AllSit first parts fs`: every hint of fs has a body of which a br_if or an if begins at its offset. `ModuleRefused m n at`: the walk, the payload, the import list, the list of bodies or the first hint that does not sit is refused with n at that offset.
@@ -533,21 +533,6 @@ offsets_of (h ∷ hs) = h.offset ∷ offsets_of hs
 abbrev pub InOrder : List OlderEntry → Type 0
 InOrder m = Rise (functions_of m) × ((i : ℕ) (e : OlderEntry) → get_elem? m i ≡ some e → Rise (offsets_of e.hints))
 
--- "the editions are kept and asked apart": each call through a module asks its own section, and these have two names
-pub record KeptApart : Type 0 where
-  pub through_modules : (function offset : ℕ) → PutThrough older_hint_section (WmOldHint function offset) (WmOldHintIn function offset)
-  pub newer_through_modules : (function offset : ℕ) → PutThrough hint_section (WmHint function offset) (WmHintIn function offset)
-  pub two_names : older_hint_section ≢ hint_section
-
--- "a payload whose rewriting is refused 15 has none": no payload below 4,294,967,296 bytes is, and where it is accepted an output as long as the payload is enough
-pub record OlderFits : Type 0 where
-  pub never-15 : (p old new : List ℕ) (a : WmAnswer) → length p < 4_294_967_296 → WmOldHintsCanonical p old new a → (offset : ℕ) → a ≡ wm_refused 15 offset → ⊥
-  pub room_enough : (p old new : List ℕ) (a j : WmAnswer) → length p < 4_294_967_296 → WmOldHintsJudge p j → j.kind ≡ 1 → length p ≤ length old → WmOldHintsCanonical p old new a → a.kind ≡ 1
-
--- demand 3. Hints are the same where the whole answers are
-abbrev pub RewritesOlder : Type 0
-RewritesOlder = Rewritten WmOldHintsJudge (λ q. WmOldHint q.0.0 q.1.0) OlderInRange (λ _ _ a b. a ≡ b) WmOldHintsCanonical
-
 pub record K2 : Type 0 where
   -- demand 1 of the older edition
   pub judge : (payload : List ℕ) (a : WmAnswer) → Bytes payload → WmOldHintsJudge payload a → Answers Verdict (OlderFault payload) a
@@ -560,9 +545,15 @@ pub record K2 : Type 0 where
   pub whole : (p : List ℕ) (a : WmAnswer) → WmOldHintsJudge p a → a.kind ≡ 1 → a ≡ wm_found 0 0 (length p)
   -- "the first hint in the file for a pair answers: unlikely for kind 0, likely for kind 1, however the kind is padded, and none without one"
   pub hints : AnswersOlder
-  pub apart : KeptApart
-  pub rewritten : RewritesOlder
-  pub fitting : OlderFits
+  -- "the editions are kept and asked apart": each call through a module asks its own section, and these have two names
+  pub through_modules : (function offset : ℕ) → PutThrough older_hint_section (WmOldHint function offset) (WmOldHintIn function offset)
+  pub newer_through_modules : (function offset : ℕ) → PutThrough hint_section (WmHint function offset) (WmHintIn function offset)
+  pub apart : older_hint_section ≢ hint_section
+  -- demand 3. Hints are the same where the whole answers are
+  pub rewritten : Rewritten WmOldHintsJudge (λ q. WmOldHint q.0.0 q.1.0) OlderInRange (λ _ _ a b. a ≡ b) WmOldHintsCanonical
+  -- "a payload whose rewriting is refused 15 has none": no payload below 4,294,967,296 bytes is, and where it is accepted an output as long as the payload is enough
+  pub never-15 : (p old new : List ℕ) (a : WmAnswer) → length p < 4_294_967_296 → WmOldHintsCanonical p old new a → (offset : ℕ) → a ≡ wm_refused 15 offset → ⊥
+  pub room_enough : (p old new : List ℕ) (a j : WmAnswer) → length p < 4_294_967_296 → WmOldHintsJudge p j → j.kind ≡ 1 → length p ≤ length old → WmOldHintsCanonical p old new a → a.kind ≡ 1
   -- "sorted by function and offset, shadowed hints dropped, one entry per function"
   pub in_order : (p old new : List ℕ) (a : WmAnswer) → WmOldHintsCanonical p old new a → a.kind ≡ 1 → (m : List OlderEntry) → OlderHints (take a.length new) m → InOrder m
   -- the yes or no of K10

@@ -87,7 +87,7 @@ use Rattle.promises.specs.Laws.Pairs.{asks_pairs, hands_back}
 use Rattle.promises.specs.Laws.Joins.{joins_pairs}
 use Rattle.promises.specs.Laws.Walking.{walked, walk_counts, section_found, section_first, section_none, section_refused, custom_tells, custom_refused}
 use Rattle.wakemiono.specs.Calls.{WmWalk, WmMetadataJudge, WmHintsJudge, WmMetadataCanonical, WmHintsCanonical, WmFunctionNamesWrite, WmOldHintsJudge, WmOldHintsCanonical, WmHintsOnBranches}
-use Rattle.promises.specs.Demands.{Verdict, Reply, SectionReply, HintReply, Answers, RefusedThrough, RefusedOrShort, ListsRefused, NeedsRoom, Writing, Demand1, HoldsName, HoldsData, JudgesExactly, AnswersNames, AnswersMetadata, AnswersHints, Walks, Demand2, SameAnswer, Rewritten, Rewrites, Demand3, yes, no, reply_none, reply_found, reply_refused, section_none_lem, section_found_lem, section_refused_lem, hint_none, hint_unlikely, hint_likely, hint_refused_lem, by_aFault, too_short, Faulty, lists_fault, output_too_short, TellsCanonical, K10, K9, OlderRefused, AnswersOlder, KeptApart, OlderFits, RewritesOlder, K2, OldHintsListed, older_fault, older_too_long, older_too_short, K11, K7, K8, K3, K5, K6, K12, K13, EveryEntry}
+use Rattle.promises.specs.Demands.{Verdict, Reply, SectionReply, HintReply, Answers, RefusedThrough, RefusedOrShort, ListsRefused, NeedsRoom, Writing, Demand1, HoldsName, HoldsData, JudgesExactly, AnswersNames, AnswersMetadata, AnswersHints, Walks, Demand2, SameAnswer, Rewritten, Rewrites, Demand3, yes, no, reply_none, reply_found, reply_refused, section_none_lem, section_found_lem, section_refused_lem, hint_none, hint_unlikely, hint_likely, hint_refused_lem, by_aFault, too_short, Faulty, lists_fault, output_too_short, TellsCanonical, K10, K9, OlderRefused, AnswersOlder, K2, OldHintsListed, older_fault, older_too_long, older_too_short, K11, K7, K8, K3, K5, K6, K12, K13, EveryEntry}
 use Rattle.branches.specs.Branches.{hints_on_branches}
 use Rattle.branches.specs.Theorems.{module_exactly, module_refused_exactly, without_hints}
 use Rattle.promises.specs.Answers.{says_verdict, verdict_said}
@@ -430,23 +430,6 @@ older_answered = record {
   refuses = λ f o p a j e says. older_hint_refused (record { 0 = f }) (record { 0 = o }) p a e (judged_said (length p) (judge_older 0 p) says);
 }
 
-kept_apart : KeptApart
-unfolding ask_older
-kept_apart = record {
-  through_modules = λ f o. older_through (record { 0 = f }) (record { 0 = o });
-  newer_through_modules = λ f o. hint_through (record { 0 = f }) (record { 0 = o });
-  two_names = sections_apart;
-}
-
-older_rewrites : RewritesOlder
-older_rewrites = rewritten older_written older_refuse older_asked
-
-older_fits : OlderFits
-older_fits = record {
-  never-15 = older_never_15;
-  room_enough = λ p old new a j l. fits older_written older_refuse older_asked p old new a j (λ acc. older_rewritten.accepts acc l);
-}
-
 pub k2 : K2
 unfolding ask_older older_is_canonical
 k2 = record {
@@ -458,9 +441,12 @@ k2 = record {
   judged = judges (judge_older 0) (λ es. es) WmOldHintsJudge (older_exact 0) (λ p a e. judged_said (length p) (judge_older 0 p) e);
   whole = λ p a. judged_whole (length p) (verdict (judge_older 0 p));
   hints = older_answered;
-  apart = kept_apart;
-  rewritten = older_rewrites;
-  fitting = older_fits;
+  through_modules = λ f o. older_through (record { 0 = f }) (record { 0 = o });
+  newer_through_modules = λ f o. hint_through (record { 0 = f }) (record { 0 = o });
+  apart = sections_apart;
+  rewritten = rewritten older_written older_refuse older_asked;
+  never-15 = older_never_15;
+  room_enough = λ p old new a j l. fits older_written older_refuse older_asked p old new a j (λ acc. older_rewritten.accepts acc l);
   in_order = older_ordered;
   told = told older_written never_empty;
 }

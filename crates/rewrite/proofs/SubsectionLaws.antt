@@ -252,7 +252,7 @@ module _ {kind_of : ℕ → AnyKind} {s : List ℕ} {c next : Cursor} {total : �
 
   module _ (h : next.at < next.end) where
     pub names_frame : KnownFrame s next
-    NamesFrame = frame_known t.here h
+    names_frame = frame_known t.here h
 
     module _ {r : Framed} (f : FrameStands s next r) where
       pub names_less : r.next.end - r.next.at < next.end - next.at
@@ -260,7 +260,7 @@ module _ {kind_of : ℕ → AnyKind} {s : List ℕ} {c next : Cursor} {total : �
 
       module _ (kind : Kind) (is : kind_meant kind ≡ kind_of r.id) where
         pub names_content : KnownContent (kind_meant kind) s r.part
-        NamesContent = rw is (content_known t.here h f)
+        names_content = rw is (content_known t.here h f)
 
         module _ {x : Left} {n : ℕ} (w : Trims (kind_meant kind) s r.part x) (long : n ≡ length_left (left_of x)) where
           pub names_more : CountingNames kind_of s c r.next (total + n)
@@ -272,4 +272,4 @@ module _ {kind_of : ℕ → AnyKind} {s : List ℕ} {c next : Cursor} {total : �
           pub names_fit : total + n < 2 ^ 64
           names_fit = omega (arith, names_more.so_far, payload_shorter names_more.whole, t.small)
 
-pub ruleset names_measured = (names_none, names_all, NamesFrame, names_less, NamesContent, trims_small, names_more, names_fit, rules)
+pub ruleset names_measured = (names_none, names_all, names_frame, names_less, names_content, trims_small, names_more, names_fit, rules)

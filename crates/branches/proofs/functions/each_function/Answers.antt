@@ -1,0 +1,20 @@
+use Rattle.branches.proofs.FunctionSteps.{going}
+use Rattle.branches.proofs.functions.each_function.Goals as goal
+
+pub number_here-count-requires : goal.number_here-count-requires
+number_here-count-requires c = search going
+
+pub loop-more-init : goal.loop-more-init
+loop-more-init c = search going
+
+pub one_function-requires-clause-opened : goal.one_function-requires-clause-opened
+one_function-requires-clause-opened c = search going
+
+pub returns-in-Refused : goal.returns-in-Refused
+returns-in-Refused c = search going
+
+pub loop-more-preserved : goal.loop-more-preserved
+loop-more-preserved c = search going
+
+pub returns : goal.returns
+returns c = search going

@@ -1,0 +1,11 @@
+use Rattle.branches.proofs.CheckSteps.{payload_steps}
+use Rattle.branches.proofs.on_branches.Goals as goal
+
+pub returns-in_default : goal.returns-in_default
+returns-in_default c = search payload_steps
+
+pub checked-requires-clause-listed : goal.checked-requires-clause-listed
+checked-requires-clause-listed c = search payload_steps
+
+pub returns : goal.returns
+returns c = search payload_steps

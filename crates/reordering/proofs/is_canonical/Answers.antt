@@ -1,0 +1,8 @@
+use Rattle.reordering.proofs.Payloads.{judgement_steps}
+use Rattle.reordering.proofs.is_canonical.Goals as goal
+
+pub tells-requires : goal.tells-requires
+tells-requires c = search judgement_steps
+
+pub returns-in-Refused : goal.returns-in-Refused
+returns-in-Refused c = search judgement_steps

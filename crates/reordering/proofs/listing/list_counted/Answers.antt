@@ -1,0 +1,11 @@
+use Rattle.reordering.proofs.Listings.{counted_lists}
+use Rattle.reordering.proofs.listing.list_counted.Goals as goal
+
+pub put_rows-requires : goal.put_rows-requires
+put_rows-requires c = search counted_lists
+
+pub returns-then-do_fit : goal.returns-then-do_fit
+returns-then-do_fit c = search counted_lists
+
+pub returns : goal.returns
+returns c = search counted_lists
