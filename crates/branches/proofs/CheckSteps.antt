@@ -15,10 +15,10 @@ use Rattle.format.specs.Questions.{answered, as_place}
 use Rattle.format.specs.Reading.{accepted, verdict}
 use Rattle.format.specs.Verdicts.{verdict_of}
 use Rattle.format.specs.Walk.{hint_section, custom_payload, walk, payload_in}
-use Rattle.format.specs.Laws.Answers.{place_none, place_found, place_refused}
-use Rattle.format.specs.Laws.Found.{payload_lies}
+use Rattle.format.proofs.Laws.Answers.{place_none, place_found, place_refused}
+use Rattle.format.proofs.Laws.Found.{payload_lies}
 use Rattle.format.specs.Laws.Outcomes.{mapped}
-use Rattle.format.specs.Laws.Places.{lies_inside, lies_slice}
+use Rattle.format.proofs.Laws.Places.{lies_inside, lies_slice}
 use Rattle.format.specs.declared.Answer.{Answer}
 use Rattle.format.specs.declared.Answer.TheVariants.{Found as FoundAt, Refused as NotAnswered}
 use Rattle.format.specs.declared.Place.{Place}

@@ -7,7 +7,7 @@ use Rattle.format.specs.Older.{times, vector}
 use Rattle.format.specs.Parts.{sized}
 use Rattle.format.specs.Reading.{got, Reader}
 use Rattle.format.specs.Laws.Outcomes.{got_value, got_next, got_rest, in_turn}
-use Rattle.format.specs.Laws.Passing.{number_passes, sized_passes}
+use Rattle.format.proofs.Laws.Passing.{number_passes, sized_passes}
 use Rattle.reading.specs.Cursors.{left}
 use Rattle.reading.specs.Standing.{Stands}
 use Rattle.reading.specs.declared.Cursor.{Cursor}

@@ -13,8 +13,8 @@ use Rattle.format.specs.Holding.{Framed, Covers, at_the_end_lem, a_section}
 use Rattle.format.specs.Parts.{sized}
 use Rattle.format.specs.Reading.{got, accepted}
 use Rattle.format.specs.Walk.{preamble, Section}
-use Rattle.format.specs.Laws.Codecs.{sized_codec}
-use Rattle.format.specs.Laws.Walk.{walk_covers}
+use Rattle.format.proofs.Laws.Codecs.{sized_codec}
+use Rattle.format.proofs.Laws.Walk.{walk_covers}
 use Rattle.reading.specs.Cursors.{Inside, left}
 use Rattle.reading.specs.Standing.{Stands, Known, TakesPart}
 use Rattle.reading.specs.declared.Cursor.{Cursor}

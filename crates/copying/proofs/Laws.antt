@@ -13,8 +13,8 @@ use Rattle.format.specs.Numbers.{number, shortest, limit32}
 use Rattle.format.specs.Parts.{Part, sized}
 use Rattle.format.specs.Tables.{Table, nil, row, size, map_table, rows, table}
 use Rattle.format.specs.Canonical.{write_part, write_rows, write_table, unless_empty, keep_rows, bare_items}
-use Rattle.format.specs.Laws.Codecs.{number_sound, sized_codec, table_codec, rows_sound}
-use Rattle.format.specs.Laws.Tables.{size_keep, kept_rows, rows_shorter as rows_kept_shorter}
+use Rattle.format.proofs.Laws.Codecs.{number_sound, sized_codec, table_codec, rows_sound}
+use Rattle.format.proofs.Laws.Tables.{size_keep, kept_rows, rows_shorter as rows_kept_shorter}
 use Rattle.reading.specs.Cursors.{Inside, left}
 use Rattle.reading.specs.Standing.{Stands}
 use Rattle.reading.specs.declared.Cursor.{Cursor}

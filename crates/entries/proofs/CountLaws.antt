@@ -7,7 +7,7 @@ use borrow.Author.Rules.{rules}
 use denote.Enum.Declared.{tag_of}
 use lib.ListN.{length, length-append}
 use Rattle.format.specs.Entries.{rows_under, group_rows}
-use Rattle.format.specs.Laws.Entries.{under_count}
+use Rattle.format.proofs.Laws.Entries.{under_count}
 use Rattle.format.specs.Laws.Outcomes.{got_value}
 use Rattle.format.specs.Laws.Turns.{in_row}
 use Rattle.format.specs.Numbers.{number}

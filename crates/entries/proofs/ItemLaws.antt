@@ -5,10 +5,10 @@ use mathlib.Core.Path.{◌≡◌, refl}
 use borrow.Author.Rules.{rules}
 use denote.Enum.Declared.{tag_of}
 use Rattle.format.specs.Entries.{Listed, group_rows, item_rows, Lists}
-use Rattle.format.specs.Laws.Entries.{lists_refused}
+use Rattle.format.proofs.Laws.Entries.{lists_refused}
 use Rattle.format.specs.Laws.Laxer.{Laxer, any_laxer, hint_laxer, table_laxer}
 use Rattle.format.specs.Laws.Outcomes.{judged, in_turn, ended}
-use Rattle.format.specs.Laws.Passing.{sized_passes}
+use Rattle.format.proofs.Laws.Passing.{sized_passes}
 use Rattle.format.specs.Metadata.{any_item, hint_item, metadata, judge_metadata}
 use Rattle.format.specs.Parts.{Part, sized}
 use Rattle.format.specs.Reading.{got, Reader, filling, accepted, verdict}

@@ -10,7 +10,7 @@ use lib.Dec.{leb}
 use lib.ListN.{length}
 use lib.Seq.{length-slice}
 use Rattle.format.specs.Entries.{Listed, plain_rows, rows_under, group_rows, place_columns, fit_each}
-use Rattle.format.specs.Laws.Entries.{plain_count, lists_short}
+use Rattle.format.proofs.Laws.Entries.{plain_count, lists_short}
 use Rattle.format.specs.Numbers.{number}
 use Rattle.format.specs.Parts.{Part, sized}
 use Rattle.format.specs.Reading.{Reader}

@@ -7,7 +7,7 @@ use borrow.Author.Rules.{rules}
 use denote.Enum.Declared.{tag_of}
 use lib.ListN.{length}
 use Rattle.format.specs.Entries.{plain_rows, group_rows, name_rows, place_columns, Lists}
-use Rattle.format.specs.Laws.Entries.{lists_refused, lists_none}
+use Rattle.format.proofs.Laws.Entries.{lists_refused, lists_none}
 use Rattle.format.specs.Laws.Outcomes.{accepted_is, judged, mapped}
 use Rattle.format.specs.Names.{one_name, name_map, indirect_map, Content, single, names, names_by, kind_in, contents, subsections, payload, judge_names}
 use Rattle.format.specs.Parts.{Part, sized, remaining}

@@ -33,8 +33,4 @@ pub mod MarkerCases
 pub mod PairCases
 pub mod EntryCases
 pub mod Laws
-pub mod Theorems
-pub mod PairTheorems
-pub mod Results
-pub mod Determined
 pub mod Promises

@@ -8,7 +8,7 @@ use Rattle.format.specs.Entries.{rows_under, group_rows}
 use Rattle.format.specs.Older.{OlderHint, OlderEntry, sorted_from}
 use Rattle.format.specs.OlderInOrder.{rising_entries}
 use Rattle.format.specs.Tables.{Table, nil, row}
-use Rattle.format.specs.Laws.OlderInOrder.{hint_table, entry_table, in_order}
+use Rattle.format.proofs.Laws.OlderInOrder.{hint_table, entry_table, in_order}
 use Rattle.in_order.specs.Rows.{hints_rows, entries_rows}
 
 -- a group without rows is none

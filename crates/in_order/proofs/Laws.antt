@@ -11,8 +11,8 @@ use lib.ListN.{length, length-append}
 use Rattle.format.specs.Numbers.{number, shortest}
 use Rattle.format.specs.Older.{OlderHint, OlderEntry, times, kind_numbered, older_hint, older_entry}
 use Rattle.format.specs.OlderInOrder.{rising_hints, rising_entries, hints_bytes, kept_entries, entries_bytes}
-use Rattle.format.specs.Laws.OlderEntries.{kind_numbered_lem, kind_byte}
-use Rattle.format.specs.Laws.Numbers.{shortest_mono}
+use Rattle.format.proofs.Laws.OlderEntries.{kind_numbered_lem, kind_byte}
+use Rattle.format.proofs.Laws.Numbers.{shortest_mono}
 use Rattle.format.specs.Laws.Outcomes.{by_test}
 use Rattle.reading.specs.Standing.{Stands, Known}
 use Rattle.reading.specs.declared.Cursor.{Cursor}

@@ -14,7 +14,7 @@ use Rattle.format.specs.Numbers.{number}
 use Rattle.format.specs.Older.{OlderHint, OlderEntry, kind_number, times, older_hint, older_entry}
 use Rattle.format.specs.OlderInOrder.{rising_entries, hints_bytes, entries_bytes}
 use Rattle.format.specs.Reading.{Reader}
-use Rattle.format.specs.Laws.OlderEntries.{kind_numbered_lem}
+use Rattle.format.proofs.Laws.OlderEntries.{kind_numbered_lem}
 use Rattle.format.specs.declared.Hint.{Hint}
 use Rattle.older.specs.Again.{hint_of, StandsHint}
 use Rattle.older.specs.Seeking.{opening}

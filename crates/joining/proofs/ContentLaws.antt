@@ -19,7 +19,7 @@ use Rattle.format.specs.Numbers.{shortest}
 use Rattle.format.specs.Options.{map_some}
 use Rattle.format.specs.Parts.{Part, sized}
 use Rattle.format.specs.Tables.{Table, nil, row, size, table, map_table}
-use Rattle.format.specs.Laws.Merging.{merge_no_left, merge_no_right}
+use Rattle.format.proofs.Laws.Merging.{merge_no_left, merge_no_right}
 use Rattle.format.specs.Laws.Outcomes.{by_test}
 use Rattle.names.specs.Contents.{kind_meant}
 use Rattle.names.specs.declared.kinds.Kind.{Kind}

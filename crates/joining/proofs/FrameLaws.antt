@@ -14,9 +14,9 @@ use Rattle.format.specs.Canonical.{bare}
 use Rattle.format.specs.Names.{Kind, Content, contents}
 use Rattle.format.specs.Parts.{Part, sized}
 use Rattle.format.specs.Tables.{Table, row, map_table}
-use Rattle.format.specs.Laws.Codecs.{Sorted, end, next, sized_codec}
-use Rattle.format.specs.Laws.Merging.{sorted_row}
-use Rattle.format.specs.Laws.Names.{SubFine, payload_sound}
+use Rattle.format.proofs.Laws.Codecs.{Sorted, end, next, sized_codec}
+use Rattle.format.proofs.Laws.Merging.{sorted_row}
+use Rattle.format.proofs.Laws.Names.{SubFine, payload_sound}
 use Rattle.format.specs.Laws.Outcomes.{by_test}
 use Rattle.names.specs.Frames.{behind_id, FrameStands as FrameThere}
 use Rattle.reading.specs.Cursors.{left}

@@ -14,7 +14,7 @@ use Rattle.format.specs.Joined.{merged, the_first}
 use Rattle.format.specs.Numbers.{shortest, limit32}
 use Rattle.format.specs.Parts.{Part, sized}
 use Rattle.format.specs.Tables.{Table, nil, row, size, map_table, table}
-use Rattle.format.specs.Laws.Numbers.{shortest_positive}
+use Rattle.format.proofs.Laws.Numbers.{shortest_positive}
 use Rattle.reading.specs.declared.Cursor.{Cursor}
 use Rattle.reading.proofs.Standing.{one_value}
 use Rattle.tables.specs.declared.Held.{Held}

@@ -12,9 +12,9 @@ use Rattle.format.specs.Numbers.{limit32}
 use Rattle.format.specs.Parts.{Part, sized}
 use Rattle.format.specs.Reading.{Reader}
 use Rattle.format.specs.Tables.{Table, nil, size, rows, table}
-use Rattle.format.specs.Laws.Codecs.{sized_codec, table_codec, rows_sound}
-use Rattle.format.specs.Laws.Merging.{merge_unless_empty, map_merged, keep_merged}
-use Rattle.format.specs.Laws.WrittenMerges.{merge_rows_length, merge_length}
+use Rattle.format.proofs.Laws.Codecs.{sized_codec, table_codec, rows_sound}
+use Rattle.format.proofs.Laws.Merging.{merge_unless_empty, map_merged, keep_merged}
+use Rattle.format.proofs.Laws.WrittenMerges.{merge_rows_length, merge_length}
 use Rattle.reading.specs.Cursors.{left as left_of}
 use Rattle.reading.specs.Standing.{Stands}
 use Rattle.reading.specs.declared.Cursor.{Cursor}

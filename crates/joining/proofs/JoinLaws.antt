@@ -11,8 +11,8 @@ use lib.Dec.{leb}
 use lib.ListN.{length}
 use Rattle.format.specs.Joined.{joined_contents, write_joined, join_names, JoinWrites}
 use Rattle.format.specs.Numbers.{limit32}
-use Rattle.format.specs.Laws.Joined.{contents_length}
-use Rattle.format.specs.Laws.JoiningAll.{short_fits}
+use Rattle.format.proofs.Laws.Joined.{contents_length}
+use Rattle.format.proofs.Laws.JoiningAll.{short_fits}
 use Rattle.format.specs.Names.{Kind, Content, payload, judge_names}
 use Rattle.format.specs.Parts.{Part}
 use Rattle.format.specs.Reading.{accepted, verdict, Accepted as IsAccepted}

@@ -15,7 +15,7 @@ use Rattle.format.specs.Joined.{the_first}
 use Rattle.format.specs.Numbers.{shortest, limit32}
 use Rattle.format.specs.Parts.{Part, sized}
 use Rattle.format.specs.Tables.{Table, nil, row, size}
-use Rattle.format.specs.Laws.Numbers.{shortest_positive}
+use Rattle.format.proofs.Laws.Numbers.{shortest_positive}
 use Rattle.format.specs.declared.Whose.{Whose}
 use Rattle.format.specs.declared.Whose.TheVariants.{Separate, Own}
 use Rattle.reading.specs.Cursors.{left as left_of, part_of}

@@ -5,7 +5,7 @@ use mathlib.Core.Path.{◌≡◌, refl, sym, ap, ◌∙◌}
 use Rattle.format.specs.Joined.{merged}
 use Rattle.format.specs.Reading.{Reader}
 use Rattle.format.specs.Tables.{nil, row, rows}
-use Rattle.format.specs.Laws.Merging.{merge_no_left, merge_no_right, merge_left, merge_right, merge_both}
+use Rattle.format.proofs.Laws.Merging.{merge_no_left, merge_no_right, merge_left, merge_right, merge_both}
 use Rattle.reading.specs.Standing.{Known}
 use Rattle.reading.specs.declared.Cursor.{Cursor}
 use Rattle.reading.proofs.Standing.{one_value}

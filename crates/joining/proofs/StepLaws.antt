@@ -10,7 +10,7 @@ use Rattle.format.specs.Joined.{merged, the_first}
 use Rattle.format.specs.Numbers.{number}
 use Rattle.format.specs.Parts.{sized}
 use Rattle.format.specs.Tables.{nil, table}
-use Rattle.format.specs.Laws.Merging.{merge_no_left, merge_no_right}
+use Rattle.format.proofs.Laws.Merging.{merge_no_left, merge_no_right}
 use Rattle.format.specs.declared.Whose.TheVariants.{Separate, Own}
 use Rattle.reading.specs.Cursors.{part_of}
 use Rattle.reading.specs.Standing.{Stands, Known}

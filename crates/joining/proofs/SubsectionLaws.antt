@@ -20,10 +20,10 @@ use Rattle.format.specs.Numbers.{shortest, limit32}
 use Rattle.format.specs.Options.{map_some}
 use Rattle.format.specs.Parts.{Part}
 use Rattle.format.specs.Tables.{Table, nil, map_table}
-use Rattle.format.specs.Laws.CanonicalNames.{norm_sorted, norm_fines, subsections_shorter}
-use Rattle.format.specs.Laws.JoiningAll.{joined_both, joined_trim, joined_length}
-use Rattle.format.specs.Laws.Merging.{merge_before, merge_behind}
-use Rattle.format.specs.Laws.Names.{payload_sound}
+use Rattle.format.proofs.Laws.CanonicalNames.{norm_sorted, norm_fines, subsections_shorter}
+use Rattle.format.proofs.Laws.JoiningAll.{joined_both, joined_trim, joined_length}
+use Rattle.format.proofs.Laws.Merging.{merge_before, merge_behind}
+use Rattle.format.proofs.Laws.Names.{payload_sound}
 use Rattle.format.specs.Laws.Options.{not_some, some_is}
 use Rattle.format.specs.Laws.Outcomes.{by_test}
 use Rattle.names.specs.Contents.{kind_meant}

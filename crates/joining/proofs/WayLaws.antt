@@ -8,7 +8,7 @@ use lib.ListN.{length, length-append}
 use Rattle.format.specs.Joined.{merged}
 use Rattle.format.specs.Reading.{Reader}
 use Rattle.format.specs.Tables.{Table, nil, row}
-use Rattle.format.specs.Laws.Merging.{merge_no_left}
+use Rattle.format.proofs.Laws.Merging.{merge_no_left}
 use Rattle.reading.proofs.Standing.{one_value, one_end}
 use Rattle.tables.specs.declared.stepping.Rows.{Rows}
 use Rattle.tables.proofs.Along.{Along, setting_out, ended}

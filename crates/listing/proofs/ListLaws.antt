@@ -22,10 +22,10 @@ use Rattle.format.specs.Listing.{decimal, num, piece, line, section_lines, paylo
 use Rattle.format.specs.Laws.Outcomes.{got_value, got_next, not_accepted, accepted_is, in_turn, mapped, refused_exactly}
 use Rattle.format.specs.Laws.Options.{not_some}
 use Rattle.format.specs.Laws.Turns.{in_sized, in_section}
-use Rattle.format.specs.Laws.Passing.{number_passes, Reaches, reach, reach_step}
-use Rattle.format.specs.Laws.Numbers.{shortest_positive}
-use Rattle.format.specs.Laws.Codecs.{number_sound}
-use Rattle.format.specs.Laws.Walk.{walk_ended, walk_stepped, walk_refused, walk_begun, walk_not_begun}
+use Rattle.format.proofs.Laws.Passing.{number_passes, Reaches, reach, reach_step}
+use Rattle.format.proofs.Laws.Numbers.{shortest_positive}
+use Rattle.format.proofs.Laws.Codecs.{number_sound}
+use Rattle.format.proofs.Laws.Walk.{walk_ended, walk_stepped, walk_refused, walk_begun, walk_not_begun}
 use Rattle.format.specs.declared.Answer.{Answer}
 use Rattle.format.specs.declared.Answer.TheVariants.{None as NoAnswer, Found as FoundAt, Refused as NotAnswered}
 use Rattle.format.specs.declared.Place.{Place}

@@ -1,5 +1,5 @@
 -- The promise of the program's listing determines what comes back: where the listing ends, and the output's bytes. The promises of its lines are such writes too, each of the line's own bytes.
-use Rattle.format.specs.Determined.{DeterminesBoth2}
+use Rattle.format.proofs.Determined.{DeterminesBoth2}
 use Rattle.writing.proofs.Laws.{wrote_same}
 use Rattle.listing.specs.Promises.{ListingList}
 

@@ -17,7 +17,7 @@ use Rattle.format.specs.Names.{names}
 use Rattle.format.specs.Canonical.{write_part, write_rows, write_table, write_content, unless_empty, keep_rows, write_subsections}
 use Rattle.format.specs.Lists.{sum, listed, unsorted_at, bad_text_at, unless, provided, subsection, function_names}
 use Rattle.format.specs.Outputs.{Writes}
-use Rattle.format.specs.Laws.Lists.{on_provided, on_unless}
+use Rattle.format.proofs.Laws.Lists.{on_provided, on_unless}
 use Rattle.format.specs.Laws.Outcomes.{accepted_is, by_test}
 use Rattle.format.specs.Laws.Outputs.{writes_refused, writes_short}
 use Rattle.format.specs.declared.Reason.{Reason}

@@ -7,7 +7,7 @@ use borrow.Author.Rules.{rules}
 use borrow.Author.Tests.{lt-ltb, le-ltb}
 use lib.ListN.{length, drop, get_or}
 use Rattle.format.specs.Numbers.{shortest, limit32}
-use Rattle.format.specs.Laws.Numbers.{shortest_positive}
+use Rattle.format.proofs.Laws.Numbers.{shortest_positive}
 use Rattle.format.specs.declared.Reason.TheVariants.{SubsectionTooLarge}
 use Rattle.lists.specs.Steps.{row_length, rows_length, contents_length, contents_as, size_check}
 use Rattle.lists.specs.declared.Contents.TheVariants.{Length, Refused}

@@ -1,6 +1,6 @@
 -- What users demand of the call, said of what it leaves.
 use Rattle.std.specs.Prelude.{ℕ, List, ◌≡◌, take}
-use Rattle.format.specs.Theorems.{WritesLists, lists_written}
+use Rattle.format.proofs.Theorems.{WritesLists, lists_written}
 use Rattle.format.specs.Names.{Kind, name_map}
 use Rattle.format.specs.Lists.{Indices, function_names}
 use Rattle.format.specs.Laws.Outputs.{on_written, writes_same}

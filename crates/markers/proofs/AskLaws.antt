@@ -16,8 +16,8 @@ use Rattle.format.specs.Reading.{stop, accepted, refused}
 use Rattle.format.specs.Refusals.{number_of}
 use Rattle.format.specs.Markers.{entry, first_with, from_marker, quick}
 use Rattle.format.specs.MarkerRule.{FirstFault, NoFault, AllAbove}
-use Rattle.format.specs.Laws.MarkerEntries.{entry_reads}
-use Rattle.format.specs.Laws.MarkerRule.{quick_long, quick_fewer_indices, quick_fewer_offsets, quick_end_outside, quick_fault, quick_answers, all_above, starts_at}
+use Rattle.format.proofs.Laws.MarkerEntries.{entry_reads}
+use Rattle.format.proofs.Laws.MarkerRule.{quick_long, quick_fewer_indices, quick_fewer_offsets, quick_end_outside, quick_fault, quick_answers, all_above, starts_at}
 use Rattle.format.specs.declared.Answer.{Answer}
 use Rattle.format.specs.declared.Answer.TheVariants.{None, Refused as NotAnswered}
 use Rattle.format.specs.declared.FunctionIndex.{FunctionIndex}

@@ -18,9 +18,9 @@ use Rattle.format.specs.Verdicts.{verdict_of, refusal_in}
 use Rattle.format.specs.Markers.{Entry, all_entries, thinned, Markers, unknown, functions_part, markers_of, unless_long, fitting_both, made, Makes}
 use Rattle.format.specs.Laws.Options.{not_some, some_is}
 use Rattle.format.specs.Laws.Outcomes.{accepted_is, judged, mapped, got_value}
-use Rattle.format.specs.Laws.MarkerEntries.{all_read}
-use Rattle.format.specs.Laws.MarkerParts.{payload_kept, end_of, MarkersIn, no_functions, of_functions, markers_stand}
-use Rattle.format.specs.Laws.MarkersMade.{made_refused, made_long, made_fits}
+use Rattle.format.proofs.Laws.MarkerEntries.{all_read}
+use Rattle.format.proofs.Laws.MarkerParts.{payload_kept, end_of, MarkersIn, no_functions, of_functions, markers_stand}
+use Rattle.format.proofs.Laws.MarkersMade.{made_refused, made_long, made_fits}
 use Rattle.format.specs.declared.Answer.{Answer}
 use Rattle.format.specs.declared.Answer.TheVariants.{Found, Refused}
 use Rattle.format.specs.declared.Query.TheVariants.{ItsContents}

@@ -16,8 +16,8 @@ use Rattle.format.specs.Tables.{Table, rows}
 use Rattle.format.specs.Markers.{Entry, entry, entries}
 use Rattle.format.specs.Laws.Outcomes.{got_value, got_next, got_rest, on_both}
 use Rattle.format.specs.Laws.Turns.{in_row}
-use Rattle.format.specs.Laws.Passing.{number_passes}
-use Rattle.format.specs.Laws.MarkerEntries.{in_entry, in_entries, entry_reads, entry_passes}
+use Rattle.format.proofs.Laws.Passing.{number_passes}
+use Rattle.format.proofs.Laws.MarkerEntries.{in_entry, in_entries, entry_reads, entry_passes}
 use Rattle.reading.specs.Cursors.{left as left_of}
 use Rattle.reading.specs.Standing.{Stands, Known, TakesPart}
 use Rattle.reading.specs.declared.Cursor.{Cursor}

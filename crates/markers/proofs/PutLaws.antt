@@ -12,7 +12,7 @@ use Rattle.format.specs.Parts.{Part, sized}
 use Rattle.format.specs.Tables.{rows}
 use Rattle.format.specs.Markers.{Entry, entries, thinned}
 use Rattle.format.specs.Laws.Outcomes.{got_value, got_next, got_rest}
-use Rattle.format.specs.Laws.MarkerEntries.{in_entry, in_entries, rows_entries, thinned_first, thinned_passed, thinned_none, markers_count}
+use Rattle.format.proofs.Laws.MarkerEntries.{in_entry, in_entries, rows_entries, thinned_first, thinned_passed, thinned_none, markers_count}
 use Rattle.reading.specs.Cursors.{left as left_of}
 use Rattle.reading.specs.Standing.{Stands, Known}
 use Rattle.reading.specs.declared.Cursor.{Cursor}

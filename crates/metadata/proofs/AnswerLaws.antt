@@ -14,9 +14,9 @@ use Rattle.format.specs.Parts.{Part}
 use Rattle.format.specs.Questions.{answered, as_place}
 use Rattle.format.specs.Metadata.{data_of, hint_item, judge_metadata, item_at, ask_metadata, hint_in, ask_hint, hint_answered}
 use Rattle.format.specs.Laws.Outcomes.{mapped, refused_exactly}
-use Rattle.format.specs.Laws.Hints.{hint_is, found_hint}
-use Rattle.format.specs.Laws.Places.{lies_inside, lies_there, PartIn, hint_located}
-use Rattle.format.specs.Laws.Found.{item_lies}
+use Rattle.format.proofs.Laws.Hints.{hint_is, found_hint}
+use Rattle.format.proofs.Laws.Places.{lies_inside, lies_there, PartIn, hint_located}
+use Rattle.format.proofs.Laws.Found.{item_lies}
 use Rattle.format.specs.declared.Answer.{Answer}
 use Rattle.format.specs.declared.Answer.TheVariants.{Refused as NotAnswered}
 use Rattle.format.specs.declared.CodeOffset.{CodeOffset}

@@ -8,8 +8,8 @@ use Rattle.format.specs.Reading.{accepted}
 use Rattle.format.specs.Parts.{Part}
 use Rattle.format.specs.Questions.{as_place, as_bytes, start_of, answered}
 use Rattle.format.specs.Metadata.{any_item, ask_metadata}
-use Rattle.format.specs.Laws.Places.{PartIn, lies_all, any_located}
-use Rattle.format.specs.Laws.Found.{item_lies}
+use Rattle.format.proofs.Laws.Places.{PartIn, lies_all, any_located}
+use Rattle.format.proofs.Laws.Found.{item_lies}
 use Rattle.format.specs.declared.Answer.{Answer}
 use Rattle.format.specs.declared.CodeOffset.{CodeOffset}
 use Rattle.format.specs.declared.FunctionIndex.{FunctionIndex}

@@ -11,8 +11,8 @@ use Rattle.format.specs.Bytes.{Bytes}
 use Rattle.format.specs.Tables.{table}
 use Rattle.format.specs.Forms.{told, told_end, is_yes, part_form, table_form}
 use Rattle.format.specs.Telling.{items_are_canonical}
-use Rattle.format.specs.Laws.Codecs.{name_codec, any_codec, hint_codec}
-use Rattle.format.specs.Laws.TellingItems.{one_byte_told, lists_told}
+use Rattle.format.proofs.Laws.Codecs.{name_codec, any_codec, hint_codec}
+use Rattle.format.proofs.Laws.TellingItems.{one_byte_told, lists_told}
 use Rattle.reading.specs.Cursors.{over_all}
 use Rattle.reading.specs.declared.Cursor.{Cursor}
 use Rattle.reading.proofs.Laws.{over_inside, left_all}

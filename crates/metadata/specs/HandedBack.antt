@@ -1,11 +1,11 @@
 -- What users demand of the calls, said of what they hand back.
 use Rattle.std.specs.Prelude.{ℕ, List, ◌≡◌}
-use Rattle.format.specs.Results.{CallAnswers, calls_answer, CallHints, hints_call}
+use Rattle.format.proofs.Results.{CallAnswers, calls_answer, CallHints, hints_call}
 use Rattle.format.specs.Canonical.{bare_items}
-use Rattle.format.specs.Theorems.{ItemQuestion, any_metadata_answered}
+use Rattle.format.proofs.Theorems.{ItemQuestion, any_metadata_answered}
 use Rattle.format.specs.Examples.{hex, digit}
 use Rattle.format.specs.Holding.{HasWithin}
-use Rattle.format.specs.Laws.Answers.{same_answer}
+use Rattle.format.proofs.Laws.Answers.{same_answer}
 use Rattle.format.specs.Metadata.{any_item, metadata, judge_metadata, item_at, ask_metadata, ask_hint, hint_answered}
 use Rattle.format.specs.Numbers.{number, groups}
 use Rattle.format.specs.Parts.{sized}

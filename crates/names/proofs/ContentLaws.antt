@@ -20,7 +20,7 @@ use Rattle.format.specs.declared.Query.{Query}
 use Rattle.format.specs.declared.Query.TheVariants.{ItsName, NameOf, NameWithin}
 use Rattle.format.specs.Laws.Outcomes.{by_test, by_outcome, accepted_is, not_accepted}
 use Rattle.format.specs.Laws.Laxer.{Laxer, name_laxer, table_laxer, filled_laxer}
-use Rattle.format.specs.Laws.Passing.{sized_passes}
+use Rattle.format.proofs.Laws.Passing.{sized_passes}
 use Rattle.format.specs.declared.Edition.{Edition}
 use Rattle.format.specs.declared.Edition.TheVariants.{First, Wider}
 use Rattle.format.specs.declared.Answer.{Answer}

@@ -20,8 +20,8 @@ use Rattle.format.specs.Questions.{answered}
 use Rattle.format.specs.Tables.{Table, nil, row, lookup}
 use Rattle.format.specs.Names.{Kind, Content, contents, subsections, payload, judge_names}
 use Rattle.format.specs.Laws.Outcomes.{not_accepted, got_value, got_next, got_rest, by_test, by_outcome, judged, accepted_is}
-use Rattle.format.specs.Laws.Codecs.{sized_codec}
-use Rattle.format.specs.Laws.Passing.{sized_passes}
+use Rattle.format.proofs.Laws.Codecs.{sized_codec}
+use Rattle.format.proofs.Laws.Passing.{sized_passes}
 use Rattle.format.specs.declared.Answer.{Answer}
 use Rattle.format.specs.declared.Answer.TheVariants.{None as NoAnswer, Found as FoundAt, Refused as NotAnswered}
 use Rattle.format.specs.declared.Refusal.{Refusal}

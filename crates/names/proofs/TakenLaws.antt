@@ -9,8 +9,8 @@ use Rattle.format.specs.Parts.{Part}
 use Rattle.format.specs.Names.{Kind}
 use Rattle.format.specs.Questions.{id_of, query_of, ask_at, ask, as_place, as_bytes, start_of, answered}
 use Rattle.format.specs.declared.Question.{Question}
-use Rattle.format.specs.Laws.Places.{PartIn, lies_all}
-use Rattle.format.specs.Laws.Found.{name_lies}
+use Rattle.format.proofs.Laws.Places.{PartIn, lies_all}
+use Rattle.format.proofs.Laws.Found.{name_lies}
 use Rattle.format.specs.declared.Answer.{Answer}
 use Rattle.reading.specs.Taken.{Takes}
 use Rattle.reading.proofs.TakenLaws.{answer_bytes, answer_start}

@@ -22,8 +22,8 @@ use Rattle.format.specs.Forms.{Told, behind, no, told, is_yes, part_form, table_
 use Rattle.format.specs.Telling.{as_few, names_are_canonical}
 use Rattle.format.specs.Laws.Outcomes.{not_got, got_value, got_next, got_rest, by_test, by_outcome, false_true, in_turn, passed}
 use Rattle.format.specs.Laws.Options.{not_some, some_is}
-use Rattle.format.specs.Laws.Telling.{in_told}
-use Rattle.format.specs.Laws.TellingNames.{one_name_told, map_told, indirect_told, kept_told, contents_end, payload_told_end, payload_told_low, payload_told_none, payload_told_padded, payload_told_no, payload_told_on, payload_told}
+use Rattle.format.proofs.Laws.Telling.{in_told}
+use Rattle.format.proofs.Laws.TellingNames.{one_name_told, map_told, indirect_told, kept_told, contents_end, payload_told_end, payload_told_low, payload_told_none, payload_told_padded, payload_told_no, payload_told_on, payload_told}
 use Rattle.reading.specs.Cursors.{Inside, over_all, left, part_of, PartReads}
 use Rattle.reading.specs.declared.Cursor.{Cursor}
 use Rattle.reading.specs.declared.PartRead.{PartRead}

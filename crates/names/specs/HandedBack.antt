@@ -1,11 +1,11 @@
 -- What users demand of the calls, said of what they hand back.
 use Rattle.std.specs.Prelude.{ℕ, List, ◌≡◌}
-use Rattle.format.specs.Results.{CallAnswers, calls_answer}
+use Rattle.format.proofs.Results.{CallAnswers, calls_answer}
 use Rattle.format.specs.Canonical.{bare}
-use Rattle.format.specs.Theorems.{questions_answered}
+use Rattle.format.proofs.Theorems.{questions_answered}
 use Rattle.format.specs.Examples.{hex, digit}
 use Rattle.format.specs.Holding.{Holds}
-use Rattle.format.specs.Laws.Answers.{same_answer}
+use Rattle.format.proofs.Laws.Answers.{same_answer}
 use Rattle.format.specs.Names.{Kind, known, known_kind, contents, subsections, payload, judge_names}
 use Rattle.format.specs.Numbers.{number, groups}
 use Rattle.format.specs.Parts.{sized, name}

@@ -13,7 +13,7 @@ use Rattle.format.specs.Parts.{Part, sized}
 use Rattle.format.specs.Reading.{accepted}
 use Rattle.format.specs.Tables.{Table, row, lookup, rows, table}
 use Rattle.format.specs.Why.{why_from, why_in, group_in}
-use Rattle.format.specs.Laws.Codecs.{number_sound}
+use Rattle.format.proofs.Laws.Codecs.{number_sound}
 use Rattle.reading.specs.Cursors.{left as left_of}
 use Rattle.reading.specs.Standing.{Stands, Known}
 use Rattle.reading.specs.declared.Cursor.{Cursor}

@@ -11,9 +11,9 @@ use Rattle.format.specs.Reading.{got, Reader}
 use Rattle.format.specs.Numbers.{number}
 use Rattle.format.specs.Older.{OlderHint, OlderEntry, times, vector, zero_byte, kind_numbered, older_kind, older_hint, older_entry}
 use Rattle.format.specs.Laws.Outcomes.{by_test, not_got, got_value, got_next, got_rest, in_turn, passed}
-use Rattle.format.specs.Laws.Codecs.{number_sound}
-use Rattle.format.specs.Laws.Numbers.{shortest_positive}
-use Rattle.format.specs.Laws.Passing.{Passes, number_passes, Reaches, reach, reach_step}
+use Rattle.format.proofs.Laws.Codecs.{number_sound}
+use Rattle.format.proofs.Laws.Numbers.{shortest_positive}
+use Rattle.format.proofs.Laws.Passing.{Passes, number_passes, Reaches, reach, reach_step}
 use Rattle.reading.specs.Cursors.{left}
 use Rattle.reading.specs.Standing.{Stands, Known}
 use Rattle.reading.specs.declared.Cursor.{Cursor}

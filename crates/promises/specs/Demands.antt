@@ -94,7 +94,7 @@ use Rattle.format.specs.declared.TagIndex.{TagIndex}
 use Rattle.format.specs.declared.Question.{Question}
 use Rattle.format.specs.declared.Question.TheVariants.{ModuleName, FunctionName, LocalName, LabelName, TypeName, TableName, MemoryName, GlobalName, ElementName, DataName, FieldName, TagName, KeptContents}
 -- Of metadata and hints: `ItemQuestion` is a function and an offset, each a record of one number; `ItemInRange q` says that both are below 4,294,967,296. `OlderInRange q` says it of a question for a hint of the older edition.
-use Rattle.format.specs.Theorems.{ItemQuestion, ItemInRange, OlderInRange}
+use Rattle.format.proofs.Theorems.{ItemQuestion, ItemInRange, OlderInRange}
 -- THE CALLS, each by its promise: `WmWalk bytes a` says that the answer a is one that the promise of wm_walk allows for these bytes. It is the promise itself, the one name that stands in the `ensures` of the call in crates/wakemiono/src. What the promises come to is said below, so that nothing has to be known of how they are put. `WmName q` is the promise of the call that asks q: wm_module_name asks `ModuleName`, wm_function_name `FunctionName` of its function, wm_type_name `TypeName` of its index, wm_tag_name `TagName` of its tag, wm_local_name `LocalName` of its function and its local, wm_field_name `FieldName` of its index and its field, wm_kept `KeptContents` of its id; `WmNameIn q` is that of the same call with `_in`, which is lent a module. `WmWideName q` and `WmWideNameIn q` are those of the wider edition, wm_wide_module_name and so on, which has six more: wm_wide_label_name asks `LabelName` of its function and its label, wm_wide_table_name `TableName`, wm_wide_memory_name `MemoryName`, wm_wide_global_name `GlobalName`, wm_wide_element_name `ElementName` and wm_wide_data_name `DataName`. The calls that write are promised of the output before and after, too: `old` and `new`. `WmMarkers p is os is' os' a` is promised of both lists before the call, `is` and `os`, and after it; `WmOldHintsList p lists lists' a` of its three lists before the call and after it; `WmQuickFunctionName p is os end function a` of a payload, two lists, an end and the function asked. `WmPair q separate own a` is the promise of the call that asks q over two payloads, wm_pair_module_name and so on, and `WmWidePair` that of the wider edition; `WmPairJoin separate own old new a` is the join's. `WmStreamPart s p t a` is promised of the state before the call, s, a part, the state after the call, t, and the answer; `WmStreamFinish s t a` of both states and the answer; `WmStreamBegin b` of the state that comes back. `WmTableStart n t` is promised of the length of a store and the table that comes back; `WmTableOpen t s customer payload work u r work' a` of the table, the store and the work buffer before the call and after it, u, r and work'; `WmTableFunctionName t s customer hold function out out' a` of the output before and after, as nothing else is written to, and `WmTableClose t s customer hold u a` of the table. `WmNamesList p id lists lists' a`, `WmWideNamesList`, `WmMetadataList p lists lists' a` and `WmHintsList` are promised of all lists before the call and after it, in the order of the call.
 use Rattle.wakemiono.specs.Calls.{WmWalk, WmSection, WmCustom, WmNamesJudge, WmName, WmMetadataJudge, WmMetadata, WmHintsJudge, WmHint, WmNameIn, WmMetadataIn, WmHintIn, WmNamesCanonical, WmMetadataCanonical, WmHintsCanonical, WmFunctionNamesWrite, WmNamesIsCanonical, WmMetadataIsCanonical, WmHintsIsCanonical, WmWideNamesJudge, WmWideName, WmWideNameIn, WmWideNamesCanonical, WmWideNamesIsCanonical, WmOldHintsJudge, WmOldHint, WmOldHintIn, WmOldHintsCanonical, WmOldHintsIsCanonical, WmOldHintsList, WmWhyFunction, WmWhyLocal, WmMarkers, WmQuickFunctionName, WmPair, WmWidePair, WmPairJoin, WmWidePairJoin, WmStreamBegin, WmStreamPart, WmStreamFinish, WmHintsOnBranches, WmTableStart, WmTableOpen, WmTableFunctionName, WmTableClose, WmTableCompact, WmNamesList, WmWideNamesList, WmMetadataList, WmHintsList}
 -- HINTS ON BRANCHES, by crates/branches/specs: `hints_on_branches m` is the check of a module; `imported_functions` counts the functions that are imported, and `function_bodies` are the bodies. `Placed` has a `number`, where it stands, `at`, and its `value`: of hints, by function and then by offset. The rule without a step stands in Rule.antt, over the grammar of core specification 1.0 in Grammar.antt: `HasHints m`: walk and hint payload of m are accepted; `Hinted m first parts fs`: so are its import list and its list of bodies, `first` functions are imported, `parts` are the bodies and fs the hints. `AllSit first parts fs`: every hint of fs has a body of which a br_if or an if begins at its offset. `ModuleRefused m n at`: the walk, the payload, the import list, the list of bodies or the first hint that does not sit is refused with n at that offset.
@@ -110,7 +110,7 @@ use Rattle.reading.specs.declared.NumberRead.TheVariants.{Value}
 -- THE PART that is handed back in Rattle, by the promise of `pairs::ask_bytes`: of two payloads that begin at two places in memory, each a block and an offset in it, the part's bytes and the place where it begins.
 use Rattle.pairs.specs.Promises.{PairsAskBytes}
 
--- DEMAND 1 (R21.1). "Any bytes may be lent as a module, a section or a set of lists. Each public call ends, does nothing undefined and asks no prior check. Bad input gets a refusal number and the offset document 01 gives with it, and every lent buffer is unchanged." Proved as `demand-1` in Proved.antt.
+-- DEMAND 1 (R21.1). "Any bytes may be lent as a module, a section or a set of lists. Each public call ends, does nothing undefined and asks no prior check. Bad input gets a refusal number and the offset document 01 gives with it, and every lent buffer is unchanged." Proved as `demand_1` in Proved.antt.
 
 -- That a call ends and does nothing undefined is what the checker proves of its code before it says `proved`, and a call without a `requires` asks nothing: none of the C calls has one. What is lent to be read is lent as `&[u8]` or `&[u32]`, which cannot be written to. What is left to say is what the answers are, which input is refused with which number and offset, and what an output holds after the call.
 
@@ -252,7 +252,7 @@ pub record Demand1 : Type 0 where
   pub function_names_write : (indices lengths text : List ℕ) → Writing (ListsRefused indices lengths text) (WmFunctionNamesWrite indices lengths text)
   pub faults : Faulty
 
--- DEMAND 2 (R21.2). "Exactly what the rules accept is accepted. A lookup gives the mapped name as the very bytes of the section, or none exactly when the index has no name. Walk, hints and kept parts are what the rules make them. Names written from lists read back as those lists." Proved as `demand-2` in Proved.antt.
+-- DEMAND 2 (R21.2). "Exactly what the rules accept is accepted. A lookup gives the mapped name as the very bytes of the section, or none exactly when the index has no name. Walk, hints and kept parts are what the rules make them. Names written from lists read back as those lists." Proved as `demand_2` in Proved.antt.
 
 -- Found: a place inside what was lent, and the bytes that lie there are x. Where the same bytes stand at two places this does not say which of them is told; the promises do, by the place at which each name was read
 abbrev pub FoundIn : List ℕ → WmAnswer → List ℕ → Type 0
@@ -405,7 +405,7 @@ pub record Demand2 : Type 0 where
   pub fine_written : (indices lengths text old new : List ℕ) (a : WmAnswer) → WmFunctionNamesWrite indices lengths text old new a → FineLists indices lengths text → contents_length indices lengths ≤ 4_294_967_295 → payload_length indices lengths ≤ length old → a ≡ wm_found 0 0 (payload_length indices lengths)
   pub lists : (indices lengths text old new : List ℕ) (a : WmAnswer) → Indices indices → WmFunctionNamesWrite indices lengths text old new a → a.kind ≡ 1 → WritesLists indices lengths text (take a.length new) a
 
--- DEMAND 3 (R8.9, R21.3). "Canonical rewritings of two accepted payloads are equal byte by byte exactly when every allowed question gets the same answer from both. A rewriting is accepted, answers as its original, is never longer, and rewriting it again changes nothing." Proved as `demand-3` in Proved.antt.
+-- DEMAND 3 (R8.9, R21.3). "Canonical rewritings of two accepted payloads are equal byte by byte exactly when every allowed question gets the same answer from both. A rewriting is accepted, answers as its original, is never longer, and rewriting it again changes nothing." Proved as `demand_3` in Proved.antt.
 
 -- Two answers, of the payloads x and y, are the same: of one kind, and with the same bytes
 abbrev pub SameAnswer : (x y : List ℕ) (a b : WmAnswer) → Type 0
@@ -552,7 +552,7 @@ pub record K2 : Type 0 where
   -- demand 3. Hints are the same where the whole answers are
   pub rewritten : Rewritten WmOldHintsJudge (λ q. WmOldHint q.0.0 q.1.0) OlderInRange (λ _ _ a b. a ≡ b) WmOldHintsCanonical
   -- "a payload whose rewriting is refused 15 has none": no payload below 4,294,967,296 bytes is, and where it is accepted an output as long as the payload is enough
-  pub never-15 : (p old new : List ℕ) (a : WmAnswer) → length p < 4_294_967_296 → WmOldHintsCanonical p old new a → (offset : ℕ) → a ≡ wm_refused 15 offset → ⊥
+  pub never_15 : (p old new : List ℕ) (a : WmAnswer) → length p < 4_294_967_296 → WmOldHintsCanonical p old new a → (offset : ℕ) → a ≡ wm_refused 15 offset → ⊥
   pub room_enough : (p old new : List ℕ) (a j : WmAnswer) → length p < 4_294_967_296 → WmOldHintsJudge p j → j.kind ≡ 1 → length p ≤ length old → WmOldHintsCanonical p old new a → a.kind ≡ 1
   -- "sorted by function and offset, shadowed hints dropped, one entry per function"
   pub in_order : (p old new : List ℕ) (a : WmAnswer) → WmOldHintsCanonical p old new a → a.kind ≡ 1 → (m : List OlderEntry) → OlderHints (take a.length new) m → InOrder m

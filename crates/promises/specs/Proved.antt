@@ -20,7 +20,7 @@ use Rattle.format.specs.declared.LocalIndex.{LocalIndex}
 use Rattle.format.specs.declared.Edition.TheVariants.{First, Wider}
 use Rattle.format.specs.declared.Question.{Question}
 use Rattle.format.specs.declared.Question.TheVariants.{ModuleName, FunctionName, LocalName, LabelName, TypeName, TableName, MemoryName, GlobalName, ElementName, DataName, FieldName, TagName, KeptContents}
-use Rattle.format.specs.Theorems.{ItemQuestion}
+use Rattle.format.proofs.Theorems.{ItemQuestion}
 use Rattle.format.specs.Canonical.{rewrite_names, rewrite_metadata, canonical_names, canonical_of, canonical_metadata, canonical_hints}
 use Rattle.format.specs.Metadata.{any_item, hint_item, judge_metadata, ask_metadata, ask_hint}
 use Rattle.format.specs.Names.{Kind, known_kind, wider_kind, kind_in, judge_names}
@@ -36,7 +36,7 @@ use Rattle.format.specs.Through.{metadata_section, ask_through, ask_metadata_thr
 use Rattle.format.specs.Walk.{name_section, hint_section, older_hint_section, section_count, section_at, custom_payload}
 use Rattle.wakemiono.specs.Boundary.{wm_count, wm_section, wm_place, wm_judged, wm_hint, wm_yes, WmWrites}
 use Rattle.walk.specs.Surveys.{section_place}
-use Rattle.format.specs.Theorems.{Rewrites as AnyRewrites, questions_answered, hints_answered as all_hints_answered, any_metadata_answered, edition_rewritten, any_metadata_rewritten, hints_rewritten, older_rewritten, edition_shortest, any_metadata_shortest, hints_shortest, older_shortest, functions_why, locals_why}
+use Rattle.format.proofs.Theorems.{Rewrites as AnyRewrites, questions_answered, hints_answered as all_hints_answered, any_metadata_answered, edition_rewritten, any_metadata_rewritten, hints_rewritten, older_rewritten, edition_shortest, any_metadata_shortest, hints_shortest, older_shortest, functions_why, locals_why}
 use Rattle.format.specs.Canonical.{bare, bare_items}
 use Rattle.format.specs.Holding.{HasWithin, Holds}
 use Rattle.format.specs.Laws.Outcomes.{not_accepted, refused_exactly}
@@ -222,8 +222,8 @@ faulty = record {
   lists = all_lists_refused;
 }
 
-pub demand-1 : Demand1
-demand-1 = record {
+pub demand_1 : Demand1
+demand_1 = record {
   walk = λ m a h e. answers_otherwise (answers_as (walk_fair m) (rw e (count_verdict (section_count m))) (walked m e).refusal) (module_faults m h);
   section = λ i m a h e. answers_otherwise (answers_as (walk_fair m) (rw e (section_reply (section_at i m))) (alike (walked m refl) (section_refused i m a (wm_count (section_count m)) e refl))) (module_faults m h);
   custom = λ x m a h e. answers_otherwise (answers_as (walk_fair m) (rw e (place_reply (custom_payload x m))) (alike (walked m refl) (custom_refused x m a (wm_count (section_count m)) e refl))) (module_faults m h);
@@ -307,8 +307,8 @@ walks = record {
   custom_refuses = custom_refused;
 }
 
-pub demand-2 : Demand2
-demand-2 = record {
+pub demand_2 : Demand2
+demand_2 = record {
   names_judged = names_judged source_ids;
   metadata_judged = metadata_judged;
   hints_judged = hints_judged;
@@ -351,8 +351,8 @@ module _ {A Q R : Type 0} {judgement : List ℕ → Judged A} {rewriting : List 
 names_rewritten : (edition : Edition) → Rewrites (λ p j. j ≡ wm_judged (length p) (verdict (judge_names (kind_in edition) 0 p))) (λ q p a. a ≡ wm_place (as_place (ask (kind_in edition) q p))) (AllowedBy (kind_in edition)) SameAnswer (λ p old new a. WmWrites (canonical_names (kind_in edition) p) old new a)
 names_rewritten edition = let rewrites = edition_rewritten edition in rewritten_always (names_written edition) (names_refuse (kind_in edition)) (names_asked (kind_in edition)) (λ p a. rewrites.accepts a)
 
-pub demand-3 : Demand3
-demand-3 = record {
+pub demand_3 : Demand3
+demand_3 = record {
   names = names_rewritten First;
   metadata = rewritten_always metadata_written metadata_refuse metadata_asked (λ p a. any_metadata_rewritten.accepts a);
   hints = rewritten_always hints_written hints_refuse hints_asked (λ p a. hints_rewritten.accepts a);
@@ -445,7 +445,7 @@ k2 = record {
   newer_through_modules = λ f o. hint_through (record { 0 = f }) (record { 0 = o });
   apart = sections_apart;
   rewritten = rewritten older_written older_refuse older_asked;
-  never-15 = older_never_15;
+  never_15 = older_never_15;
   room_enough = λ p old new a j l. fits older_written older_refuse older_asked p old new a j (λ acc. older_rewritten.accepts acc l);
   in_order = older_ordered;
   told = told older_written never_empty;

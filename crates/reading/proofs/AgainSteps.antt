@@ -13,7 +13,7 @@ use Rattle.format.specs.Numbers.{groups, number, limit32}
 use Rattle.format.specs.Parts.{sized}
 use Rattle.format.specs.Laws.Outcomes.{not_got, by_test, got_value, got_rest}
 use Rattle.format.specs.Laws.Turns.{in_sized}
-use Rattle.format.specs.Laws.Passing.{number_passes}
+use Rattle.format.proofs.Laws.Passing.{number_passes}
 use Rattle.reading.specs.Cursors.{left}
 use Rattle.reading.specs.declared.Cursor.{Cursor}
 use Rattle.reading.proofs.Laws.{reached, number_read, number_inside, sized_means, part_behind}

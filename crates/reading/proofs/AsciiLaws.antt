@@ -13,7 +13,7 @@ use lib.ListN.{length, get_or}
 use Rattle.format.specs.Laws.Outcomes.{by_test, on_both}
 use Rattle.format.specs.Numbers.{limit32}
 use Rattle.reading.specs.Texts.{Holds, SeesAscii, Passes, Stands}
-use Rattle.reading.proofs.WordLaws.{above-32, below-32, first_ascii, second_ascii, third_ascii, fourth_ascii}
+use Rattle.reading.proofs.WordLaws.{above_32, below_32, first_ascii, second_ascii, third_ascii, fourth_ascii}
 use Rattle.reading.proofs.TextSteps.{ascii_stands, passes_none, passes_join, passed}
 
 -- One byte by itself, and two runs of which the second begins at or before the first's end
@@ -58,7 +58,7 @@ all_eight low high w v h e =
     let word = low + high * 0x100000000 in
     let below : word % 0x100000000 ≡ low = omega (arith, h) in
     let above : word / 0x100000000 ≡ high = omega (arith, h) in
-    sees_both 4 8 (all_four low w (rw below at (below-32 word 0x8080808080808080 e))) (all_four high v (rw above at (above-32 word 0x8080808080808080 e))) (omega arith) (omega arith) (omega arith)
+    sees_both 4 8 (all_four low w (rw below at (below_32 word 0x8080808080808080 e))) (all_four high v (rw above at (above_32 word 0x8080808080808080 e))) (omega arith) (omega arith) (omega arith)
 
 module _ {s : List ℕ} {i : ℕ} where
   pub sees_four : {word : ℕ} → Holds s i word → SeesAscii s i 4 (eqb (bit_and word 0x80808080) 0)

@@ -14,11 +14,11 @@ use Rattle.format.specs.Parts.{sized, name}
 use Rattle.format.specs.Telling.{as_few}
 use Rattle.format.specs.Text.{utf8}
 use Rattle.format.specs.Laws.Outcomes.{by_test}
-use Rattle.format.specs.Laws.Numbers.{shortest_positive}
-use Rattle.format.specs.Laws.Codecs.{number_sound}
+use Rattle.format.proofs.Laws.Numbers.{shortest_positive}
+use Rattle.format.proofs.Laws.Codecs.{number_sound}
 use Rattle.format.specs.Laws.Turns.{in_sized, in_tested}
-use Rattle.format.specs.Laws.Places.{Lies}
-use Rattle.format.specs.Laws.Passing.{Passes, number_passes, sized_passes}
+use Rattle.format.proofs.Laws.Places.{Lies}
+use Rattle.format.proofs.Laws.Passing.{Passes, number_passes, sized_passes}
 use Rattle.format.specs.declared.Reason.TheVariants.{NotText}
 use Rattle.reading.specs.Cursors.{Inside, over_all, left, part_of, NumberReads, PartReads}
 use Rattle.reading.specs.declared.Cursor.{Cursor}

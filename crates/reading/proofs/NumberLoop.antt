@@ -12,9 +12,9 @@ use lib.ListN.{length, get_or, take}
 use lib.Seq.{slice, slice-cons, slice_empty, length-slice, get_or-take, get_or-drop}
 use Rattle.format.specs.Reading.{Outcome, got, stop, and_then, return}
 use Rattle.format.specs.Numbers.{groups, number, limit32}
-use Rattle.format.specs.Laws.Numbers.{limit}
+use Rattle.format.proofs.Laws.Numbers.{limit}
 use Rattle.format.specs.Laws.Outcomes.{by_test}
-use Rattle.format.specs.Laws.Padding.{last_byte, one_byte_few, last_tells}
+use Rattle.format.proofs.Laws.Padding.{last_byte, one_byte_few, last_tells}
 use Rattle.format.specs.declared.Reason.TheVariants.{PastItsPart, NumberTooLarge}
 use Rattle.reading.specs.Cursors.{Inside, left, Followed, NumberReads}
 use Rattle.reading.specs.declared.Cursor.{Cursor}

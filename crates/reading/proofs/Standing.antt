@@ -5,7 +5,7 @@ use mathlib.Core.Path.{◌≡◌, refl, sym, ◌∙◌}
 use Rattle.format.specs.Reading.{got, Reader}
 use Rattle.format.specs.Numbers.{number}
 use Rattle.format.specs.Laws.Outcomes.{got_value, got_next}
-use Rattle.format.specs.Laws.Passing.{Passes}
+use Rattle.format.proofs.Laws.Passing.{Passes}
 use Rattle.reading.specs.Cursors.{Inside, left}
 use Rattle.reading.specs.Standing.{Stands, TakesPart}
 use Rattle.reading.specs.declared.Cursor.{Cursor}

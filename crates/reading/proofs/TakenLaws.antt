@@ -13,7 +13,7 @@ use Rattle.format.specs.Parts.{Part}
 use Rattle.format.specs.Questions.{as_place, as_bytes, start_of, answered}
 use Rattle.format.specs.Laws.Outcomes.{not_accepted, accepted_is}
 use Rattle.format.specs.Laws.Options.{not_some, some_is}
-use Rattle.format.specs.Laws.Places.{PartIn, lies_there, lies_inside}
+use Rattle.format.proofs.Laws.Places.{PartIn, lies_there, lies_inside}
 use Rattle.format.specs.declared.Answer.{Answer}
 use Rattle.format.specs.declared.Answer.TheVariants.{None, Found, Refused}
 use Rattle.format.specs.declared.Place.{Place}

@@ -15,17 +15,17 @@ no_highest b h e =
 
 -- Numbers without a bit in common have none above a bit and none below it
 module _ (a b : ℕ) (e : bit_and a b ≡ 0) where
-  above-8 : bit_and (a / 256) (b / 256) ≡ 0
-  above-8 = sym (and_shr a b 8) ∙ ap (λ (x : ℕ). x / 256) e
+  above_8 : bit_and (a / 256) (b / 256) ≡ 0
+  above_8 = sym (and_shr a b 8) ∙ ap (λ (x : ℕ). x / 256) e
 
-  below-8 : bit_and (a % 256) (b % 256) ≡ 0
-  below-8 = sym (and_mod a b 8) ∙ ap (λ (x : ℕ). x % 256) e
+  below_8 : bit_and (a % 256) (b % 256) ≡ 0
+  below_8 = sym (and_mod a b 8) ∙ ap (λ (x : ℕ). x % 256) e
 
-  pub above-32 : bit_and (a / 0x100000000) (b / 0x100000000) ≡ 0
-  above-32 = sym (and_shr a b 32) ∙ ap (λ (x : ℕ). x / 0x100000000) e
+  pub above_32 : bit_and (a / 0x100000000) (b / 0x100000000) ≡ 0
+  above_32 = sym (and_shr a b 32) ∙ ap (λ (x : ℕ). x / 0x100000000) e
 
-  pub below-32 : bit_and (a % 0x100000000) (b % 0x100000000) ≡ 0
-  below-32 = sym (and_mod a b 32) ∙ ap (λ (x : ℕ). x % 0x100000000) e
+  pub below_32 : bit_and (a % 0x100000000) (b % 0x100000000) ≡ 0
+  below_32 = sym (and_mod a b 32) ∙ ap (λ (x : ℕ). x % 0x100000000) e
 
 -- The lowest byte of a word, and what is above it
 module _ (word b rest highest : ℕ) (h : b < 256) (f : word ≡ b + rest * 256) (e : bit_and word (highest * 256 + 0x80) ≡ 0) where
@@ -33,13 +33,13 @@ module _ (word b rest highest : ℕ) (h : b < 256) (f : word ≡ b + rest * 256)
   lowest_ascii =
       let here : word % 256 ≡ b = omega (arith, f) in
       let bit : (highest * 256 + 0x80) % 256 ≡ 0x80 = omega arith in
-      no_highest b h (rw (here, bit) at (below-8 word (highest * 256 + 0x80) e))
+      no_highest b h (rw (here, bit) at (below_8 word (highest * 256 + 0x80) e))
 
   rest_bare : bit_and rest highest ≡ 0
   rest_bare =
       let here : word / 256 ≡ rest = omega (arith, f) in
       let bits : (highest * 256 + 0x80) / 256 ≡ highest = omega arith in
-      rw (here, bits) at (above-8 word (highest * 256 + 0x80) e)
+      rw (here, bits) at (above_8 word (highest * 256 + 0x80) e)
 
 -- All four
 module _ {s : List ℕ} {i : ℕ} (word : ℕ) (w : Holds s i word) (e : bit_and word 0x80808080 ≡ 0) where

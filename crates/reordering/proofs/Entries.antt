@@ -14,7 +14,7 @@ use Rattle.format.specs.Older.{OlderEntry, times, older_entry, sorted_from, writ
 use Rattle.format.specs.OlderInOrder.{entries_bytes}
 use Rattle.format.specs.Reading.{accepted, refused}
 use Rattle.format.specs.Tables.{nil}
-use Rattle.format.specs.Laws.OlderInOrder.{in_order_written}
+use Rattle.format.proofs.Laws.OlderInOrder.{in_order_written}
 use Rattle.format.specs.Laws.Outputs.{writes_refused, writes_short}
 use Rattle.format.specs.declared.Reason.TheVariants.{SubsectionTooLarge, OutputTooShort}
 use Rattle.format.specs.declared.Written.TheVariants.{Length, Refused}

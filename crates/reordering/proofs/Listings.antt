@@ -15,7 +15,7 @@ use Rattle.format.specs.Older.{OlderEntry, times, older_entry, judge_older, sort
 use Rattle.format.specs.Reading.{accepted, verdict}
 use Rattle.format.specs.Tables.{nil}
 use Rattle.format.specs.Verdicts.{verdict_of}
-use Rattle.format.specs.Laws.Entries.{lists_refused, lists_short}
+use Rattle.format.proofs.Laws.Entries.{lists_refused, lists_short}
 use Rattle.format.specs.declared.Answer.{Answer}
 use Rattle.format.specs.declared.Answer.TheVariants.{Found, Refused}
 use Rattle.format.specs.declared.Hint.{Hint}

@@ -21,11 +21,11 @@ use Rattle.format.specs.Tables.{nil}
 use Rattle.format.specs.Telling.{is_its_rewriting, older_is_canonical}
 use Rattle.format.specs.Verdicts.{verdict_of}
 use Rattle.format.specs.Laws.Bytes.{same_true, same_self}
-use Rattle.format.specs.Laws.OlderInOrder.{in_order_written}
-use Rattle.format.specs.Laws.UnchangedOlder.{older_rises, older_tight}
+use Rattle.format.proofs.Laws.OlderInOrder.{in_order_written}
+use Rattle.format.proofs.Laws.UnchangedOlder.{older_rises, older_tight}
 use Rattle.format.specs.Laws.Outcomes.{false_true, by_test, ended, got_value, got_next, got_rest, in_turn, judged, refused_exactly}
 use Rattle.format.specs.Laws.Outputs.{writes_refused}
-use Rattle.format.specs.Laws.Passing.{number_passes}
+use Rattle.format.proofs.Laws.Passing.{number_passes}
 use Rattle.format.specs.declared.Refusal.{Refusal}
 use Rattle.format.specs.declared.Verdict.{Verdict}
 use Rattle.format.specs.declared.Verdict.TheVariants.{Refused as NotAccepted}

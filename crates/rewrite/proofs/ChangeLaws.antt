@@ -13,8 +13,8 @@ use Rattle.format.specs.Parts.{Part}
 use Rattle.format.specs.Tables.{Table}
 use Rattle.format.specs.Names.{Kind as AnyKind, Content}
 use Rattle.format.specs.Canonical.{bare, trim, write_part, write_content, rewrite_names}
-use Rattle.format.specs.Laws.Codecs.{sized_codec, write_part_mono}
-use Rattle.format.specs.Laws.Numbers.{shortest_mono}
+use Rattle.format.proofs.Laws.Codecs.{sized_codec, write_part_mono}
+use Rattle.format.proofs.Laws.Numbers.{shortest_mono}
 use Rattle.format.specs.Laws.Options.{by_option}
 use Rattle.reading.specs.Cursors.{left}
 use Rattle.reading.specs.declared.Cursor.{Cursor}

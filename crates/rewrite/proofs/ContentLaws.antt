@@ -15,8 +15,8 @@ use Rattle.format.specs.Tables.{Table, nil, row, size, rows, table}
 use Rattle.format.specs.Names.{Kind, one_name, name_map, indirect_map, kept, Content, single, names, names_by, whole, contents}
 use Rattle.format.specs.Canonical.{write_table, unless_empty, keep_rows, bare_items, bare, trim, write_content}
 use Rattle.format.specs.Laws.Outcomes.{got_value, in_turn}
-use Rattle.format.specs.Laws.Numbers.{shortest_mono}
-use Rattle.format.specs.Laws.Passing.{sized_passes}
+use Rattle.format.proofs.Laws.Numbers.{shortest_mono}
+use Rattle.format.proofs.Laws.Passing.{sized_passes}
 use Rattle.format.specs.Laws.Laxer.{name_laxer, table_laxer, filled_laxer}
 use Rattle.reading.specs.Cursors.{left, part_of}
 use Rattle.reading.specs.declared.Cursor.{Cursor}

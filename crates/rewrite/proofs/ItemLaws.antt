@@ -15,12 +15,12 @@ use Rattle.format.specs.Metadata.{any_item, hint_item, metadata, judge_metadata}
 use Rattle.format.specs.Canonical.{write_table, rewrite_metadata, canonical_of, canonical_metadata, canonical_hints}
 use Rattle.format.specs.Outputs.{Writes}
 use Rattle.format.specs.Laws.Laxer.{Laxer, any_laxer, hint_laxer, table_laxer, filled_laxer}
-use Rattle.format.specs.Laws.Numbers.{shortest_mono}
+use Rattle.format.proofs.Laws.Numbers.{shortest_mono}
 use Rattle.format.specs.Laws.Outcomes.{judged, refused_exactly}
 use Rattle.format.specs.Laws.Outputs.{writes_refused, writes_short}
-use Rattle.format.specs.Laws.Passing.{sized_passes}
-use Rattle.format.specs.Laws.Codecs.{sized_codec}
-use Rattle.format.specs.Laws.Unchanged.{functions_tight}
+use Rattle.format.proofs.Laws.Passing.{sized_passes}
+use Rattle.format.proofs.Laws.Codecs.{sized_codec}
+use Rattle.format.proofs.Laws.Unchanged.{functions_tight}
 use Rattle.format.specs.declared.Reason.TheVariants.{OutputTooShort}
 use Rattle.format.specs.declared.Refusal.{Refusal}
 use Rattle.format.specs.declared.Written.{Written}

@@ -14,12 +14,12 @@ use Rattle.format.specs.Tables.{Table, size, rows, table}
 use Rattle.format.specs.Names.{Kind as AnyKind, one_name, name_map, indirect_map, kept, Content, single, names, names_by, whole}
 use Rattle.format.specs.Options.{map_some}
 use Rattle.format.specs.Canonical.{write_part, write_table, unless_empty, keep_rows, bare_items, bare, trim, write_content}
-use Rattle.format.specs.Laws.Names.{ContentFine, names_by_fine, contents_sound}
+use Rattle.format.proofs.Laws.Names.{ContentFine, names_by_fine, contents_sound}
 use Rattle.format.specs.Laws.Options.{some_is, not_some, in_then, by_option}
-use Rattle.format.specs.Laws.Tables.{kept_rows}
+use Rattle.format.proofs.Laws.Tables.{kept_rows}
 use Rattle.format.specs.Laws.Tight.{tight_whole}
-use Rattle.format.specs.Laws.Trimming.{trim_shorter}
-use Rattle.format.specs.Laws.Unchanged.{groups_unchanged}
+use Rattle.format.proofs.Laws.Trimming.{trim_shorter}
+use Rattle.format.proofs.Laws.Unchanged.{groups_unchanged}
 use Rattle.reading.specs.Cursors.{left, part_of}
 use Rattle.reading.specs.declared.Cursor.{Cursor}
 use Rattle.writing.specs.Wrote.{Wrote}

@@ -21,10 +21,10 @@ use Rattle.format.specs.Canonical.{bare, trim, keep_rows, write_part, write_cont
 use Rattle.format.specs.Laws.Outcomes.{got_value, got_next, got_rest}
 use Rattle.format.specs.Laws.Options.{some_is, not_some, by_option}
 use Rattle.format.specs.Laws.Turns.{in_subsection}
-use Rattle.format.specs.Laws.Passing.{sized_passes}
-use Rattle.format.specs.Laws.Codecs.{sized_codec}
-use Rattle.format.specs.Laws.Names.{payload_sound}
-use Rattle.format.specs.Laws.CanonicalNames.{subsections_shorter}
+use Rattle.format.proofs.Laws.Passing.{sized_passes}
+use Rattle.format.proofs.Laws.Codecs.{sized_codec}
+use Rattle.format.proofs.Laws.Names.{payload_sound}
+use Rattle.format.proofs.Laws.CanonicalNames.{subsections_shorter}
 use Rattle.reading.specs.Cursors.{Inside, left, part_of}
 use Rattle.reading.specs.declared.Cursor.{Cursor}
 use Rattle.reading.proofs.Standing.{stand}

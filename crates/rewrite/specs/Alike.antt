@@ -9,8 +9,8 @@ use Rattle.format.specs.declared.Verdict.{Verdict}
 use Rattle.format.specs.declared.Verdict.TheVariants.{Accepted as IsAccepted, Refused as IsRefused}
 use Rattle.format.specs.Parts.{Part}
 use Rattle.format.specs.Questions.{as_place, as_bytes, as_told, answered}
-use Rattle.format.specs.Laws.Answers.{told_none}
-use Rattle.format.specs.Laws.Calls.{none_told}
+use Rattle.format.proofs.Laws.Answers.{told_none}
+use Rattle.format.proofs.Laws.Calls.{none_told}
 use Rattle.format.specs.Laws.Outcomes.{not_accepted}
 use Rattle.format.specs.declared.Answer.{Answer}
 use Rattle.format.specs.declared.Answer.TheVariants.{None}

@@ -11,9 +11,9 @@ use Rattle.format.specs.Verdicts.{verdict_of}
 use Rattle.format.specs.declared.Verdict.{Verdict}
 use Rattle.format.specs.declared.Verdict.TheVariants.{Accepted as IsAccepted}
 use Rattle.format.specs.Outputs.{Writes}
-use Rattle.format.specs.Theorems.{ItemQuestion, ItemInRange, item_told, hint_told, questions_rewritten, any_metadata_rewritten, hints_rewritten}
-use Rattle.format.specs.Laws.Questions.{AllPosed}
-use Rattle.format.specs.Laws.Answers.{same_hint_answer}
+use Rattle.format.proofs.Theorems.{ItemQuestion, ItemInRange, item_told, hint_told, questions_rewritten, any_metadata_rewritten, hints_rewritten}
+use Rattle.format.proofs.Laws.Questions.{AllPosed}
+use Rattle.format.proofs.Laws.Answers.{same_hint_answer}
 use Rattle.format.specs.declared.Answer.{Answer}
 use Rattle.format.specs.declared.HintAnswer.{HintAnswer}
 use Rattle.format.specs.declared.Written.TheVariants.{Length}

@@ -5,7 +5,7 @@ use Rattle.std.proofs.Common.{sym, ap, ◌∙◌, arith, take_at, drop_at}
 use Rattle.format.specs.Bytes.{Bytes}
 use Rattle.format.specs.Reading.{Judged, accepted, Accepted}
 use Rattle.format.specs.Outputs.{fitting, write_answer, output_after, Writes}
-use Rattle.format.specs.Theorems.{Rewrites}
+use Rattle.format.proofs.Theorems.{Rewrites}
 use Rattle.format.specs.Laws.Outcomes.{not_accepted, accepted_is, by_test, mapped, followed, refused_exactly}
 use Rattle.format.specs.Laws.Outputs.{writes_all, writes_same}
 use Rattle.format.specs.declared.Refusal.{Refusal}

@@ -12,9 +12,9 @@ use lib.Seq.{length-take-le, take_at}
 use denote.Enum.Declared.{tag_of}
 use Rattle.format.specs.contracts.Answer as answer_type
 use Rattle.format.specs.Canonical.{canonical_names}
-use Rattle.format.specs.Laws.Found.{name_lies}
+use Rattle.format.proofs.Laws.Found.{name_lies}
 use Rattle.format.specs.Laws.Outcomes.{not_accepted}
-use Rattle.format.specs.Laws.Places.{PartIn, lies_all, lies_there, lies_inside}
+use Rattle.format.proofs.Laws.Places.{PartIn, lies_all, lies_there, lies_inside}
 use Rattle.format.specs.Names.{Content, known_kind, judge_names}
 use Rattle.format.specs.Options.{map_some}
 use Rattle.format.specs.Parts.{Part, place_of}

@@ -42,14 +42,14 @@ four s at h =
 last_of : (r q : ℕ) → r < 256 → (r + 256 * q) % 256 ≡ r
 last_of r q h = omega arith
 
-above-8 : (r q : ℕ) → r < 256 → (r + 256 * q) / 256 ≡ q
-above-8 r q h = omega arith
+above_8 : (r q : ℕ) → r < 256 → (r + 256 * q) / 256 ≡ q
+above_8 r q h = omega arith
 
-above-16 : (r q : ℕ) → r < 65536 → (r + 65536 * q) / 65536 ≡ q
-above-16 r q h = omega arith
+above_16 : (r q : ℕ) → r < 65536 → (r + 65536 * q) / 65536 ≡ q
+above_16 r q h = omega arith
 
-above-24 : (r q : ℕ) → r < 16777216 → (r + 16777216 * q) / 16777216 ≡ q
-above-24 r q h = omega arith
+above_24 : (r q : ℕ) → r < 16777216 → (r + 16777216 * q) / 16777216 ≡ q
+above_24 r q h = omega arith
 
 spelled : (a b c d : ℕ) → a < 256 → b < 256 → c < 256 → d < 256 → a ∷ b ∷ c ∷ d ∷ [] ≡ little_endian (a + 256 * b + 65536 * c + 16777216 * d)
 unfolding little_endian
@@ -59,9 +59,9 @@ spelled a b c d i j k l =
     let y : n ≡ a + 256 * b + 65536 * (c + 256 * d) = omega arith in
     let z : n ≡ a + 256 * b + 65536 * c + 16777216 * (d + 256 * 0) = omega arith in
     let p : n % 256 ≡ a = ap (λ (m : ℕ). m % 256) x ∙ last_of a (b + 256 * (c + 256 * d)) i in
-    let q : n / 256 % 256 ≡ b = ap (λ (m : ℕ). m / 256 % 256) x ∙ ap (λ (m : ℕ). m % 256) (above-8 a (b + 256 * (c + 256 * d)) i) ∙ last_of b (c + 256 * d) j in
-    let r : n / 65536 % 256 ≡ c = ap (λ (m : ℕ). m / 65536 % 256) y ∙ ap (λ (m : ℕ). m % 256) (above-16 (a + 256 * b) (c + 256 * d) (omega arith)) ∙ last_of c d k in
-    let t : n / 16777216 % 256 ≡ d = ap (λ (m : ℕ). m / 16777216 % 256) z ∙ ap (λ (m : ℕ). m % 256) (above-24 (a + 256 * b + 65536 * c) (d + 256 * 0) (omega arith)) ∙ last_of d 0 l in
+    let q : n / 256 % 256 ≡ b = ap (λ (m : ℕ). m / 256 % 256) x ∙ ap (λ (m : ℕ). m % 256) (above_8 a (b + 256 * (c + 256 * d)) i) ∙ last_of b (c + 256 * d) j in
+    let r : n / 65536 % 256 ≡ c = ap (λ (m : ℕ). m / 65536 % 256) y ∙ ap (λ (m : ℕ). m % 256) (above_16 (a + 256 * b) (c + 256 * d) (omega arith)) ∙ last_of c d k in
+    let t : n / 16777216 % 256 ≡ d = ap (λ (m : ℕ). m / 16777216 % 256) z ∙ ap (λ (m : ℕ). m % 256) (above_24 (a + 256 * b + 65536 * c) (d + 256 * 0) (omega arith)) ∙ last_of d 0 l in
     rw (p, q, r, t)
 
 module _ {s : List ℕ} {at a b c d : ℕ} where

@@ -9,7 +9,7 @@ use Rattle.format.specs.Numbers.{number}
 use Rattle.format.specs.Tables.{Table, nil, row, rows, table}
 use Rattle.format.specs.Laws.Outcomes.{got_value, got_next, got_rest}
 use Rattle.format.specs.Laws.Turns.{in_row, in_table}
-use Rattle.format.specs.Laws.Passing.{number_passes, table_passes}
+use Rattle.format.proofs.Laws.Passing.{number_passes, table_passes}
 use Rattle.reading.specs.Cursors.{left}
 use Rattle.reading.specs.Standing.{Stands, Known}
 use Rattle.reading.specs.declared.Cursor.{Cursor}

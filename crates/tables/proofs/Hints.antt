@@ -16,7 +16,7 @@ use Rattle.format.specs.Options.{is_some}
 use Rattle.format.specs.Parts.{sized}
 use Rattle.format.specs.Metadata.{hint_of, hint_item}
 use Rattle.format.specs.Laws.Outcomes.{by_test, false_true, on_both}
-use Rattle.format.specs.Laws.Padding.{as_few_lem}
+use Rattle.format.proofs.Laws.Padding.{as_few_lem}
 use Rattle.reading.specs.Cursors.{Inside, left, PartReads}
 use Rattle.reading.specs.declared.Cursor.{Cursor}
 use Rattle.reading.specs.declared.PartRead.{PartRead}

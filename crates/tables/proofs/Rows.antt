@@ -14,7 +14,7 @@ use Rattle.format.specs.Tables.{Table, row, lookup, rows}
 use Rattle.format.specs.Options.{some_then, or_else}
 use Rattle.format.specs.Laws.Outcomes.{got_value, by_test, by_outcome}
 use Rattle.format.specs.Laws.Options.{or_none}
-use Rattle.format.specs.Laws.Codecs.{number_sound}
+use Rattle.format.proofs.Laws.Codecs.{number_sound}
 use Rattle.format.specs.Laws.Turns.{in_row}
 use Rattle.tables.specs.Steps.{index_from, Passed, passing}
 

@@ -8,7 +8,7 @@ use Rattle.format.specs.Reading.{Reader}
 use Rattle.format.specs.Numbers.{number}
 use Rattle.format.specs.Parts.{Part}
 use Rattle.format.specs.Laws.Options.{not_some, some_is}
-use Rattle.format.specs.Laws.Telling.{not_behind, behind_at}
+use Rattle.format.proofs.Laws.Telling.{not_behind, behind_at}
 use Rattle.format.specs.Laws.Outcomes.{not_got, got_next}
 use Rattle.format.specs.Laws.Refusals.{same_stop}
 use Rattle.reading.specs.Standing.{Stands}

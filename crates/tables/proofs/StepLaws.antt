@@ -8,7 +8,7 @@ use denote.Enum.Declared.{tag_of}
 use Rattle.format.specs.Numbers.{number}
 use Rattle.format.specs.Parts.{Part, sized}
 use Rattle.format.specs.Tables.{Table, rows, table}
-use Rattle.format.specs.Laws.Passing.{sized_passes}
+use Rattle.format.proofs.Laws.Passing.{sized_passes}
 use Rattle.reading.specs.Standing.{Stands, Known, TakesPart}
 use Rattle.reading.specs.declared.Cursor.{Cursor}
 use Rattle.reading.specs.declared.again.Piece.{Piece}

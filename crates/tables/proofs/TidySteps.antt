@@ -18,8 +18,8 @@ use Rattle.format.specs.Tables.{rows, table}
 use Rattle.format.specs.Forms.{behind, no, told, told_end, is_yes, part_form, rows_form, table_form}
 use Rattle.format.specs.Telling.{as_few}
 use Rattle.format.specs.Laws.Outcomes.{not_got, by_test, by_outcome}
-use Rattle.format.specs.Laws.Codecs.{name_codec, any_codec, hint_codec}
-use Rattle.format.specs.Laws.Telling.{Shorter, part_shorter, rows_told_end, rows_told_padded, rows_told_no, rows_told_on, table_shorter, table_told_none, table_told_empty, table_told_padded, table_told_rows}
+use Rattle.format.proofs.Laws.Codecs.{name_codec, any_codec, hint_codec}
+use Rattle.format.proofs.Laws.Telling.{Shorter, part_shorter, rows_told_end, rows_told_padded, rows_told_no, rows_told_on, table_shorter, table_told_none, table_told_empty, table_told_padded, table_told_rows}
 use Rattle.format.specs.declared.Refusal.{Refusal}
 use Rattle.reading.specs.Cursors.{Inside, left, NumberReads, PartReads}
 use Rattle.reading.specs.declared.Cursor.{Cursor}

@@ -18,10 +18,10 @@ use Rattle.format.specs.Metadata.{ask_metadata, ask_hint, hint_answered}
 use Rattle.format.specs.Older.{ask_older}
 use Rattle.format.specs.Through.{through, ask_through, metadata_section, item_of, ask_metadata_through, ask_hint_through, ask_older_through}
 use Rattle.format.specs.Walk.{name_section, branch_hint, hint_section, older_hint_section, custom_payload}
-use Rattle.format.specs.Laws.Answers.{place_none, place_found, place_refused}
-use Rattle.format.specs.Laws.Found.{payload_lies}
+use Rattle.format.proofs.Laws.Answers.{place_none, place_found, place_refused}
+use Rattle.format.proofs.Laws.Found.{payload_lies}
 use Rattle.format.specs.Laws.Outcomes.{by_test}
-use Rattle.format.specs.Laws.Places.{lies_inside, lies_there}
+use Rattle.format.proofs.Laws.Places.{lies_inside, lies_there}
 use Rattle.format.specs.declared.Answer.{Answer}
 use Rattle.format.specs.declared.Answer.TheVariants.{None, Found, Refused}
 use Rattle.format.specs.declared.CodeOffset.{CodeOffset}

@@ -12,9 +12,9 @@ use Rattle.format.specs.declared.Question.{Question}
 use Rattle.format.specs.Metadata.{ask_metadata, ask_hint, hint_answered}
 use Rattle.format.specs.Walk.{walk, name_section, hint_section, custom_payload}
 use Rattle.format.specs.Through.{through, ask_through, metadata_section, item_of, ask_metadata_through, ask_hint_through}
-use Rattle.format.specs.Theorems.{VeryBytes, names_through, metadata_through}
-use Rattle.format.specs.Laws.Answers.{place_found}
-use Rattle.format.specs.Laws.Calls.{none_told, refused_told, hint_answer_is}
+use Rattle.format.proofs.Theorems.{VeryBytes, names_through, metadata_through}
+use Rattle.format.proofs.Laws.Answers.{place_found}
+use Rattle.format.proofs.Laws.Calls.{none_told, refused_told, hint_answer_is}
 use Rattle.format.specs.declared.Answer.{Answer}
 use Rattle.format.specs.declared.Answer.TheVariants.{None, Found, Refused}
 use Rattle.format.specs.declared.CodeOffset.{CodeOffset}

@@ -7,7 +7,7 @@ use Rattle.format.specs.Walk.{Custom as CustomSection, Section as AnySection, Se
 use Rattle.format.specs.Laws.Outcomes.{not_got, got_value, got_next, not_accepted, accepted_is}
 use Rattle.format.specs.Laws.Options.{not_some, some_is}
 use Rattle.format.specs.Laws.Refusals.{told_apart, same_judgement, same_stop}
-use Rattle.format.specs.Laws.Answers.{same_answer}
+use Rattle.format.proofs.Laws.Answers.{same_answer}
 use Rattle.reading.proofs.Same.{same_part}
 use Rattle.walk.proofs.BitLaws.{same_bits}
 use Rattle.walk.specs.Sections.{seen_of, custom_of, section_of, CustomInside, SectionInside, ruling, IdRuled, NameRuled, Sees, Calls, row_called}

@@ -13,7 +13,7 @@ use lib.Seq.{length-slice}
 use Rattle.format.specs.Bytes.{same}
 use Rattle.format.specs.Reading.{Judged, accepted, refused, map_judged}
 use Rattle.format.specs.Walk.{Section as AnySection, payload_of, walk, walk_from}
-use Rattle.format.specs.Laws.Walk.{walk_ended, walk_stepped, walk_refused, walk_begun, walk_not_begun}
+use Rattle.format.proofs.Laws.Walk.{walk_ended, walk_stepped, walk_refused, walk_begun, walk_not_begun}
 use Rattle.format.specs.declared.Answer.{Answer}
 use Rattle.format.specs.declared.Answer.TheVariants.{None as NoAnswer, Found as FoundAt, Refused as NotAnswered}
 use Rattle.format.specs.declared.Place.{Place}

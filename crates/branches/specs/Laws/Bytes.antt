@@ -9,11 +9,11 @@ use Rattle.format.specs.Older.{times, vector}
 use Rattle.format.specs.Parts.{Part, sized}
 use Rattle.format.specs.Reading.{got, accepted}
 use Rattle.format.specs.Walk.{Section, walk, custom_payload}
-use Rattle.format.specs.Laws.Found.{SectionIn, Each, no_more, one_more, walk_in, payload_lies}
+use Rattle.format.proofs.Laws.Found.{SectionIn, Each, no_more, one_more, walk_in, payload_lies}
 use Rattle.format.specs.Laws.Options.{not_some, some_is}
 use Rattle.format.specs.Laws.Outcomes.{got_value, accepted_is, by_test, in_turn, ended, judged, mapped, followed}
-use Rattle.format.specs.Laws.Passing.{number_passes}
-use Rattle.format.specs.Laws.Places.{Lies, lies_step, PartIn, sized_located}
+use Rattle.format.proofs.Laws.Passing.{number_passes}
+use Rattle.format.proofs.Laws.Places.{Lies, lies_step, PartIn, sized_located}
 use Rattle.format.specs.Laws.Tight.{bytes_before, bytes_after}
 use Rattle.branches.specs.Bodies.{bodies, body_of}
 use Rattle.branches.specs.Branches.{contents_in, contents_of, bodies_in, function_bodies}

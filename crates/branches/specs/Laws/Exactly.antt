@@ -188,31 +188,31 @@ module _ (k : ByteKind) (w : ℕ) (some_bits : 1 ≤ w) (last : Reads (Read.byte
   signed_exact more N q = record { sound = λ o bs h e. signed_sound more N o bs q h e; complete = λ g o rest. signed_complete more g q o rest }
 
 -- the last byte of 32 and of 64 bits
-to-32 : (bs : List ℕ) (u : Unit {0}) → One (λ b. Read.is_of kind.LastOf32 b ≡ true) bs → Signed 4 bs
+to_32 : (bs : List ℕ) (u : Unit {0}) → One (λ b. Read.is_of kind.LastOf32 b ≡ true) bs → Signed 4 bs
 unfolding Read.is_last_of32
-to-32 bs u (one {b = b} t) =
+to_32 bs u (one {b = b} t) =
     by_test (leb b 7)
     (λ l. let small = leb-true b 7 l in positive {N = 4} (omega arith) (omega arith))
     (λ l. on_both (leb 120 b) (ltb b 128) (rw l at t) λ m n. let low = leb-true 120 b m in negative {N = 4} (omega arith) (ltb-true b 128 n) (omega arith))
 
-from-32 : (bs : List ℕ) (u : Unit {0}) → Signed 4 bs → One (λ b. Read.is_of kind.LastOf32 b ≡ true) bs
+from_32 : (bs : List ℕ) (u : Unit {0}) → Signed 4 bs → One (λ b. Read.is_of kind.LastOf32 b ≡ true) bs
 unfolding Read.is_last_of32
-from-32 bs u (positive {n = n} s f) = one {b = n} (rw (le-leb n 7 (omega arith)))
-from-32 bs u (negative {n = n} s f l) = one {b = n} (rw (lt-leb n 7 (omega arith), le-leb 120 n (omega arith), lt-ltb n 128 f))
-from-32 bs u (followed byte big l g) = absurd (omega arith)
+from_32 bs u (positive {n = n} s f) = one {b = n} (rw (le-leb n 7 (omega arith)))
+from_32 bs u (negative {n = n} s f l) = one {b = n} (rw (lt-leb n 7 (omega arith), le-leb 120 n (omega arith), lt-ltb n 128 f))
+from_32 bs u (followed byte big l g) = absurd (omega arith)
 
-to-64 : (bs : List ℕ) (u : Unit {0}) → One (λ b. Read.is_of kind.LastOf64 b ≡ true) bs → Signed 1 bs
+to_64 : (bs : List ℕ) (u : Unit {0}) → One (λ b. Read.is_of kind.LastOf64 b ≡ true) bs → Signed 1 bs
 unfolding Read.is_last_of64
-to-64 bs u (one {b = b} t) =
+to_64 bs u (one {b = b} t) =
     by_test (eqb b 0)
     (λ l. let small = eqb-true b 0 l in positive {N = 1} (omega arith) (omega arith))
     (λ l. let great = eqb-true b 127 (rw l at t) in negative {N = 1} (omega arith) (omega arith) (omega arith))
 
-from-64 : (bs : List ℕ) (u : Unit {0}) → Signed 1 bs → One (λ b. Read.is_of kind.LastOf64 b ≡ true) bs
+from_64 : (bs : List ℕ) (u : Unit {0}) → Signed 1 bs → One (λ b. Read.is_of kind.LastOf64 b ≡ true) bs
 unfolding Read.is_last_of64
-from-64 bs u (positive {n = n} s f) = one {b = n} (rw (eq-eqb n 0 (omega arith)))
-from-64 bs u (negative {n = n} s f l) = one {b = n} (rw (ne_eqb n 0 (λ z. absurd (omega (arith, z))), eq-eqb n 127 (omega arith)))
-from-64 bs u (followed byte big l g) = absurd (omega arith)
+from_64 bs u (positive {n = n} s f) = one {b = n} (rw (eq-eqb n 0 (omega arith)))
+from_64 bs u (negative {n = n} s f l) = one {b = n} (rw (ne_eqb n 0 (λ z. absurd (omega (arith, z))), eq-eqb n 127 (omega arith)))
+from_64 bs u (followed byte big l g) = absurd (omega arith)
 
 -- value types and block types
 is_value : (b : ℕ) → Read.is_value_type b ≡ true → ValueType b
@@ -309,8 +309,8 @@ immediates_exact Table = exact_for (both_exact number_exact (λ n. both_exact (i
 immediates_exact Indirect = exact_for (both_exact index_exact (λ _. byte_exact kind.Zero)) to_indirect from_indirect
 immediates_exact Memory = exact_for (both_exact index_exact (λ _. index_exact)) to_memory from_memory
 immediates_exact Zero = exact_for (byte_exact kind.Zero) to_zero from_zero
-immediates_exact Const32 = exact_for (signed_exact kind.LastOf32 4 (omega arith) (exact_for (byte_exact kind.LastOf32) to-32 from-32) 4 32 refl) (λ bs u. i32) from_i32
-immediates_exact Const64 = exact_for (signed_exact kind.LastOf64 1 (omega arith) (exact_for (byte_exact kind.LastOf64) to-64 from-64) 9 64 refl) (λ bs u. i64) from_i64
+immediates_exact Const32 = exact_for (signed_exact kind.LastOf32 4 (omega arith) (exact_for (byte_exact kind.LastOf32) to_32 from-32) 4 32 refl) (λ bs u. i32) from_i32
+immediates_exact Const64 = exact_for (signed_exact kind.LastOf64 1 (omega arith) (exact_for (byte_exact kind.LastOf64) to_64 from-64) 9 64 refl) (λ bs u. i64) from_i64
 immediates_exact Float32 = exact_for (bytes_exact 4) (λ bs u. f32) from_f32
 immediates_exact Float64 = exact_for (bytes_exact 8) (λ bs u. f64) from_f64
 immediates_exact Unknown = unknown_exact

@@ -10,7 +10,7 @@ use Rattle.format.specs.Reading.{Outcome, got, stop, Reader, and_then, ◌>>◌,
 use Rattle.format.specs.Numbers.{number}
 use Rattle.format.specs.Older.{times, vector}
 use Rattle.format.specs.Laws.Outcomes.{not_got, got_value, got_next, got_rest, by_test, by_outcome}
-use Rattle.format.specs.Laws.Passing.{Passes, Reaches}
+use Rattle.format.proofs.Laws.Passing.{Passes, Reaches}
 use Rattle.format.specs.declared.Reason.TheVariants.{NotImport}
 use Rattle.grammar.specs.Numbers.{U32}
 use Rattle.grammar.specs.Names.{Name}

@@ -8,7 +8,7 @@ use Rattle.format.specs.Bytes.{Bytes}
 use Rattle.format.specs.Parts.{Part}
 use Rattle.format.specs.Reading.{got, stop, Reader}
 use Rattle.format.specs.Laws.Outcomes.{not_got, by_test, false_true, by_outcome}
-use Rattle.format.specs.Laws.Passing.{Reaches, reach, reach_step}
+use Rattle.format.proofs.Laws.Passing.{Reaches, reach, reach_step}
 use Rattle.format.specs.Laws.Tight.{bytes_after}
 use Rattle.grammar.specs.Laws.Exact.{Stretch, left_bytes}
 use Rattle.instructions.specs.Immediates as Read

@@ -13,7 +13,7 @@ use Rattle.format.specs.Text.{utf8}
 use Rattle.format.specs.Tables.{Table, nil, row, lookup, map_table, table}
 use Rattle.format.specs.Names.{Kind, one_name, name_map, indirect_map, kept, known, known_kind, wider, wider_kind, Content, single, names, names_by, whole, contents, subsections, payload, judge_names}
 use Rattle.format.specs.Canonical.{bare}
-use Rattle.format.specs.Laws.Editions.{name_known, map_known, indirect_known, known_alike, beyond_eleven, beyond_kept}
+use Rattle.format.proofs.Laws.Editions.{name_known, map_known, indirect_known, known_alike, beyond_eleven, beyond_kept}
 use Rattle.format.specs.Laws.Outcomes.{got_value, by_test, in_turn, judged}
 use Rattle.format.specs.Laws.Turns.{in_subsection}
 use Rattle.format.specs.declared.Reason.TheVariants.{NotText}

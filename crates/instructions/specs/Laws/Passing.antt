@@ -6,7 +6,7 @@ use Rattle.std.proofs.Common.{leb-true}
 use Rattle.format.specs.Reading.{got}
 use Rattle.format.specs.Numbers.{number, limit32}
 use Rattle.format.specs.Laws.Outcomes.{not_got, got_next, got_rest, by_test, in_turn, passed}
-use Rattle.format.specs.Laws.Passing.{Passes, number_passes, drop_passes}
+use Rattle.format.proofs.Laws.Passing.{Passes, number_passes, drop_passes}
 use Rattle.instructions.specs.Immediates.{is_of, byte_of, bytes, index, indices, signed, labels, indirect, memory, immediates, instruction}
 use Rattle.instructions.specs.Locals.{local_groups, locals}
 use Rattle.instructions.specs.Opcodes.{shape_of}

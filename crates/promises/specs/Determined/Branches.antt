@@ -1,6 +1,6 @@
 -- Each promise of the crate `branches` determines what comes back.
 use Rattle.branches.specs.Promises.{BranchesHintsOnBranches}
-use Rattle.format.specs.Determined.{Determines1, meaning_determined}
+use Rattle.format.proofs.Determined.{Determines1, meaning_determined}
 use Rattle.format.specs.Laws.Refusals.{same_verdict}
 
 pub record Branches : Type 0 where

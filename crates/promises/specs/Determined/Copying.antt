@@ -1,6 +1,6 @@
 -- Each promise of the crate `copying` determines what comes back.
 use Rattle.std.specs.Prelude.{ℕ, List}
-use Rattle.format.specs.Determined.{Determines1, Determines3, DeterminesBoth4, DeterminesBoth5, Determines, equal_determined}
+use Rattle.format.proofs.Determined.{Determines1, Determines3, DeterminesBoth4, DeterminesBoth5, Determines, equal_determined}
 use Rattle.format.specs.Reading.{Reader}
 use Rattle.copying.proofs.Same.{measured_same, groups_same, put_same}
 use Rattle.copying.specs.Standing.{Puts}

@@ -1,5 +1,5 @@
 -- Each promise of the crate `entries` determines what comes back.
-use Rattle.format.specs.Determined.{DeterminesBoth2, DeterminesBoth4, lists_determined}
+use Rattle.format.proofs.Determined.{DeterminesBoth2, DeterminesBoth4, lists_determined}
 use Rattle.entries.specs.Promises.{EntriesListNames, EntriesListMetadata, EntriesListHints}
 
 pub record Entries : Type 0 where

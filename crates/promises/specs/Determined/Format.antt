@@ -1,5 +1,5 @@
 -- Each promise of the crate `format` determines what comes back.
-use Rattle.format.specs.Determined.{Determines1, equal_determined}
+use Rattle.format.proofs.Determined.{Determines1, equal_determined}
 use Rattle.format.specs.Promises.{FormatRefusalOf, FormatReasonNumber, FormatQuestionId, FormatQuestionQuery}
 
 pub record Format : Type 0 where

@@ -1,5 +1,5 @@
 -- The forms of `format/specs/Determined.antt` for calls that are lent more, and of which more comes back: the shared table's.
-use Rattle.format.specs.Determined.{Determines, DeterminesThree3}
+use Rattle.format.proofs.Determined.{Determines, DeterminesThree3}
 
 abbrev pub DeterminesThree4 : {A B C D Other Another Result : Type 0} → (A → B → C → D → Other → Another → Result → Type 0) → Type 0
 DeterminesThree4 {A} promise = (a : A) → DeterminesThree3 (promise a)

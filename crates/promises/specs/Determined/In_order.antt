@@ -1,5 +1,5 @@
 -- Each promise of the crate `in_order` determines what comes back.
-use Rattle.format.specs.Determined.{Determines3, Determines4, DeterminesBoth5}
+use Rattle.format.proofs.Determined.{Determines3, Determines4, DeterminesBoth5}
 use Rattle.in_order.proofs.Same.{surveys_same, row_surveys_same, rows_same}
 use Rattle.in_order.specs.Promises.{InOrderSurvey, InOrderPutEntries, InOrderSurveyRows, InOrderPutRows}
 use Rattle.promises.specs.Determined.Copying.{put_determined}

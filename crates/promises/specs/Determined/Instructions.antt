@@ -1,5 +1,5 @@
 -- Each promise of the crate `instructions` determines what comes back.
-use Rattle.format.specs.Determined.{Determines2}
+use Rattle.format.proofs.Determined.{Determines2}
 use Rattle.instructions.proofs.Same.{way_same}
 use Rattle.instructions.specs.Promises.{InstructionsStep, InstructionsLocals}
 

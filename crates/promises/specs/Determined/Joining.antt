@@ -1,5 +1,5 @@
 -- Each promise of the crate `joining` determines what comes back.
-use Rattle.format.specs.Determined.{DeterminesBoth4, joins_determined}
+use Rattle.format.proofs.Determined.{DeterminesBoth4, joins_determined}
 use Rattle.joining.specs.Promises.{JoiningJoin}
 
 pub record Joining : Type 0 where

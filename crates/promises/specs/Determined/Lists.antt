@@ -1,5 +1,5 @@
 -- Each promise of the crate `lists` determines what comes back.
-use Rattle.format.specs.Determined.{DeterminesBoth4, writes_determined}
+use Rattle.format.proofs.Determined.{DeterminesBoth4, writes_determined}
 use Rattle.lists.specs.Promises.{ListsFunctionNames}
 
 pub record Lists : Type 0 where

@@ -1,5 +1,5 @@
 -- Each promise of the crate `markers` determines what comes back.
-use Rattle.format.specs.Determined.{Determines5, DeterminesThree3, answer_determined, makes_determined}
+use Rattle.format.proofs.Determined.{Determines5, DeterminesThree3, answer_determined, makes_determined}
 use Rattle.markers.specs.Promises.{MarkersMake, MarkersQuick}
 
 pub record Markers : Type 0 where

@@ -1,5 +1,5 @@
 -- Each promise of the crate `metadata` determines what comes back.
-use Rattle.format.specs.Determined.{Determines1, Determines3, Determines4, Determines5, DeterminesBoth4, equal_determined, meaning_determined, answer_determined, hint_answer_determined, part_determined}
+use Rattle.format.proofs.Determined.{Determines1, Determines3, Determines4, Determines5, DeterminesBoth4, equal_determined, meaning_determined, answer_determined, hint_answer_determined, part_determined}
 use Rattle.format.specs.Laws.Refusals.{same_verdict}
 use Rattle.metadata.specs.Promises.{MetadataFindIn, MetadataJudgeIn, MetadataHintIn, MetadataJudge, MetadataJudgeHints, MetadataFind, MetadataFindBytes, MetadataHint, MetadataIsCanonical, MetadataAreHintsCanonical}
 

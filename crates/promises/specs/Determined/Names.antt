@@ -1,8 +1,8 @@
 -- Each promise of the crate `names` determines what comes back, but for the two at the end.
 use Rattle.std.specs.Prelude.{ℕ, List, ◌≡◌}
 use Rattle.std.proofs.Common.{sym, ◌∙◌}
-use Rattle.format.specs.Determined.{Determines1, Determines2, Determines3, Determines4, DeterminesBoth4, Determines, equal_determined, meaning_determined, answer_determined, part_determined}
-use Rattle.format.specs.Laws.Answers.{same_answer}
+use Rattle.format.proofs.Determined.{Determines1, Determines2, Determines3, Determines4, DeterminesBoth4, Determines, equal_determined, meaning_determined, answer_determined, part_determined}
+use Rattle.format.proofs.Laws.Answers.{same_answer}
 use Rattle.format.specs.Laws.Refusals.{same_verdict}
 use Rattle.format.specs.Parts.{Part}
 use Rattle.format.specs.Questions.{answered}

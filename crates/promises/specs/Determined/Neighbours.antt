@@ -1,5 +1,5 @@
 -- Each promise of the crate `neighbours` determines what comes back.
-use Rattle.format.specs.Determined.{Determines2, Determines3, meaning_determined}
+use Rattle.format.proofs.Determined.{Determines2, Determines3, meaning_determined}
 use Rattle.neighbours.proofs.Same.{why_same}
 use Rattle.neighbours.specs.Promises.{NeighboursWhyFunction, NeighboursWhyLocal}
 

@@ -1,7 +1,7 @@
 -- Each promise of the crate `older` determines what comes back.
 use Rattle.std.specs.Prelude.{ℕ, zero, suc, ◌≤◌, List, ◌≡◌, refl}
 use Rattle.std.proofs.Common.{ap, arith}
-use Rattle.format.specs.Determined.{Determines1, Determines2, Determines3, Determines4, meaning_determined, hint_answer_determined}
+use Rattle.format.proofs.Determined.{Determines1, Determines2, Determines3, Determines4, meaning_determined, hint_answer_determined}
 use Rattle.format.specs.Laws.Refusals.{same_verdict}
 use Rattle.format.specs.Older.{OlderHint, kind_numbered, kind_number}
 use Rattle.older.specs.Again.{StandsHint}

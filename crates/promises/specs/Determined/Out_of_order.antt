@@ -1,5 +1,5 @@
 -- Each promise of the crate `out_of_order` determines what comes back: the length and the output's bytes, how many rows there are, and the lists. What the window has after a call is left open: it is room that the caller lends, and nobody reads it.
-use Rattle.format.specs.Determined.{Determines5, equal_determined}
+use Rattle.format.proofs.Determined.{Determines5, equal_determined}
 use Rattle.in_order.proofs.Same.{columns_same}
 use Rattle.out_of_order.specs.Promises.{OutOfOrderMeasure, OutOfOrderPut, OutOfOrderCountRows, OutOfOrderPutRows}
 use Rattle.writing.proofs.Laws.{wrote_same}

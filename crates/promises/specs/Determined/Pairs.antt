@@ -1,5 +1,5 @@
 -- Each promise of the crate `pairs` determines what comes back.
-use Rattle.format.specs.Determined.{Determines4, DeterminesBoth6, pair_answer_determined, part_determined}
+use Rattle.format.proofs.Determined.{Determines4, DeterminesBoth6, pair_answer_determined, part_determined}
 use Rattle.pairs.specs.Promises.{PairsAsk, PairsAskBytes}
 
 pub record Pairs : Type 0 where

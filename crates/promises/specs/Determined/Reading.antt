@@ -1,5 +1,5 @@
 -- Each promise of the crate `reading` determines what comes back.
-use Rattle.format.specs.Determined.{Determines1, Determines2, Determines3, DeterminesBoth3, equal_determined, part_determined}
+use Rattle.format.proofs.Determined.{Determines1, Determines2, Determines3, DeterminesBoth3, equal_determined, part_determined}
 use Rattle.reading.proofs.Same.{number_same, part_same}
 use Rattle.reading.proofs.Standing.{number_here_same, part_here_same}
 use Rattle.reading.specs.Promises.{ReadingWide, ReadingOver, ReadingNumber, ReadingSized, ReadingName, ReadingNumberHere, ReadingPartHere, ReadingTaken, ReadingIsText}

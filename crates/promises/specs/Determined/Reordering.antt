@@ -1,5 +1,5 @@
 -- Each promise of the crate `reordering` determines what comes back.
-use Rattle.format.specs.Determined.{Determines1, DeterminesBoth2, equal_determined, writes_determined, lists_determined}
+use Rattle.format.proofs.Determined.{Determines1, DeterminesBoth2, equal_determined, writes_determined, lists_determined}
 use Rattle.reordering.specs.Promises.{ReorderingCanonical, ReorderingIsCanonical, ReorderingList}
 
 pub record Reordering : Type 0 where

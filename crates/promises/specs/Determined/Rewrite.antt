@@ -1,5 +1,5 @@
 -- Each promise of the crate `rewrite` determines what comes back.
-use Rattle.format.specs.Determined.{DeterminesBoth2, DeterminesBoth3, writes_determined}
+use Rattle.format.proofs.Determined.{DeterminesBoth2, DeterminesBoth3, writes_determined}
 use Rattle.rewrite.specs.Promises.{RewriteNames, RewriteMetadata, RewriteHints}
 
 pub record Rewrite : Type 0 where

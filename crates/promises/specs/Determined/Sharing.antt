@@ -1,6 +1,6 @@
 -- Each promise of the crate `sharing` determines what comes back: the table, the answer, and what is left of the lent buffers.
 use Rattle.std.proofs.Common.{sym, ap, ◌∙◌}
-use Rattle.format.specs.Determined.{Determines1, Determines4, DeterminesBoth2, DeterminesBoth6}
+use Rattle.format.proofs.Determined.{Determines1, Determines4, DeterminesBoth2, DeterminesBoth6}
 use Rattle.sharing.specs.Laws.Same.{same_table, same_opened, same_told, same_closed, same_tidied}
 use Rattle.sharing.specs.Promises.{SharingStart, SharingOpen, SharingAsk, SharingClose, SharingCompact}
 use Rattle.sharing.specs.Step.{After}

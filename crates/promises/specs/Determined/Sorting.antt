@@ -1,7 +1,7 @@
 -- Each promise of the crate `sorting` determines what comes back, but for the two at the end.
 use Rattle.std.specs.Prelude.{ℕ, List, ◌≡◌, length, take}
 use Rattle.std.proofs.Common.{sym, ap, ◌∙◌, arith, length-take}
-use Rattle.format.specs.Determined.{Determines4, equal_determined}
+use Rattle.format.proofs.Determined.{Determines4, equal_determined}
 use Rattle.sorting.proofs.Codes.{length_coded}
 use Rattle.sorting.proofs.Inserts.{length_descending}
 use Rattle.sorting.specs.Order.{coded, descending}

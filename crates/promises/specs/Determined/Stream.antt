@@ -1,5 +1,5 @@
 -- Each promise of the crate `stream` determines what comes back.
-use Rattle.format.specs.Determined.{Determines, Determines1, Determines2, equal_determined}
+use Rattle.format.proofs.Determined.{Determines, Determines1, Determines2, equal_determined}
 use Rattle.stream.specs.Promises.{StreamBegin, StreamTakePart, StreamFinish}
 
 pub record Stream : Type 0 where

@@ -1,6 +1,6 @@
 -- Each promise of the crate `tables` determines what comes back, but for the one at the end.
 use Rattle.std.specs.Prelude.{ℕ, List}
-use Rattle.format.specs.Determined.{Determines1, Determines2, Determines3, Determines4, Determines, equal_determined}
+use Rattle.format.proofs.Determined.{Determines1, Determines2, Determines3, Determines4, Determines, equal_determined}
 use Rattle.reading.proofs.Same.{part_same}
 use Rattle.reading.specs.Cursors.{Inside}
 use Rattle.reading.specs.declared.Cursor.{Cursor}

@@ -1,5 +1,5 @@
 -- Each promise of the crate `through` determines what comes back.
-use Rattle.format.specs.Determined.{Determines3, Determines4, DeterminesBoth4, DeterminesBoth5, answer_determined, hint_answer_determined, part_determined}
+use Rattle.format.proofs.Determined.{Determines3, Determines4, DeterminesBoth4, DeterminesBoth5, answer_determined, hint_answer_determined, part_determined}
 use Rattle.through.specs.Promises.{ThroughAsk, ThroughAskBytes, ThroughMetadata, ThroughMetadataBytes, ThroughHint, ThroughOlderHint}
 
 pub record Through : Type 0 where

@@ -2,7 +2,7 @@
 use Rattle.std.specs.Prelude.{ℕ, List, [], ◌≡◌}
 use Rattle.std.proofs.Math.Option.{Option}
 use Rattle.std.proofs.Common.{sym, ap, ◌∙◌}
-use Rattle.format.specs.Determined.{Determines, Determines1, Determines2, Determines3, Determines4, Determines5, DeterminesBoth2, DeterminesBoth3, DeterminesBoth4, DeterminesThree2, DeterminesThree3, equal_determined, DeterminesBoth1, DeterminesBoth6}
+use Rattle.format.proofs.Determined.{Determines, Determines1, Determines2, Determines3, Determines4, Determines5, DeterminesBoth2, DeterminesBoth3, DeterminesBoth4, DeterminesThree2, DeterminesThree3, equal_determined, DeterminesBoth1, DeterminesBoth6}
 use Rattle.format.specs.Entries.{Listed}
 use Rattle.format.specs.Markers.{Markers}
 use Rattle.format.specs.Pairs.{Paired}

@@ -1,5 +1,5 @@
 -- Each promise of the crate `walk` determines what comes back.
-use Rattle.format.specs.Determined.{Determines1, Determines2, Determines3, Determines4, equal_determined, meaning_determined, answer_determined}
+use Rattle.format.proofs.Determined.{Determines1, Determines2, Determines3, Determines4, equal_determined, meaning_determined, answer_determined}
 use Rattle.walk.proofs.Same.{count_same, section_same, begin_same, step_same, id_same, name_same, see_same, called_same, survey_same}
 use Rattle.walk.specs.Promises.{WalkCount, WalkSectionAt, WalkCustom, WalkCustomJoined, WalkIsCalled, WalkIsJoined, WalkCalled, WalkJudgeId, WalkJudgeName, WalkSee, WalkBegin, walk_step, WalkSurvey}
 

@@ -1,6 +1,6 @@
 -- Each promise of the crate `writing` determines what comes back.
 use Rattle.std.specs.Prelude.{ℕ, ◌+◌, ◌≤◌, List}
-use Rattle.format.specs.Determined.{Determines1, DeterminesBoth3, Determines, equal_determined, also_determined}
+use Rattle.format.proofs.Determined.{Determines1, DeterminesBoth3, Determines, equal_determined, also_determined}
 use Rattle.writing.proofs.Laws.{wrote_same}
 use Rattle.writing.specs.Wrote.{Wrote}
 use Rattle.writing.specs.Promises.{WritingPutByte, WritingPutBytes, WritingPutLong, WritingPutDecimal, WritingNumberLength, WritingPutNumber}

@@ -2,7 +2,7 @@
 use Rattle.std.specs.Prelude.{ℕ, ◌<◌, List, [], ◌∷◌, ◌≡◌, refl, length, take}
 use Rattle.std.proofs.Common.{sym, ap, ◌∙◌}
 use Rattle.format.specs.Canonical.{write_part, unless_empty, keep_rows, bare, write_content, write_subsections, rewrite_names, canonical_names}
-use Rattle.format.specs.Laws.Editions.{name_known, map_known, indirect_known, same_known, below_known, narrower_accepts, narrower_answers, known_silent}
+use Rattle.format.proofs.Laws.Editions.{name_known, map_known, indirect_known, same_known, below_known, narrower_accepts, narrower_answers, known_silent}
 use Rattle.format.specs.Laws.Outcomes.{accepted_is}
 use Rattle.format.specs.Names.{kept, known, known_kind, wider, wider_kind, contents, subsections, payload, judge_names}
 use Rattle.format.specs.Numbers.{number, groups, shortest, fewest}

@@ -8,13 +8,13 @@ use Rattle.std.proofs.Math.ListN.{length, get_elem?, get_or, length-map}
 use Rattle.format.specs.Canonical.{rewrite_names, canonical_names, write_subsections, bare}
 use Rattle.format.specs.Entries.{Listed, plain_rows, group_rows, content_rows, name_rows, item_rows, place_columns, hint_columns, fit_each, over_each}
 use Rattle.format.specs.Holding.{Has}
-use Rattle.format.specs.Laws.CanonicalNames.{read_whole}
-use Rattle.format.specs.Laws.Found.{Each, no_more, one_more}
-use Rattle.format.specs.Laws.Holding.{has_lookup, names_sorted}
+use Rattle.format.proofs.Laws.CanonicalNames.{read_whole}
+use Rattle.format.proofs.Laws.Found.{Each, no_more, one_more}
+use Rattle.format.proofs.Laws.Holding.{has_lookup, names_sorted}
 use Rattle.format.specs.Laws.Options.{not_some, some_is}
 use Rattle.format.specs.Laws.Outcomes.{accepted_is, by_test, false_true}
-use Rattle.format.specs.Laws.Places.{any_located, hint_located, lies_inside, lies_there}
-use Rattle.format.specs.Laws.Tables.{lookup_fine}
+use Rattle.format.proofs.Laws.Places.{any_located, hint_located, lies_inside, lies_there}
+use Rattle.format.proofs.Laws.Tables.{lookup_fine}
 use Rattle.format.specs.Lists.{function_names, subsection}
 use Rattle.format.specs.Metadata.{hint_of, any_item, hint_item, judge_metadata}
 use Rattle.format.specs.Names.{Kind, Content, names, judge_names}

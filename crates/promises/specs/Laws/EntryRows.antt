@@ -7,16 +7,16 @@ use Rattle.std.proofs.Common.{ap₂, ◌∙◌}
 use Rattle.format.specs.Canonical.{bare, bare_items}
 use Rattle.format.specs.Entries.{Listed, plain_rows, rows_under, group_rows, content_rows, name_rows, item_rows}
 use Rattle.format.specs.Holding.{Has}
-use Rattle.format.specs.Laws.CanonicalNames.{read_whole}
-use Rattle.format.specs.Laws.Found.{ContentIn, single_in, names_in, names_by_in, whole_in, Each, no_more, one_more, content_lies, items_lie}
-use Rattle.format.specs.Laws.Holding.{has_lookup, lookup_has}
-use Rattle.format.specs.Laws.Names.{SubFine}
-use Rattle.format.specs.Laws.Codecs.{Sorted}
+use Rattle.format.proofs.Laws.CanonicalNames.{read_whole}
+use Rattle.format.proofs.Laws.Found.{ContentIn, single_in, names_in, names_by_in, whole_in, Each, no_more, one_more, content_lies, items_lie}
+use Rattle.format.proofs.Laws.Holding.{has_lookup, lookup_has}
+use Rattle.format.proofs.Laws.Names.{SubFine}
+use Rattle.format.proofs.Laws.Codecs.{Sorted}
 use Rattle.format.specs.Laws.Options.{not_some, some_is, by_option}
 use Rattle.format.specs.Laws.Outcomes.{accepted_is, judged, mapped}
-use Rattle.format.specs.Laws.Places.{PartIn, Located, Rows, no_rows, one_row, lies_all, hint_located, table_located, filling_in}
+use Rattle.format.proofs.Laws.Places.{PartIn, Located, Rows, no_rows, one_row, lies_all, hint_located, table_located, filling_in}
 use Rattle.format.specs.Laws.Turns.{in_tested}
-use Rattle.format.specs.Laws.Tables.{lookup_map}
+use Rattle.format.proofs.Laws.Tables.{lookup_map}
 use Rattle.format.specs.Metadata.{hint_of, hint_item, metadata, judge_metadata}
 use Rattle.format.specs.Names.{Kind, Content, single, names, names_by, whole, judge_names}
 use Rattle.format.specs.Options.{some_then, map_some, is_some}

@@ -7,10 +7,10 @@ use Rattle.std.proofs.Math.ListN.{get_elem?}
 use Rattle.std.proofs.Math.Seq.{take-append_seam, drop-append_seam}
 use Rattle.format.specs.Canonical.{bare}
 use Rattle.format.specs.Holding.{Has, first, later}
-use Rattle.format.specs.Laws.Holding.{lookup_has}
-use Rattle.format.specs.Laws.MarkerParts.{payload_kept, MarkersIn, no_functions, of_functions, markers_stand}
+use Rattle.format.proofs.Laws.Holding.{lookup_has}
+use Rattle.format.proofs.Laws.MarkerParts.{payload_kept, MarkersIn, no_functions, of_functions, markers_stand}
 use Rattle.format.specs.Laws.Outcomes.{got_value, got_next, got_rest, by_test, judged}
-use Rattle.format.specs.Laws.Tables.{lookup_here, lookup_there, lookup_map}
+use Rattle.format.proofs.Laws.Tables.{lookup_here, lookup_there, lookup_map}
 use Rattle.format.specs.Laws.Turns.{in_subsection}
 use Rattle.format.specs.Markers.{Entry, entry, entries, all_entries, thinned, Markers, unknown, functions_part, markers_of}
 use Rattle.format.specs.Names.{Kind, name_map, known, known_kind, Content, names, whole, contents, subsections, payload, judge_names}

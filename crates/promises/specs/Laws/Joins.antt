@@ -10,7 +10,7 @@ use Rattle.format.specs.Bytes.{Bytes}
 use Rattle.format.specs.Canonical.{write_content, write_subsections, canonical_names}
 use Rattle.format.specs.Holding.{Has}
 use Rattle.format.specs.Joined.{joined_contents, all_fit, write_joined, join_names, join_answer}
-use Rattle.format.specs.Laws.JoiningAll.{large_exactly}
+use Rattle.format.proofs.Laws.JoiningAll.{large_exactly}
 use Rattle.format.specs.Lists.{provided}
 use Rattle.format.specs.Parts.{Part}
 use Rattle.format.specs.Tables.{Table, nil}
@@ -19,12 +19,12 @@ use Rattle.format.specs.Laws.Outcomes.{not_accepted, accepted_is, by_test}
 use Rattle.format.specs.Laws.Pairs.{agreed_is, on_agreed}
 use Rattle.format.specs.Names.{Kind, Content, kind_in, subsections, payload, judge_names}
 use Rattle.format.specs.Outputs.{fitting, write_answer, output_after}
-use Rattle.format.specs.PairTheorems.{JoinedTo, pairs_answered, edition_pairs_joined}
+use Rattle.format.proofs.PairTheorems.{JoinedTo, pairs_answered, edition_pairs_joined}
 use Rattle.format.specs.Pairs.{Paired, agreed, refused_by, ask_pair, as_places, pair_told}
 use Rattle.format.specs.Questions.{AllowedBy, ask, as_place}
 use Rattle.format.specs.Reading.{Judged, accepted, refused, Accepted, verdict}
 use Rattle.format.specs.Telling.{is_its_rewriting, names_are_canonical}
-use Rattle.format.specs.Theorems.{questions_answered}
+use Rattle.format.proofs.Theorems.{questions_answered}
 use Rattle.format.specs.declared.Edition.{Edition}
 use Rattle.format.specs.declared.Question.{Question}
 use Rattle.format.specs.declared.Whose.TheVariants.{Separate, Own}
@@ -84,9 +84,9 @@ module _ (edition : Edition) (s o : List ℕ) where
         let large = ((edition_pairs_joined edition).too_large (record { value = t; judged = j }) (record { value = u; judged = k })).1 (id, c, h, omega (arith, long)) in
         absurd (not_accepted (agreed_is (sym large ∙ is))))
 
-    no-15 : ((id : ℕ) (c : Content (List ℕ)) → Has id c (joined_contents t u) → length (write_content c) ≤ 4_294_967_295) → join_names (kind_in edition) s o ≡ agreed (accepted (write_subsections (joined_contents t u)))
+    no_15 : ((id : ℕ) (c : Content (List ℕ)) → Has id c (joined_contents t u) → length (write_content c) ≤ 4_294_967_295) → join_names (kind_in edition) s o ≡ agreed (accepted (write_subsections (joined_contents t u)))
     unfolding join_names write_joined
-    no-15 small = rw (j, k) (ap agreed (provided_small (all_fit (joined_contents t u)) refl))
+    no_15 small = rw (j, k) (ap agreed (provided_small (all_fit (joined_contents t u)) refl))
       where
         provided_small : (b : Bool) → all_fit (joined_contents t u) ≡ b → provided b SubsectionTooLarge (accepted (write_subsections (joined_contents t u))) ≡ accepted (write_subsections (joined_contents t u))
         provided_small true e = refl
@@ -105,7 +105,7 @@ module _ (edition : Edition) (s o : List ℕ) where
   too_short bytes is short =
       on_agreed write_joined (judge_names (kind_in edition) 0 s) (judge_names (kind_in edition) 0 o) is λ t u j k _.
       let small = none_large j k is in
-      let same : write_subsections (joined_contents t u) ≡ bytes = accepted_is (agreed_is (sym (no-15 j k small) ∙ is)) in
+      let same : write_subsections (joined_contents t u) ≡ bytes = accepted_is (agreed_is (sym (no_15 j k small) ∙ is)) in
       rw (← same) (join_too_short j k small (rw same short))
 
   module _ (old : List ℕ) (a : WmPairAnswer) where
@@ -126,7 +126,7 @@ module _ (edition : Edition) (s o : List ℕ) where
     to_refused e {n = n} {at = at} (separate_refused j) = e ∙ ap (λ x. wm_join (join_answer (length old) x)) (((edition_pairs_joined edition).refuses_separate s o n at).1 j)
     to_refused e {n = n} {at = at} (own_refused {t = t} j k) = e ∙ ap (λ x. wm_join (join_answer (length old) x)) (((edition_pairs_joined edition).refuses_own s o n at).1 (record { value = t; judged = j }, k))
     to_refused e (join_too_large {t} {u} j k id c h long) = e ∙ ap (λ x. wm_join (join_answer (length old) x)) (((edition_pairs_joined edition).too_large (record { value = t; judged = j }) (record { value = u; judged = k })).1 (id, c, h, omega (arith, long)))
-    to_refused e (join_too_short {t} {u} j k small short) = e ∙ ap (λ x. wm_join (join_answer (length old) x)) (no-15 j k small) ∙ rw (lt-leb (length (write_subsections (joined_contents t u))) (length old) short)
+    to_refused e (join_too_short {t} {u} j k small short) = e ∙ ap (λ x. wm_join (join_answer (length old) x)) (no_15 j k small) ∙ rw (lt-leb (length (write_subsections (joined_contents t u))) (length old) short)
 
   refused_numbered : {room w n at : ℕ} → JoinRefused (kind_in edition) s o room w n at → Numbered n
   refused_numbered {n = n} {at = at} (separate_refused e) = (names_fair (kind_in edition) 0 s).numbered n at e

@@ -5,10 +5,10 @@ use Rattle.std.proofs.Math.Option.{Option, none, some}
 use Rattle.std.proofs.Math.Path.{refl}
 use Rattle.std.proofs.Common.{sym, ap, ◌∙◌}
 use Rattle.format.specs.Canonical.{canonical_names}
-use Rattle.format.specs.Theorems.{questions_answered}
-use Rattle.format.specs.Laws.Answers.{told_none}
-use Rattle.format.specs.Laws.Holding.{none_exactly}
-use Rattle.format.specs.Laws.Lists.{Written, written, listed_exactly, lists_told, lists_stay}
+use Rattle.format.proofs.Theorems.{questions_answered}
+use Rattle.format.proofs.Laws.Answers.{told_none}
+use Rattle.format.proofs.Laws.Holding.{none_exactly}
+use Rattle.format.proofs.Laws.Lists.{Written, written, listed_exactly, lists_told, lists_stay}
 use Rattle.format.specs.Laws.Options.{not_some}
 use Rattle.format.specs.Laws.Outcomes.{accepted_is, by_test, accepted_exactly}
 use Rattle.format.specs.Lists.{Indices, listed, function_names}

@@ -3,7 +3,7 @@ use Rattle.std.specs.Prelude.{ℕ, ◌≤◌, ◌&&◌, List, [], ◌∷◌, ◌
 use Rattle.std.proofs.Common.{sym, ap, ◌∙◌, arith}
 use borrow.Author.Tests.{eqb-true}
 use Rattle.std.proofs.Math.Dec.{eqb}
-use Rattle.format.specs.Laws.Lists.{on_provided, on_unless}
+use Rattle.format.proofs.Laws.Lists.{on_provided, on_unless}
 use Rattle.format.specs.Laws.Outcomes.{accepted_is, on_both}
 use Rattle.format.specs.Lists.{sum, unsorted_at, bad_text_at, function_names}
 use Rattle.format.specs.Reading.{accepted}

@@ -2,7 +2,7 @@
 use Rattle.std.specs.Prelude.{ℕ, List, [], ◌∷◌, ◌↔◌, ◌≡◌}
 use Rattle.std.proofs.Math.Logic.Iff
 use Rattle.std.proofs.Math.Option.{Option}
-use Rattle.format.specs.Theorems.{Answers, hints_answered}
+use Rattle.format.proofs.Theorems.{Answers, hints_answered}
 use Rattle.format.specs.Holding.{Has, HasWithin, Holds, the_name, the_entry, the_inner, the_contents}
 use Rattle.format.specs.Metadata.{data_of, hint_item, judge_metadata, ask_hint}
 use Rattle.format.specs.Names.{Content, single, names, names_by, whole}

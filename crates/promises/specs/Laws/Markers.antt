@@ -6,10 +6,10 @@ use Rattle.std.proofs.Common.{sym, ap, ap₂, ◌∙◌, arith, ltb-true, ltb-fa
 use Rattle.std.proofs.Math.ListN.{get_elem?}
 use Rattle.std.proofs.lemmas.List.{length-map}
 use Rattle.format.specs.Bytes.{Bytes}
-use Rattle.format.specs.Laws.MarkerEntries.{markers_count}
+use Rattle.format.proofs.Laws.MarkerEntries.{markers_count}
 use Rattle.format.specs.Laws.MarkerPositions.{marker_at}
-use Rattle.format.specs.Laws.MarkerRule.{rule_exactly}
-use Rattle.format.specs.Laws.MarkersMade.{made_refused, made_long, made_few_indices, made_few_offsets, made_fits, made_is, own_made}
+use Rattle.format.proofs.Laws.MarkerRule.{rule_exactly}
+use Rattle.format.proofs.Laws.MarkersMade.{made_refused, made_long, made_few_indices, made_few_offsets, made_fits, made_is, own_made}
 use Rattle.format.specs.Laws.Outcomes.{not_accepted, accepted_is, by_test}
 use Rattle.format.specs.MarkerRule.{Follows, too_long, fewer_indices, fewer_offsets, end_outside, not_markers}
 use Rattle.format.specs.Markers.{Entry, thinned, Markers, made, made_as, indices_of, offsets_of, quick}

@@ -6,7 +6,7 @@ use Rattle.std.proofs.Math.Path.{refl, ap}
 use Rattle.std.proofs.Common.{sym, ◌∙◌, add-zero, add-suc, arith}
 use Rattle.format.specs.Laws.Options.{by_option}
 use Rattle.format.specs.Laws.Outcomes.{by_test}
-use Rattle.format.specs.Laws.Tables.{lookup_map}
+use Rattle.format.proofs.Laws.Tables.{lookup_map}
 use Rattle.format.specs.Metadata.{hint_of, any_item, hint_item, metadata, judge_metadata, item_at, ask_metadata, hint_in, ask_hint}
 use Rattle.format.specs.Names.{Kind, one_name, name_map, indirect_map, kept, Content, single, names, names_by, whole, contents, subsections, payload, judge_names}
 use Rattle.format.specs.Numbers.{groups, number}

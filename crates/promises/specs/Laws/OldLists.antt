@@ -10,9 +10,9 @@ use Rattle.std.proofs.Math.ListN.{get_elem?}
 use Rattle.std.proofs.lemmas.List.{length-map}
 use Rattle.format.specs.Entries.{Listed, rows_under, group_rows, older_rows, older_columns, fit_each, over_each}
 use Rattle.format.specs.Holding.{Has, first, later, HasWithin}
-use Rattle.format.specs.Laws.Codecs.{Sorted, end, next}
-use Rattle.format.specs.Laws.Holding.{within_exactly}
-use Rattle.format.specs.Laws.OlderSorted.{Group, Any, any_numbers, sorted_entries, first_found}
+use Rattle.format.proofs.Laws.Codecs.{Sorted, end, next}
+use Rattle.format.proofs.Laws.Holding.{within_exactly}
+use Rattle.format.proofs.Laws.OlderSorted.{Group, Any, any_numbers, sorted_entries, first_found}
 use Rattle.format.specs.Laws.Options.{not_some, some_is, by_option}
 use Rattle.format.specs.Laws.Outcomes.{by_test, false_true, mapped}
 use Rattle.format.specs.Older.{OlderEntry, kind_number, judge_older, first_in, ask_older, sorted_from}

@@ -8,7 +8,7 @@ use Rattle.std.proofs.Common.{sym, ap, ◌∙◌, arith}
 use borrow.Author.Tests.{eqb-true, eq-eqb, leb-true, leb-false, le-leb, lt-leb}
 use Rattle.std.proofs.Math.ListN.{get_elem?}
 use Rattle.format.specs.Bytes.{ascii}
-use Rattle.format.specs.Laws.CanonicalOlder.{order_shorter}
+use Rattle.format.proofs.Laws.CanonicalOlder.{order_shorter}
 use Rattle.format.specs.Laws.Options.{not_some, some_is, by_option}
 use Rattle.format.specs.Laws.Outcomes.{not_accepted, by_test, on_both, refused_exactly, accepted_exactly}
 use Rattle.format.specs.Lists.{unsorted_at}
@@ -18,7 +18,7 @@ use Rattle.format.specs.OlderInOrder.{rising_hints, rising_entries}
 use Rattle.format.specs.Options.{or_else}
 use Rattle.format.specs.Reading.{Judged, accepted, refused, judged_then, Accepted}
 use Rattle.format.specs.Tables.{nil}
-use Rattle.format.specs.Theorems.{older_in_order}
+use Rattle.format.proofs.Theorems.{older_in_order}
 use Rattle.format.specs.Walk.{hint_section, older_hint_section}
 use Rattle.format.specs.declared.FunctionIndex.{FunctionIndex}
 use Rattle.format.specs.declared.Hint.{Hint}
@@ -157,13 +157,13 @@ module _ (p : List ℕ) (room : ℕ) where
   older_refused n at = (from_older (judge_older 0 p) refl n at, λ r. to_older r)
 
 -- 15 is no number of the judgement or of the output, and what is written is no longer than the payload
-not-15 : {p : List ℕ} {room n at : ℕ} → length p < 4_294_967_296 → OlderRefused (RefusedBy (judge_older 0 p)) p room n at → n ≡ 15 → ⊥
-not-15 {p} {at = at} small (older_fault e) is = older_not_15 0 p (rw is at e)
-not-15 {p} small (older_too_long {es} e long) is = omega (arith, order_shorter (record { value = es; judged = e }), long, small)
-not-15 small (older_too_short e fits short) is = omega (arith, is)
+not_15 : {p : List ℕ} {room n at : ℕ} → length p < 4_294_967_296 → OlderRefused (RefusedBy (judge_older 0 p)) p room n at → n ≡ 15 → ⊥
+not_15 {p} {at = at} small (older_fault e) is = older_not_15 0 p (rw is at e)
+not_15 {p} small (older_too_long {es} e long) is = omega (arith, order_shorter (record { value = es; judged = e }), long, small)
+not_15 small (older_too_short e fits short) is = omega (arith, is)
 
 pub older_never_15 : (p old new : List ℕ) (a : WmAnswer) → length p < 4_294_967_296 → WmWrites (canonical_older p) old new a → (at : ℕ) → a ≡ wm_refused 15 at → ⊥
-older_never_15 p old new a small w at e = not-15 small ((older_refused p (length old) 15 at).0 ((written_exactly (canonical_older p) w 15 at).0 e)) refl
+older_never_15 p old new a small w at e = not_15 small ((older_refused p (length old) 15 at).0 ((written_exactly (canonical_older p) w 15 at).0 e)) refl
 
 -- no payload is empty: its count stands first
 pub never_empty : (p : List ℕ) → Accepted (judge_older 0) p → (n at : ℕ) → canonical_older p ≡ refused n at → 0 < length p

@@ -9,12 +9,12 @@ use Rattle.format.specs.Laws.Options.{not_some, some_is}
 use Rattle.format.specs.Laws.Outcomes.{not_accepted, accepted_is, mapped}
 use Rattle.format.specs.Laws.Pairs.{agreed_is, not_agreed}
 use Rattle.format.specs.Names.{Kind, kind_in, judge_names}
-use Rattle.format.specs.PairTheorems.{pairs_answered}
+use Rattle.format.proofs.PairTheorems.{pairs_answered}
 use Rattle.format.specs.Pairs.{Paired, agreed, refused_by, both_judged, Supplied, first_of, ask_pair, lent_by, as_places, supplied_bytes, supplied_from, pair_told}
 use Rattle.format.specs.Parts.{Part}
 use Rattle.format.specs.Questions.{id_of, query_of, answer, asked, ask_at, ask, as_place, as_told}
 use Rattle.format.specs.Reading.{Judged, accepted, refused, map_judged, verdict}
-use Rattle.format.specs.Theorems.{VeryBytes, questions_answered}
+use Rattle.format.proofs.Theorems.{VeryBytes, questions_answered}
 use Rattle.format.specs.declared.Edition.{Edition}
 use Rattle.format.specs.declared.Question.{Question}
 use Rattle.format.specs.declared.Whose.{Whose}

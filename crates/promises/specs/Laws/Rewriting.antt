@@ -5,8 +5,8 @@ use Rattle.std.proofs.Math.Option.{Option, none, some}
 use Rattle.std.proofs.Common.{sym, ap, ◌∙◌, arith}
 use Rattle.format.specs.Bytes.{Bytes}
 use Rattle.format.specs.Canonical.{rewrite_names, canonical_names, rewrite_metadata, canonical_of, canonical_metadata, canonical_hints}
-use Rattle.format.specs.Theorems.{VeryBytes, Rewritten, Rewrites, ItemQuestion, ItemInRange, item_told, hint_told, OlderInRange, older_told, questions_answered, any_metadata_answered, edition_rewritten, any_metadata_rewritten, hints_rewritten, older_rewritten}
-use Rattle.format.specs.Laws.CanonicalOlder.{rewriting}
+use Rattle.format.proofs.Theorems.{VeryBytes, Rewritten, Rewrites, ItemQuestion, ItemInRange, item_told, hint_told, OlderInRange, older_told, questions_answered, any_metadata_answered, edition_rewritten, any_metadata_rewritten, hints_rewritten, older_rewritten}
+use Rattle.format.proofs.Laws.CanonicalOlder.{rewriting}
 use Rattle.format.specs.Laws.Options.{not_some, some_is}
 use Rattle.format.specs.Laws.Outcomes.{accepted_is, mapped}
 use Rattle.format.specs.Metadata.{any_item, hint_item, judge_metadata, item_at, ask_metadata, ask_hint}

@@ -2,7 +2,7 @@
 use Rattle.std.specs.Prelude.{ℕ, List, ◌↔◌, ◌≡◌, refl}
 use Rattle.std.proofs.Math.Option.{Option, none, some}
 use Rattle.std.proofs.Common.{sym, ap, ◌∙◌, arith}
-use Rattle.format.specs.Theorems.{VeryBytes}
+use Rattle.format.proofs.Theorems.{VeryBytes}
 use Rattle.format.specs.Laws.Options.{not_some, some_is}
 use Rattle.format.specs.Laws.Outcomes.{not_accepted, accepted_is}
 use Rattle.format.specs.Parts.{Part}

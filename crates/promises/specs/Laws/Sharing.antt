@@ -13,7 +13,7 @@ use Rattle.format.specs.Options.{is_some}
 use Rattle.format.specs.Parts.{Part}
 use Rattle.format.specs.Questions.{answer, asked, ask_at, ask, as_place, as_told}
 use Rattle.format.specs.Reading.{Judged, accepted, refused}
-use Rattle.format.specs.Theorems.{questions_answered}
+use Rattle.format.proofs.Theorems.{questions_answered}
 use Rattle.format.specs.declared.Question.{Question}
 use Rattle.format.specs.declared.Question.TheVariants.{FunctionName}
 use Rattle.format.specs.declared.Query.TheVariants.{NameOf}

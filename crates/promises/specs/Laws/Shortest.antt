@@ -15,7 +15,7 @@ use Rattle.format.specs.Older.{times, vector, zero_byte, older_kind, older_hint,
 use Rattle.format.specs.Canonical.{write_part, write_rows, write_table, unless_empty, keep_rows, bare, write_content, write_subsections, rewrite_names, canonical_names, rewrite_metadata, canonical_of, canonical_metadata, canonical_hints}
 use Rattle.format.specs.Questions.{AllowedBy}
 use Rattle.format.specs.Reading.{Judged, accepted, verdict, Accepted}
-use Rattle.format.specs.Theorems.{OthersLonger as AnyOthersLonger, NoneShorter as AnyNoneShorter, ItemInRange, OlderInRange}
+use Rattle.format.proofs.Theorems.{OthersLonger as AnyOthersLonger, NoneShorter as AnyNoneShorter, ItemInRange, OlderInRange}
 use Rattle.format.specs.declared.Edition.TheVariants.{First, Wider}
 use Rattle.wakemiono.specs.Boundary.{wm_judged, WmWrites}
 use Rattle.wakemiono.specs.Calls.{WmNamesJudge, WmName, WmNamesCanonical, WmWideNamesJudge, WmWideName, WmWideNamesCanonical, WmMetadataJudge, WmMetadata, WmMetadataCanonical, WmHintsJudge, WmHint, WmHintsCanonical, WmOldHintsJudge, WmOldHint, WmOldHintsCanonical}

@@ -7,9 +7,9 @@ use Rattle.format.specs.Numbers.{shortest}
 use Rattle.format.specs.Outputs.{write_answer, output_after}
 use Rattle.format.specs.Telling.{is_its_rewriting}
 use Rattle.format.specs.Laws.Bytes.{same_true, same_self}
-use Rattle.format.specs.Laws.Codecs.{number_sound}
+use Rattle.format.proofs.Laws.Codecs.{number_sound}
 use Rattle.format.specs.Laws.Outcomes.{accepted_is, not_accepted}
-use Rattle.format.specs.Laws.Padding.{as_few_lem}
+use Rattle.format.proofs.Laws.Padding.{as_few_lem}
 use Rattle.reading.specs.Cursors.{Inside, left}
 use Rattle.reading.specs.Promises.{ReadingNumber}
 use Rattle.reading.specs.declared.Cursor.{Cursor}

@@ -4,12 +4,12 @@ use Rattle.std.proofs.Math.Option.{Option, none, some}
 use Rattle.std.proofs.Common.{sym, ◌∙◌, arith}
 use Rattle.std.proofs.Math.Path.{ap}
 use Rattle.format.specs.Bytes.{same}
-use Rattle.format.specs.Theorems.{VeryBytes}
+use Rattle.format.proofs.Theorems.{VeryBytes}
 use Rattle.format.specs.Laws.Bytes.{same_true, same_self}
-use Rattle.format.specs.Laws.Found.{payload_lies}
+use Rattle.format.proofs.Laws.Found.{payload_lies}
 use Rattle.format.specs.Laws.Laxer.{hint_laxer, table_laxer, filled_laxer}
 use Rattle.format.specs.Laws.Outcomes.{by_test, judged}
-use Rattle.format.specs.Laws.Places.{lies_there, lies_inside}
+use Rattle.format.proofs.Laws.Places.{lies_there, lies_inside}
 use Rattle.format.specs.Metadata.{any_item, hint_item, metadata, judge_metadata, ask_metadata, ask_hint}
 use Rattle.format.specs.Older.{ask_older}
 use Rattle.format.specs.Options.{map_some}

@@ -12,12 +12,12 @@ use Rattle.format.specs.Bytes.{Bytes, same}
 use Rattle.format.specs.Holding.{Framed, Covers, at_the_end_lem, a_section}
 use Rattle.format.specs.Laws.Options.{not_some, some_is, by_option}
 use Rattle.format.specs.Laws.Outcomes.{by_test, accepted_exactly, refused_exactly}
-use Rattle.format.specs.Laws.Answers.{told_none}
+use Rattle.format.proofs.Laws.Answers.{told_none}
 use Rattle.format.specs.Laws.Bytes.{same_true, same_self}
-use Rattle.format.specs.Laws.Found.{payload_lies}
-use Rattle.format.specs.Laws.Holding.{none_exactly}
-use Rattle.format.specs.Laws.Places.{lies_there, lies_inside}
-use Rattle.format.specs.Laws.Walk.{walk_covers}
+use Rattle.format.proofs.Laws.Found.{payload_lies}
+use Rattle.format.proofs.Laws.Holding.{none_exactly}
+use Rattle.format.proofs.Laws.Places.{lies_there, lies_inside}
+use Rattle.format.proofs.Laws.Walk.{walk_covers}
 use Rattle.format.specs.Options.{map_some}
 use Rattle.format.specs.Parts.{Part}
 use Rattle.format.specs.Questions.{as_place, as_told}

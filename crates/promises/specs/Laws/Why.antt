@@ -10,7 +10,7 @@ use Rattle.format.specs.Parts.{Part}
 use Rattle.format.specs.Questions.{as_place, ask}
 use Rattle.format.specs.Reading.{Judged, accepted, refused, Accepted}
 use Rattle.format.specs.Tables.{Table, map_table}
-use Rattle.format.specs.Theorems.{AnswersWhy, questions_answered}
+use Rattle.format.proofs.Theorems.{AnswersWhy, questions_answered}
 use Rattle.format.specs.Why.{Why, named, no_subsection, no_group, no_entry, an_entry, TrueOfFunction, among_functions, TrueOfLocal, among_locals}
 use Rattle.format.specs.declared.Question.{Question}
 use Rattle.grammar.specs.Laws.Names.{source_ids, names_complete}

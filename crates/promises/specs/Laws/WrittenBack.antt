@@ -5,8 +5,8 @@ use Rattle.std.proofs.Common.{sym, ap, ◌∙◌, le-leb, lt-ltb, eq-eqb, length
 use Rattle.std.proofs.lemmas.List.{length-map}
 use Rattle.format.specs.Canonical.{write_content, write_subsections}
 use Rattle.format.specs.Entries.{Listed, plain_rows}
-use Rattle.format.specs.Laws.Codecs.{Sorted, end, next, RowFine, TableFine}
-use Rattle.format.specs.Laws.Names.{NameFine}
+use Rattle.format.proofs.Laws.Codecs.{Sorted, end, next, RowFine, TableFine}
+use Rattle.format.proofs.Laws.Names.{NameFine}
 use Rattle.format.specs.Lists.{sum, listed, unsorted_at, bad_text_at, subsection, function_names}
 use Rattle.format.specs.Names.{names}
 use Rattle.format.specs.Numbers.{limit32}

@@ -15,7 +15,7 @@ pub returns-then-needed-gt-MOST : goal.returns-then-needed-gt-MOST
 returns-then-needed-gt-MOST c = search telling_steps
 
 pub returns-then-found : goal.returns-then-found
-returns-then-found c = let known : Bytes c.args.p.now = λ i. (c.shared_slice_known.given i).fits in search (telling_steps, known)
+returns-then-found c = let known : Bytes c.args.p.now = λ i. (c.type_inv.p i).fits in search (telling_steps, known)
 
 pub returns : goal.returns
 returns c = search telling_steps

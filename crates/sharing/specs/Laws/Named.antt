@@ -2,7 +2,7 @@
 use Rattle.std.specs.Prelude.{ℕ, List, ◌≡◌, refl}
 use Rattle.std.proofs.Common.{arith}
 use Rattle.format.specs.Canonical.{canonical_names, rewrite_names}
-use Rattle.format.specs.Laws.CanonicalNames.{canonical_stays, rewriting_canonical}
+use Rattle.format.proofs.Laws.CanonicalNames.{canonical_stays, rewriting_canonical}
 use Rattle.format.specs.Names.{Content, known_kind, judge_names}
 use Rattle.format.specs.Parts.{Part}
 use Rattle.format.specs.Reading.{Judged, accepted, refused, map_judged}

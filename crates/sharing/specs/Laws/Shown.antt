@@ -7,7 +7,7 @@ use Rattle.format.specs.Canonical.{canonical_names, rewrite_names}
 use Rattle.format.specs.Laws.Outcomes.{mapped}
 use Rattle.format.specs.Names.{known_kind, judge_names}
 use Rattle.format.specs.Reading.{Judged, refused, accepted}
-use Rattle.format.specs.Theorems.{edition_rewritten}
+use Rattle.format.proofs.Theorems.{edition_rewritten}
 use Rattle.format.specs.declared.Edition.TheVariants.{First}
 use Rattle.format.specs.declared.Question.TheVariants.{FunctionName}
 use Rattle.sharing.specs.Events.{Event, Past, yes, opened_with}

@@ -6,7 +6,7 @@ use Rattle.format.specs.Reading.{got, Judged, accepted, refused, judge, map_judg
 use Rattle.format.specs.Walk.{preamble, begins, Section, nothing, sections, framing, walk, payload_in}
 use Rattle.format.specs.Laws.Options.{or_none}
 use Rattle.format.specs.Laws.Outcomes.{by_test, by_outcome}
-use Rattle.format.specs.Laws.Walk.{begins_passes, sections_enough}
+use Rattle.format.proofs.Laws.Walk.{begins_passes, sections_enough}
 use Rattle.format.specs.declared.Reason.TheVariants.{PastItsPart}
 use Rattle.stream.specs.Counting.{fresh, Counted, whole, partly, over, counted}
 use Rattle.stream.specs.Contents.{Contents, sizing, content, content_ends}

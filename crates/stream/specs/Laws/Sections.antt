@@ -9,7 +9,7 @@ use Rattle.format.specs.Parts.{Part, place_of, sized, go_on, inside}
 use Rattle.format.specs.Walk as Walk
 use Rattle.format.specs.Walk.{name_section, hint_section, older_hint_section, greatest_id, is_custom, is_data, is_code, rank, name_row, before_code, Custom, is_called, row_of, is_row, Section, Seen, seeing, id_rules, name_rules, section, sections, payload_of, payload_in}
 use Rattle.format.specs.Laws.Outcomes.{by_test, by_outcome}
-use Rattle.format.specs.Laws.Walk.{step_goes_on, step_refuses}
+use Rattle.format.proofs.Laws.Walk.{step_goes_on, step_refuses}
 use Rattle.format.specs.declared.Place.{Place}
 use Rattle.format.specs.declared.Reason.{Reason}
 use Rattle.format.specs.declared.Reason.TheVariants.{SectionUnknown, SectionOrder, SectionTwice, SectionTooLate}

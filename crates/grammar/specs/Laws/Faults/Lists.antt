@@ -11,7 +11,7 @@ use Rattle.format.specs.Reading.{stop, Reader}
 use Rattle.format.specs.Numbers.{number}
 use Rattle.format.specs.Tables.{row, map_table, rows, table}
 use Rattle.format.specs.Laws.Outcomes.{not_got}
-use Rattle.format.specs.Laws.Passing.{table_passes, Reaches, reach_step}
+use Rattle.format.proofs.Laws.Passing.{table_passes, Reaches, reach_step}
 use Rattle.grammar.specs.Numbers.{Grammar}
 use Rattle.grammar.specs.Lists.{Listed}
 use Rattle.grammar.specs.Faults.Numbers.{Faults}

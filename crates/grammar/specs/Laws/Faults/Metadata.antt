@@ -7,7 +7,7 @@ use Rattle.format.specs.Options.{is_some}
 use Rattle.format.specs.Parts.{Part}
 use Rattle.format.specs.Metadata.{hint_of, any_item, hint_item, metadata}
 use Rattle.format.specs.Laws.Outcomes.{false_true}
-use Rattle.format.specs.Laws.Passing.{tested_passes, Reaches, reach_step}
+use Rattle.format.proofs.Laws.Passing.{tested_passes, Reaches, reach_step}
 use Rattle.format.specs.declared.Reason.TheVariants.{NotHint}
 use Rattle.grammar.specs.Numbers.{U32}
 use Rattle.grammar.specs.Metadata.{Format, Item, Unknown, BranchHint}

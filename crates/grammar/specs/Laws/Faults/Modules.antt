@@ -16,7 +16,7 @@ use Rattle.format.specs.Parts.{sized, name, remaining, inside}
 use Rattle.format.specs.Walk.{preamble, begins, greatest_id, rank, is_custom, is_data, Custom, custom, name_section, tracked, name_row, before_code, row_of, Section, Seen, nothing, seeing, id_rules, name_rules, section, sections, framing}
 use Rattle.format.specs.Laws.Options.{not_some}
 use Rattle.format.specs.Laws.Tight.{bytes_after}
-use Rattle.format.specs.Laws.Passing.{reach}
+use Rattle.format.proofs.Laws.Passing.{reach}
 use Rattle.format.specs.Laws.Outcomes.{not_got, got_next, false_true, by_test, passed, in_part}
 use Rattle.format.specs.declared.Reason.{Reason}
 use Rattle.grammar.specs.Modules.{magic, version, Section as BareSection, Framed, custom_section, other_section, Sections, no_section, a_section, Among, here, further, Before, Called, section_order, Ordered}

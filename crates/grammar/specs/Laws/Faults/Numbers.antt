@@ -6,7 +6,7 @@ use Rattle.format.specs.Bytes.{Bytes}
 use Rattle.format.specs.Reading.{stop}
 use Rattle.format.specs.Numbers.{groups, number}
 use Rattle.format.specs.Laws.Outcomes.{not_got, by_test}
-use Rattle.format.specs.Laws.Passing.{number_passes, Reaches, reach_step}
+use Rattle.format.proofs.Laws.Passing.{number_passes, Reaches, reach_step}
 use Rattle.grammar.specs.Numbers.{U32}
 use Rattle.grammar.specs.Faults.Numbers.{GoOn, no_byte, one_more, NumberFault, cut_off, too_large_lem}
 use Rattle.grammar.specs.Laws.Numbers.{number_sound, number_complete}

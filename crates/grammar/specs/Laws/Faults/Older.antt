@@ -11,7 +11,7 @@ use Rattle.format.specs.Older.{OlderHint, OlderEntry, times, vector, zero_byte, 
 use Rattle.format.specs.declared.Hint.{Hint}
 use Rattle.format.specs.Laws.Tight.{bytes_after}
 use Rattle.format.specs.Laws.Outcomes.{not_got, got_next, got_rest, by_test, in_turn, passed}
-use Rattle.format.specs.Laws.Passing.{Passes, Reaches, reach}
+use Rattle.format.proofs.Laws.Passing.{Passes, Reaches, reach}
 use Rattle.grammar.specs.Numbers.{Grammar}
 use Rattle.grammar.specs.Older.{Vector, OlderKind, OlderBranchHint, FunctionBranchHints}
 use Rattle.grammar.specs.Faults.Numbers.{Faults}

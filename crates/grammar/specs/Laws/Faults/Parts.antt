@@ -10,7 +10,7 @@ use Rattle.format.specs.Parts.{Part, sized, name}
 use Rattle.format.specs.Text.{utf8}
 use Rattle.format.specs.Refusals.{number_of}
 use Rattle.format.specs.Laws.Outcomes.{not_got, false_true}
-use Rattle.format.specs.Laws.Passing.{sized_passes, tested_passes, Reaches, reach_step}
+use Rattle.format.proofs.Laws.Passing.{sized_passes, tested_passes, Reaches, reach_step}
 use Rattle.format.specs.Laws.Tight.{bytes_before}
 use Rattle.format.specs.Laws.Turns.{in_sized, tested}
 use Rattle.format.specs.declared.Reason.{Reason}

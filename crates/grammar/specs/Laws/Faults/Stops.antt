@@ -6,7 +6,7 @@ use Rattle.format.specs.Refusals.{number_of}
 use Rattle.format.specs.Reading.{Outcome, got, stop, Reader, and_then, return, ◌>>◌, checked}
 use Rattle.format.specs.Parts.{go_on}
 use Rattle.format.specs.Laws.Outcomes.{not_got}
-use Rattle.format.specs.Laws.Passing.{Passes, Reaches, reach}
+use Rattle.format.proofs.Laws.Passing.{Passes, Reaches, reach}
 use Rattle.format.specs.declared.Reason.{Reason}
 use Rattle.grammar.specs.Numbers.{Grammar}
 use Rattle.grammar.specs.Faults.Numbers.{Faults}

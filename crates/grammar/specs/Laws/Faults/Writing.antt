@@ -172,17 +172,17 @@ module _ (is ns text : List ℕ) (counts : length is ≡ length ns) where
 
 -- What the lists are judged
 module _ (is ns text : List ℕ) where
-  refused-14 : (Agree is ns text → ⊥) → function_names is ns text ≡ refused 14 0
+  refused_14 : (Agree is ns text → ⊥) → function_names is ns text ≡ refused 14 0
   unfolding function_names
-  refused-14 differ = by_test (agreeing is ns text) (λ t. absurd (differ (to_agree is ns text t))) (λ t. rw t)
+  refused_14 differ = by_test (agreeing is ns text) (λ t. absurd (differ (to_agree is ns text t))) (λ t. rw t)
 
-  refused-11 : (at : ℕ) → Agree is ns text → unsorted_at 0 0 is ≡ some at → function_names is ns text ≡ refused 11 at
+  refused_11 : (at : ℕ) → Agree is ns text → unsorted_at 0 0 is ≡ some at → function_names is ns text ≡ refused 11 at
   unfolding function_names
-  refused-11 at agree u = rw (agreed is ns text agree, u)
+  refused_11 at agree u = rw (agreed is ns text agree, u)
 
-  refused-4 : (at : ℕ) → Agree is ns text → unsorted_at 0 0 is ≡ none → bad_text_at 0 ns text ≡ some at → function_names is ns text ≡ refused 4 at
+  refused_4 : (at : ℕ) → Agree is ns text → unsorted_at 0 0 is ≡ none → bad_text_at 0 ns text ≡ some at → function_names is ns text ≡ refused 4 at
   unfolding function_names
-  refused-4 at agree u b = rw (agreed is ns text agree, u, b)
+  refused_4 at agree u b = rw (agreed is ns text agree, u, b)
 
 -- HOW LONG the subsection is
 short : (more n : ℕ) → n < 128 → length (fewest more n) ≡ 1
@@ -244,9 +244,9 @@ module _ {is ns text : List ℕ} (fine : FineLists is ns text) where
 -- WHAT THE LISTS ARE JUDGED
 module _ (is ns text : List ℕ) where
   pub lists_stop : {n at : ℕ} → ListsFault is ns text n at → function_names is ns text ≡ refused n at
-  lists_stop (lists_disagree differ) = refused-14 is ns text differ
-  lists_stop (not_above_lem k agree fault) = refused-11 is ns text k agree (to_unsorted is k fault)
-  lists_stop (not_text k agree rise fault) = refused-4 is ns text (sum (take k ns)) agree (to_rise is rise) (to_bad is ns text agree.0 k fault)
+  lists_stop (lists_disagree differ) = refused_14 is ns text differ
+  lists_stop (not_above_lem k agree fault) = refused_11 is ns text k agree (to_unsorted is k fault)
+  lists_stop (not_text k agree rise fault) = refused_4 is ns text (sum (take k ns)) agree (to_rise is rise) (to_bad is ns text agree.0 k fault)
   lists_stop (subsection_too_large fine large) = fine_too_large fine large
 
   -- faulty, or fine and not too large
