@@ -91,15 +91,13 @@ fn end(s: Stream) -> Over
     Over { state, answer }
 }
 
-#[unsafe(no_mangle)]
-pub extern "C" fn wm_stream_begin() -> Stream
+pub fn wm_stream_begin() -> Stream
     ensures { WmStreamBegin result }
 {
     stream::begin()
 }
 
-#[unsafe(no_mangle)]
-pub extern "C" fn wm_stream_part(state: &mut Stream, part: &[u8]) -> WmAnswer
+pub fn wm_stream_part(state: &mut Stream, part: &[u8]) -> WmAnswer
     ensures { WmStreamPart state.old part.now state.new result }
 {
     let turned = turn(*state, part);
@@ -107,8 +105,7 @@ pub extern "C" fn wm_stream_part(state: &mut Stream, part: &[u8]) -> WmAnswer
     turned.answer
 }
 
-#[unsafe(no_mangle)]
-pub extern "C" fn wm_stream_finish(state: &mut Stream) -> WmStreamAnswer
+pub fn wm_stream_finish(state: &mut Stream) -> WmStreamAnswer
     ensures { WmStreamFinish state.old state.new result }
 {
     let over = end(*state);

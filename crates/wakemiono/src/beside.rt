@@ -108,15 +108,13 @@ fn asked_widely(separate: &[u8], own: &[u8], q: Question) -> WmPairAnswer
     of_pair(pairs::ask(separate, own, Edition::Wider, q))
 }
 
-#[unsafe(no_mangle)]
-pub extern "C" fn wm_pair_module_name(separate: &[u8], own: &[u8]) -> WmPairAnswer
+pub fn wm_pair_module_name(separate: &[u8], own: &[u8]) -> WmPairAnswer
     ensures { WmPair ModuleName separate.now own.now result }
 {
     asked(separate, own, Question::ModuleName)
 }
 
-#[unsafe(no_mangle)]
-pub extern "C" fn wm_pair_function_name(separate: &[u8], own: &[u8], function: u32) -> WmPairAnswer
+pub fn wm_pair_function_name(separate: &[u8], own: &[u8], function: u32) -> WmPairAnswer
     ensures { WmPair (FunctionName (record { 0 = function })) separate.now own.now result }
 {
     asked(
@@ -126,13 +124,7 @@ pub extern "C" fn wm_pair_function_name(separate: &[u8], own: &[u8], function: u
     )
 }
 
-#[unsafe(no_mangle)]
-pub extern "C" fn wm_pair_local_name(
-    separate: &[u8],
-    own: &[u8],
-    function: u32,
-    local: u32,
-) -> WmPairAnswer
+pub fn wm_pair_local_name(separate: &[u8], own: &[u8], function: u32, local: u32) -> WmPairAnswer
     ensures { WmPair (LocalName (record { 0 = function }) (record { 0 = local })) separate.now own.now result }
 {
     asked(
@@ -142,20 +134,13 @@ pub extern "C" fn wm_pair_local_name(
     )
 }
 
-#[unsafe(no_mangle)]
-pub extern "C" fn wm_pair_type_name(separate: &[u8], own: &[u8], index: u32) -> WmPairAnswer
+pub fn wm_pair_type_name(separate: &[u8], own: &[u8], index: u32) -> WmPairAnswer
     ensures { WmPair (TypeName (record { 0 = index })) separate.now own.now result }
 {
     asked(separate, own, Question::TypeName(TypeIndex(index)))
 }
 
-#[unsafe(no_mangle)]
-pub extern "C" fn wm_pair_field_name(
-    separate: &[u8],
-    own: &[u8],
-    index: u32,
-    field: u32,
-) -> WmPairAnswer
+pub fn wm_pair_field_name(separate: &[u8], own: &[u8], index: u32, field: u32) -> WmPairAnswer
     ensures { WmPair (FieldName (record { 0 = index }) (record { 0 = field })) separate.now own.now result }
 {
     asked(
@@ -165,40 +150,31 @@ pub extern "C" fn wm_pair_field_name(
     )
 }
 
-#[unsafe(no_mangle)]
-pub extern "C" fn wm_pair_tag_name(separate: &[u8], own: &[u8], tag: u32) -> WmPairAnswer
+pub fn wm_pair_tag_name(separate: &[u8], own: &[u8], tag: u32) -> WmPairAnswer
     ensures { WmPair (TagName (record { 0 = tag })) separate.now own.now result }
 {
     asked(separate, own, Question::TagName(TagIndex(tag)))
 }
 
-#[unsafe(no_mangle)]
-pub extern "C" fn wm_pair_kept(separate: &[u8], own: &[u8], id: u8) -> WmPairAnswer
+pub fn wm_pair_kept(separate: &[u8], own: &[u8], id: u8) -> WmPairAnswer
     ensures { WmPair (KeptContents id) separate.now own.now result }
 {
     asked(separate, own, Question::KeptContents(id))
 }
 
-#[unsafe(no_mangle)]
-pub extern "C" fn wm_pair_join(separate: &[u8], own: &[u8], out: &mut [u8]) -> WmPairAnswer
+pub fn wm_pair_join(separate: &[u8], own: &[u8], out: &mut [u8]) -> WmPairAnswer
     ensures { WmPairJoin separate.now own.now out.old out.new result }
 {
     of_join(joining::join(separate, own, Edition::First, out))
 }
 
-#[unsafe(no_mangle)]
-pub extern "C" fn wm_wide_pair_module_name(separate: &[u8], own: &[u8]) -> WmPairAnswer
+pub fn wm_wide_pair_module_name(separate: &[u8], own: &[u8]) -> WmPairAnswer
     ensures { WmWidePair ModuleName separate.now own.now result }
 {
     asked_widely(separate, own, Question::ModuleName)
 }
 
-#[unsafe(no_mangle)]
-pub extern "C" fn wm_wide_pair_function_name(
-    separate: &[u8],
-    own: &[u8],
-    function: u32,
-) -> WmPairAnswer
+pub fn wm_wide_pair_function_name(separate: &[u8], own: &[u8], function: u32) -> WmPairAnswer
     ensures { WmWidePair (FunctionName (record { 0 = function })) separate.now own.now result }
 {
     asked_widely(
@@ -208,8 +184,7 @@ pub extern "C" fn wm_wide_pair_function_name(
     )
 }
 
-#[unsafe(no_mangle)]
-pub extern "C" fn wm_wide_pair_local_name(
+pub fn wm_wide_pair_local_name(
     separate: &[u8],
     own: &[u8],
     function: u32,
@@ -224,8 +199,7 @@ pub extern "C" fn wm_wide_pair_local_name(
     )
 }
 
-#[unsafe(no_mangle)]
-pub extern "C" fn wm_wide_pair_label_name(
+pub fn wm_wide_pair_label_name(
     separate: &[u8],
     own: &[u8],
     function: u32,
@@ -240,59 +214,43 @@ pub extern "C" fn wm_wide_pair_label_name(
     )
 }
 
-#[unsafe(no_mangle)]
-pub extern "C" fn wm_wide_pair_type_name(separate: &[u8], own: &[u8], index: u32) -> WmPairAnswer
+pub fn wm_wide_pair_type_name(separate: &[u8], own: &[u8], index: u32) -> WmPairAnswer
     ensures { WmWidePair (TypeName (record { 0 = index })) separate.now own.now result }
 {
     asked_widely(separate, own, Question::TypeName(TypeIndex(index)))
 }
 
-#[unsafe(no_mangle)]
-pub extern "C" fn wm_wide_pair_table_name(separate: &[u8], own: &[u8], table: u32) -> WmPairAnswer
+pub fn wm_wide_pair_table_name(separate: &[u8], own: &[u8], table: u32) -> WmPairAnswer
     ensures { WmWidePair (TableName (record { 0 = table })) separate.now own.now result }
 {
     asked_widely(separate, own, Question::TableName(TableIndex(table)))
 }
 
-#[unsafe(no_mangle)]
-pub extern "C" fn wm_wide_pair_memory_name(separate: &[u8], own: &[u8], memory: u32) -> WmPairAnswer
+pub fn wm_wide_pair_memory_name(separate: &[u8], own: &[u8], memory: u32) -> WmPairAnswer
     ensures { WmWidePair (MemoryName (record { 0 = memory })) separate.now own.now result }
 {
     asked_widely(separate, own, Question::MemoryName(MemoryIndex(memory)))
 }
 
-#[unsafe(no_mangle)]
-pub extern "C" fn wm_wide_pair_global_name(separate: &[u8], own: &[u8], global: u32) -> WmPairAnswer
+pub fn wm_wide_pair_global_name(separate: &[u8], own: &[u8], global: u32) -> WmPairAnswer
     ensures { WmWidePair (GlobalName (record { 0 = global })) separate.now own.now result }
 {
     asked_widely(separate, own, Question::GlobalName(GlobalIndex(global)))
 }
 
-#[unsafe(no_mangle)]
-pub extern "C" fn wm_wide_pair_element_name(
-    separate: &[u8],
-    own: &[u8],
-    element: u32,
-) -> WmPairAnswer
+pub fn wm_wide_pair_element_name(separate: &[u8], own: &[u8], element: u32) -> WmPairAnswer
     ensures { WmWidePair (ElementName (record { 0 = element })) separate.now own.now result }
 {
     asked_widely(separate, own, Question::ElementName(ElementIndex(element)))
 }
 
-#[unsafe(no_mangle)]
-pub extern "C" fn wm_wide_pair_data_name(separate: &[u8], own: &[u8], segment: u32) -> WmPairAnswer
+pub fn wm_wide_pair_data_name(separate: &[u8], own: &[u8], segment: u32) -> WmPairAnswer
     ensures { WmWidePair (DataName (record { 0 = segment })) separate.now own.now result }
 {
     asked_widely(separate, own, Question::DataName(DataIndex(segment)))
 }
 
-#[unsafe(no_mangle)]
-pub extern "C" fn wm_wide_pair_field_name(
-    separate: &[u8],
-    own: &[u8],
-    index: u32,
-    field: u32,
-) -> WmPairAnswer
+pub fn wm_wide_pair_field_name(separate: &[u8], own: &[u8], index: u32, field: u32) -> WmPairAnswer
     ensures { WmWidePair (FieldName (record { 0 = index }) (record { 0 = field })) separate.now own.now result }
 {
     asked_widely(
@@ -302,22 +260,19 @@ pub extern "C" fn wm_wide_pair_field_name(
     )
 }
 
-#[unsafe(no_mangle)]
-pub extern "C" fn wm_wide_pair_tag_name(separate: &[u8], own: &[u8], tag: u32) -> WmPairAnswer
+pub fn wm_wide_pair_tag_name(separate: &[u8], own: &[u8], tag: u32) -> WmPairAnswer
     ensures { WmWidePair (TagName (record { 0 = tag })) separate.now own.now result }
 {
     asked_widely(separate, own, Question::TagName(TagIndex(tag)))
 }
 
-#[unsafe(no_mangle)]
-pub extern "C" fn wm_wide_pair_kept(separate: &[u8], own: &[u8], id: u8) -> WmPairAnswer
+pub fn wm_wide_pair_kept(separate: &[u8], own: &[u8], id: u8) -> WmPairAnswer
     ensures { WmWidePair (KeptContents id) separate.now own.now result }
 {
     asked_widely(separate, own, Question::KeptContents(id))
 }
 
-#[unsafe(no_mangle)]
-pub extern "C" fn wm_wide_pair_join(separate: &[u8], own: &[u8], out: &mut [u8]) -> WmPairAnswer
+pub fn wm_wide_pair_join(separate: &[u8], own: &[u8], out: &mut [u8]) -> WmPairAnswer
     ensures { WmWidePairJoin separate.now own.now out.old out.new result }
 {
     of_join(joining::join(separate, own, Edition::Wider, out))

@@ -3,8 +3,7 @@ ghost use Rattle.wakemiono.specs.Calls.{WmHintsOnBranches};
 
 use crate::{WmAnswer, of_verdict};
 
-#[unsafe(no_mangle)]
-pub extern "C" fn wm_hints_on_branches(bytes: &[u8]) -> WmAnswer
+pub fn wm_hints_on_branches(bytes: &[u8]) -> WmAnswer
     ensures { WmHintsOnBranches bytes.now result }
 {
     of_verdict(branches::hints_on_branches(bytes), bytes.len())

@@ -1,4 +1,5 @@
-// The C boundary: every call takes any bytes, ends, and asks no prior check. include/wakemiono.h says the same for C.
+// The C boundary: every call takes any bytes, ends, and asks no prior check. include/wakemiono.h says the same for C, which the
+// crate wakemiono_c hands them to.
 #![tactic(auto)]
 
 ghost use Rattle.std.specs.Prelude.{◌≡◌, length};
@@ -193,29 +194,25 @@ fn of_yes(is: bool) -> u32
     NO
 }
 
-#[unsafe(no_mangle)]
-pub extern "C" fn wm_walk(bytes: &[u8]) -> WmAnswer
+pub fn wm_walk(bytes: &[u8]) -> WmAnswer
     ensures { WmWalk bytes.now result }
 {
     of_count(walk::count(bytes))
 }
 
-#[unsafe(no_mangle)]
-pub extern "C" fn wm_section(bytes: &[u8], position: u64) -> WmAnswer
+pub fn wm_section(bytes: &[u8], position: u64) -> WmAnswer
     ensures { WmSection position bytes.now result }
 {
     of_section(walk::section_at(bytes, position))
 }
 
-#[unsafe(no_mangle)]
-pub extern "C" fn wm_custom(bytes: &[u8], name: &[u8]) -> WmAnswer
+pub fn wm_custom(bytes: &[u8], name: &[u8]) -> WmAnswer
     ensures { WmCustom name.now bytes.now result }
 {
     of_answer(walk::custom(bytes, name))
 }
 
-#[unsafe(no_mangle)]
-pub extern "C" fn wm_names_judge(payload: &[u8]) -> WmAnswer
+pub fn wm_names_judge(payload: &[u8]) -> WmAnswer
     ensures { WmNamesJudge payload.now result }
 {
     of_verdict(judging::judge(payload, Edition::First), payload.len())
@@ -240,78 +237,67 @@ fn asked(payload: &[u8], q: Question) -> WmAnswer
     of_answer(names::ask(payload, Edition::First, q))
 }
 
-#[unsafe(no_mangle)]
-pub extern "C" fn wm_module_name(payload: &[u8]) -> WmAnswer
+pub fn wm_module_name(payload: &[u8]) -> WmAnswer
     ensures { WmName ModuleName payload.now result }
 {
     asked(payload, Question::ModuleName)
 }
 
-#[unsafe(no_mangle)]
-pub extern "C" fn wm_function_name(payload: &[u8], function: u32) -> WmAnswer
+pub fn wm_function_name(payload: &[u8], function: u32) -> WmAnswer
     ensures { WmName (FunctionName (record { 0 = function })) payload.now result }
 {
     asked(payload, Question::FunctionName(FunctionIndex(function)))
 }
 
-#[unsafe(no_mangle)]
-pub extern "C" fn wm_type_name(payload: &[u8], index: u32) -> WmAnswer
+pub fn wm_type_name(payload: &[u8], index: u32) -> WmAnswer
     ensures { WmName (TypeName (record { 0 = index })) payload.now result }
 {
     asked(payload, Question::TypeName(TypeIndex(index)))
 }
 
-#[unsafe(no_mangle)]
-pub extern "C" fn wm_tag_name(payload: &[u8], tag: u32) -> WmAnswer
+pub fn wm_tag_name(payload: &[u8], tag: u32) -> WmAnswer
     ensures { WmName (TagName (record { 0 = tag })) payload.now result }
 {
     asked(payload, Question::TagName(TagIndex(tag)))
 }
 
-#[unsafe(no_mangle)]
-pub extern "C" fn wm_local_name(payload: &[u8], function: u32, local: u32) -> WmAnswer
+pub fn wm_local_name(payload: &[u8], function: u32, local: u32) -> WmAnswer
     ensures { WmName (LocalName (record { 0 = function }) (record { 0 = local })) payload.now result }
 {
     asked(payload, local_name(function, local))
 }
 
-#[unsafe(no_mangle)]
-pub extern "C" fn wm_field_name(payload: &[u8], index: u32, field: u32) -> WmAnswer
+pub fn wm_field_name(payload: &[u8], index: u32, field: u32) -> WmAnswer
     ensures { WmName (FieldName (record { 0 = index }) (record { 0 = field })) payload.now result }
 {
     asked(payload, field_name(index, field))
 }
 
-#[unsafe(no_mangle)]
-pub extern "C" fn wm_kept(payload: &[u8], id: u8) -> WmAnswer
+pub fn wm_kept(payload: &[u8], id: u8) -> WmAnswer
     ensures { WmName (KeptContents id) payload.now result }
 {
     asked(payload, Question::KeptContents(id))
 }
 
-#[unsafe(no_mangle)]
-pub extern "C" fn wm_metadata_judge(payload: &[u8]) -> WmAnswer
+pub fn wm_metadata_judge(payload: &[u8]) -> WmAnswer
     ensures { WmMetadataJudge payload.now result }
 {
     of_verdict(metadata::judge(payload), payload.len())
 }
 
-#[unsafe(no_mangle)]
-pub extern "C" fn wm_hints_judge(payload: &[u8]) -> WmAnswer
+pub fn wm_hints_judge(payload: &[u8]) -> WmAnswer
     ensures { WmHintsJudge payload.now result }
 {
     of_verdict(metadata::judge_hints(payload), payload.len())
 }
 
-#[unsafe(no_mangle)]
-pub extern "C" fn wm_metadata(payload: &[u8], function: u32, offset: u32) -> WmAnswer
+pub fn wm_metadata(payload: &[u8], function: u32, offset: u32) -> WmAnswer
     ensures { WmMetadata function offset payload.now result }
 {
     of_answer(metadata::find(payload, FunctionIndex(function), CodeOffset(offset)))
 }
 
-#[unsafe(no_mangle)]
-pub extern "C" fn wm_hint(payload: &[u8], function: u32, offset: u32) -> WmAnswer
+pub fn wm_hint(payload: &[u8], function: u32, offset: u32) -> WmAnswer
     ensures { WmHint function offset payload.now result }
 {
     of_hint(metadata::hint(payload, FunctionIndex(function), CodeOffset(offset)))
@@ -324,118 +310,97 @@ fn asked_through(bytes: &[u8], q: Question) -> WmAnswer
     of_answer(through::ask(bytes, Edition::First, q))
 }
 
-#[unsafe(no_mangle)]
-pub extern "C" fn wm_module_name_in(bytes: &[u8]) -> WmAnswer
+pub fn wm_module_name_in(bytes: &[u8]) -> WmAnswer
     ensures { WmNameIn ModuleName bytes.now result }
 {
     asked_through(bytes, Question::ModuleName)
 }
 
-#[unsafe(no_mangle)]
-pub extern "C" fn wm_function_name_in(bytes: &[u8], function: u32) -> WmAnswer
+pub fn wm_function_name_in(bytes: &[u8], function: u32) -> WmAnswer
     ensures { WmNameIn (FunctionName (record { 0 = function })) bytes.now result }
 {
     asked_through(bytes, Question::FunctionName(FunctionIndex(function)))
 }
 
-#[unsafe(no_mangle)]
-pub extern "C" fn wm_type_name_in(bytes: &[u8], index: u32) -> WmAnswer
+pub fn wm_type_name_in(bytes: &[u8], index: u32) -> WmAnswer
     ensures { WmNameIn (TypeName (record { 0 = index })) bytes.now result }
 {
     asked_through(bytes, Question::TypeName(TypeIndex(index)))
 }
 
-#[unsafe(no_mangle)]
-pub extern "C" fn wm_tag_name_in(bytes: &[u8], tag: u32) -> WmAnswer
+pub fn wm_tag_name_in(bytes: &[u8], tag: u32) -> WmAnswer
     ensures { WmNameIn (TagName (record { 0 = tag })) bytes.now result }
 {
     asked_through(bytes, Question::TagName(TagIndex(tag)))
 }
 
-#[unsafe(no_mangle)]
-pub extern "C" fn wm_local_name_in(bytes: &[u8], function: u32, local: u32) -> WmAnswer
+pub fn wm_local_name_in(bytes: &[u8], function: u32, local: u32) -> WmAnswer
     ensures { WmNameIn (LocalName (record { 0 = function }) (record { 0 = local })) bytes.now result }
 {
     asked_through(bytes, local_name(function, local))
 }
 
-#[unsafe(no_mangle)]
-pub extern "C" fn wm_field_name_in(bytes: &[u8], index: u32, field: u32) -> WmAnswer
+pub fn wm_field_name_in(bytes: &[u8], index: u32, field: u32) -> WmAnswer
     ensures { WmNameIn (FieldName (record { 0 = index }) (record { 0 = field })) bytes.now result }
 {
     asked_through(bytes, field_name(index, field))
 }
 
-#[unsafe(no_mangle)]
-pub extern "C" fn wm_kept_in(bytes: &[u8], id: u8) -> WmAnswer
+pub fn wm_kept_in(bytes: &[u8], id: u8) -> WmAnswer
     ensures { WmNameIn (KeptContents id) bytes.now result }
 {
     asked_through(bytes, Question::KeptContents(id))
 }
 
-#[unsafe(no_mangle)]
-pub extern "C" fn wm_metadata_in(
-    bytes: &[u8],
-    format: &[u8],
-    function: u32,
-    offset: u32,
-) -> WmAnswer
+pub fn wm_metadata_in(bytes: &[u8], format: &[u8], function: u32, offset: u32) -> WmAnswer
     ensures { WmMetadataIn format.now function offset bytes.now result }
 {
     of_answer(through::metadata(bytes, format, FunctionIndex(function), CodeOffset(offset)))
 }
 
-#[unsafe(no_mangle)]
-pub extern "C" fn wm_hint_in(bytes: &[u8], function: u32, offset: u32) -> WmAnswer
+pub fn wm_hint_in(bytes: &[u8], function: u32, offset: u32) -> WmAnswer
     ensures { WmHintIn function offset bytes.now result }
 {
     of_hint(through::hint(bytes, FunctionIndex(function), CodeOffset(offset)))
 }
 
-#[unsafe(no_mangle)]
-pub extern "C" fn wm_names_canonical(payload: &[u8], out: &mut [u8]) -> WmAnswer
+pub fn wm_names_canonical(payload: &[u8], out: &mut [u8]) -> WmAnswer
     ensures { WmNamesCanonical payload.now out.old out.new result }
 {
     of_written(rewrite::names(payload, Edition::First, out))
 }
 
-#[unsafe(no_mangle)]
-pub extern "C" fn wm_metadata_canonical(payload: &[u8], out: &mut [u8]) -> WmAnswer
+pub fn wm_metadata_canonical(payload: &[u8], out: &mut [u8]) -> WmAnswer
     ensures { WmMetadataCanonical payload.now out.old out.new result }
 {
     of_written(rewrite::metadata(payload, out))
 }
 
-#[unsafe(no_mangle)]
-pub extern "C" fn wm_hints_canonical(payload: &[u8], out: &mut [u8]) -> WmAnswer
+pub fn wm_hints_canonical(payload: &[u8], out: &mut [u8]) -> WmAnswer
     ensures { WmHintsCanonical payload.now out.old out.new result }
 {
     of_written(rewrite::hints(payload, out))
 }
 
-#[unsafe(no_mangle)]
-pub extern "C" fn wm_names_is_canonical(payload: &[u8]) -> u32
+pub fn wm_names_is_canonical(payload: &[u8]) -> u32
     ensures { WmNamesIsCanonical payload.now result }
 {
     of_yes(names::telling::is_canonical(payload))
 }
 
-#[unsafe(no_mangle)]
-pub extern "C" fn wm_metadata_is_canonical(payload: &[u8]) -> u32
+pub fn wm_metadata_is_canonical(payload: &[u8]) -> u32
     ensures { WmMetadataIsCanonical payload.now result }
 {
     of_yes(metadata::telling::is_canonical(payload))
 }
 
-#[unsafe(no_mangle)]
-pub extern "C" fn wm_hints_is_canonical(payload: &[u8]) -> u32
+pub fn wm_hints_is_canonical(payload: &[u8]) -> u32
     ensures { WmHintsIsCanonical payload.now result }
 {
     of_yes(metadata::telling::are_hints_canonical(payload))
 }
 
-#[unsafe(no_mangle)]
-pub extern "C" fn wm_function_names_write(
+pub fn wm_function_names_write(
     indices: &[u32],
     lengths: &[u32],
     text: &[u8],

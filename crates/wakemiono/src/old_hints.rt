@@ -5,45 +5,39 @@ ghost use Rattle.wakemiono.specs.Calls.{WmOldHintsJudge, WmOldHint, WmOldHintIn,
 use crate::{WmAnswer, of_answer, of_hint, of_verdict, of_written, of_yes};
 use format::{FunctionIndex, InstructionOffset};
 
-#[unsafe(no_mangle)]
-pub extern "C" fn wm_old_hints_judge(payload: &[u8]) -> WmAnswer
+pub fn wm_old_hints_judge(payload: &[u8]) -> WmAnswer
     ensures { WmOldHintsJudge payload.now result }
 {
     of_verdict(older::judge(payload), payload.len())
 }
 
-#[unsafe(no_mangle)]
-pub extern "C" fn wm_old_hint(payload: &[u8], function: u32, offset: u32) -> WmAnswer
+pub fn wm_old_hint(payload: &[u8], function: u32, offset: u32) -> WmAnswer
     ensures { WmOldHint function offset payload.now result }
 {
     of_hint(older::hint(payload, FunctionIndex(function), InstructionOffset(offset)))
 }
 
 // The same through a module.
-#[unsafe(no_mangle)]
-pub extern "C" fn wm_old_hint_in(bytes: &[u8], function: u32, offset: u32) -> WmAnswer
+pub fn wm_old_hint_in(bytes: &[u8], function: u32, offset: u32) -> WmAnswer
     ensures { WmOldHintIn function offset bytes.now result }
 {
     of_hint(through::older_hint(bytes, FunctionIndex(function), InstructionOffset(offset)))
 }
 
-#[unsafe(no_mangle)]
-pub extern "C" fn wm_old_hints_canonical(payload: &[u8], out: &mut [u8]) -> WmAnswer
+pub fn wm_old_hints_canonical(payload: &[u8], out: &mut [u8]) -> WmAnswer
     ensures { WmOldHintsCanonical payload.now out.old out.new result }
 {
     of_written(reordering::canonical(payload, out))
 }
 
-#[unsafe(no_mangle)]
-pub extern "C" fn wm_old_hints_is_canonical(payload: &[u8]) -> u32
+pub fn wm_old_hints_is_canonical(payload: &[u8]) -> u32
     ensures { WmOldHintsIsCanonical payload.now result }
 {
     of_yes(reordering::is_canonical(payload))
 }
 
 // Every pair once, by function and offset, with the hint that answers.
-#[unsafe(no_mangle)]
-pub extern "C" fn wm_old_hints_list(
+pub fn wm_old_hints_list(
     payload: &[u8],
     functions: &mut [u32],
     offsets: &mut [u32],

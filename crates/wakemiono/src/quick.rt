@@ -4,15 +4,13 @@ ghost use Rattle.wakemiono.specs.Calls.{WmMarkers, WmQuickFunctionName};
 use crate::{WmAnswer, of_answer};
 use format::FunctionIndex;
 
-#[unsafe(no_mangle)]
-pub extern "C" fn wm_markers(payload: &[u8], indices: &mut [u32], offsets: &mut [u32]) -> WmAnswer
+pub fn wm_markers(payload: &[u8], indices: &mut [u32], offsets: &mut [u32]) -> WmAnswer
     ensures { WmMarkers payload.now indices.old offsets.old indices.new offsets.new result }
 {
     of_answer(markers::making::make(payload, indices, offsets))
 }
 
-#[unsafe(no_mangle)]
-pub extern "C" fn wm_quick_function_name(
+pub fn wm_quick_function_name(
     payload: &[u8],
     indices: &[u32],
     offsets: &[u32],

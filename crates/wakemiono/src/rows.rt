@@ -7,8 +7,7 @@ use entries::items::{list_hints, list_metadata};
 use entries::naming::list_names;
 use format::Edition;
 
-#[unsafe(no_mangle)]
-pub extern "C" fn wm_names_list(
+pub fn wm_names_list(
     payload: &[u8],
     id: u8,
     firsts: &mut [u32],
@@ -29,8 +28,7 @@ pub extern "C" fn wm_names_list(
     ))
 }
 
-#[unsafe(no_mangle)]
-pub extern "C" fn wm_wide_names_list(
+pub fn wm_wide_names_list(
     payload: &[u8],
     id: u8,
     firsts: &mut [u32],
@@ -51,8 +49,7 @@ pub extern "C" fn wm_wide_names_list(
     ))
 }
 
-#[unsafe(no_mangle)]
-pub extern "C" fn wm_metadata_list(
+pub fn wm_metadata_list(
     payload: &[u8],
     functions: &mut [u32],
     places: &mut [u32],
@@ -64,8 +61,7 @@ pub extern "C" fn wm_metadata_list(
     of_answer(list_metadata(payload, functions, places, offsets, lengths))
 }
 
-#[unsafe(no_mangle)]
-pub extern "C" fn wm_hints_list(
+pub fn wm_hints_list(
     payload: &[u8],
     functions: &mut [u32],
     places: &mut [u32],

@@ -68,15 +68,13 @@ fn compact_in(t: Table, store: &mut [u8]) -> Shared
     Shared { table, answer }
 }
 
-#[unsafe(no_mangle)]
-pub extern "C" fn wm_table_start(bytes: u64) -> Table
+pub fn wm_table_start(bytes: u64) -> Table
     ensures { WmTableStart bytes result }
 {
     start(bytes)
 }
 
-#[unsafe(no_mangle)]
-pub extern "C" fn wm_table_open(
+pub fn wm_table_open(
     table: &mut Table,
     store: &mut [u8],
     customer: u32,
@@ -90,8 +88,7 @@ pub extern "C" fn wm_table_open(
     shared.answer
 }
 
-#[unsafe(no_mangle)]
-pub extern "C" fn wm_table_function_name(
+pub fn wm_table_function_name(
     table: &Table,
     store: &[u8],
     customer: u32,
@@ -104,13 +101,7 @@ pub extern "C" fn wm_table_function_name(
     ask_in(*table, store, customer, hold, function, out)
 }
 
-#[unsafe(no_mangle)]
-pub extern "C" fn wm_table_close(
-    table: &mut Table,
-    store: &[u8],
-    customer: u32,
-    hold: u32,
-) -> WmAnswer
+pub fn wm_table_close(table: &mut Table, store: &[u8], customer: u32, hold: u32) -> WmAnswer
     ensures { WmTableClose table.old store.now customer hold table.new result }
 {
     let shared = close_in(*table, store, customer, hold);
@@ -118,8 +109,7 @@ pub extern "C" fn wm_table_close(
     shared.answer
 }
 
-#[unsafe(no_mangle)]
-pub extern "C" fn wm_table_compact(table: &mut Table, store: &mut [u8]) -> WmAnswer
+pub fn wm_table_compact(table: &mut Table, store: &mut [u8]) -> WmAnswer
     ensures { WmTableCompact table.old store.old table.new store.new result }
 {
     let shared = compact_in(*table, store);

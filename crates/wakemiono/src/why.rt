@@ -124,15 +124,13 @@ fn of_why(why: Why) -> WmWhy
     }
 }
 
-#[unsafe(no_mangle)]
-pub extern "C" fn wm_why_function(payload: &[u8], function: u32) -> WmWhy
+pub fn wm_why_function(payload: &[u8], function: u32) -> WmWhy
     ensures { WmWhyFunction function payload.now result }
 {
     of_why(why_function(payload, FunctionIndex(function)))
 }
 
-#[unsafe(no_mangle)]
-pub extern "C" fn wm_why_local(payload: &[u8], function: u32, local: u32) -> WmWhy
+pub fn wm_why_local(payload: &[u8], function: u32, local: u32) -> WmWhy
     ensures { WmWhyLocal function local payload.now result }
 {
     of_why(why_local(payload, FunctionIndex(function), LocalIndex(local)))
