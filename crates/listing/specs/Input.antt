@@ -1,9 +1,7 @@
--- What was read of the input. Assumes nothing.
-use Rattle.std.specs.Prelude.{ℕ, ◌≤◌}
-use Rattle.listing.specs.declared.Input.{Input}
-use Rattle.listing.specs.declared.Input.TheVariants.{Read, Failed}
+-- What was read of the input, if it could be read. Assumes nothing.
+use Rattle.std.specs.Prelude.{ℕ, ◌≤◌, Result, Ok, Err}
 
 -- it lies in the room that it was given
-abbrev pub ReadIn : ℕ → Input → Type 0
-ReadIn room (Read n) = n ≤ room
-ReadIn room Failed = Unit {0}
+abbrev pub ReadIn : {E : Type 0} → ℕ → Result ℕ E → Type 0
+ReadIn room (Ok n) = n ≤ room
+ReadIn room (Err e) = Unit {0}

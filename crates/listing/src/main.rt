@@ -5,7 +5,8 @@ ghost use Rattle.std.specs.Prelude.{◌≡◌, ◌≤◌, length};
 ghost use Rattle.listing.specs.Input.{ReadIn};
 ghost use Rattle.listing.specs.Lines.{room};
 
-use libc::{STDIN_FILENO, STDOUT_FILENO};
+use std::io::{ErrorKind, Read, Stdin, Stdout, Write};
+use std::{fmt, io};
 
 mod lines;
 mod list;
@@ -16,39 +17,45 @@ const MODULE: usize = 65_537;
 // Room for the longest listing: `room` in specs/Lines.antt.
 const ROOM: usize = 2_098_176;
 
-// How many bytes of the input came, if it could be read.
-#[derive(Clone, Copy)]
-enum Input {
-    Read(usize),
-    Failed,
+// Which of the two streams failed, and of what.
+#[derive(Drop)]
+enum Failed {
+    Input(io::Error),
+    Output(io::Error),
+}
+
+impl fmt::Debug for Failed {
+    fn fmt<W: fmt::Write>(&self, f: &mut fmt::Formatter<W>) -> fmt::Result {
+        match self {
+            Failed::Input(e) => write!(f, "standard input: {e}"),
+            Failed::Output(e) => write!(f, "standard output: {e}"),
+        }
+    }
 }
 
 // Reads to the end of the input, or until `buf` is full. A read that a signal interrupted is tried again.
-fn read_input(buf: &mut [u8]) -> Input
+fn read_input(mut input: Stdin, buf: &mut [u8]) -> io::Result<usize>
     ensures { ReadIn (length buf.new) result }
 {
     let mut done = 0;
     let mut tries = u64::MAX;
     while done < buf.len() {
-        let rest = &mut buf[done..];
-        let got = libc::read(STDIN_FILENO, rest);
-        let n = io::count(got, rest);
-        if n > 0 {
-            done += n;
-        } else {
-            if got == 0 {
-                return Input::Read(done);
+        match input.read(&mut buf[done..]) {
+            Ok(0) => {
+                return Ok(done);
             }
-            if os::errno() != libc::EINTR {
-                return Input::Failed;
+            Ok(n) => {
+                done += n;
             }
-            if tries == 0 {
-                return Input::Failed;
+            Err(e) => {
+                if tries == 0 || e.kind() != ErrorKind::Interrupted {
+                    return Err(e);
+                }
+                tries -= 1;
             }
-            tries -= 1;
         }
     }
-    Input::Read(done)
+    Ok(done)
 }
 
 // The rooms for a module and its listing. Only their lengths matter.
@@ -65,22 +72,24 @@ fn listing_room() -> [u8; ROOM]
 }
 
 // Reads a module into `m` and writes its listing from `out`.
-fn run(m: &mut [u8], out: &mut [u8])
+fn run(input: Stdin, mut output: Stdout, m: &mut [u8], out: &mut [u8]) -> Result<(), Failed>
     requires { room ≤ length out.old }
 {
-    match read_input(m) {
-        Input::Failed => os::fail(b"standard input"),
-        Input::Read(n) => {
-            let end = list::list(&m[..n], out);
-            if !io::write_all(STDOUT_FILENO, &out[..end]) {
-                os::fail(b"standard output");
-            }
+    let n = match read_input(input, m) {
+        Ok(n) => n,
+        Err(e) => {
+            return Err(Failed::Input(e));
         }
+    };
+    let end = list::list(&m[..n], out);
+    match output.write_all(&out[..end]) {
+        Ok(()) => Ok(()),
+        Err(e) => Err(Failed::Output(e)),
     }
 }
 
-fn main() {
+fn main(rt: HostRuntime) -> Result<(), Failed> {
     let mut module = module_room();
     let mut room = listing_room();
-    run(&mut module, &mut room);
+    run(rt.stdin(), rt.stdout(), &mut module, &mut room)
 }
