@@ -5,55 +5,73 @@ use crate::pieces::{
 use crate::telling::say;
 use crate::{code, leaves, lent_lists, modules, naming, why};
 use format::Edition;
+use std::io;
+use std::io::Stdout;
 
 // So many bytes are lent at most.
 const ROOM: usize = 256;
 
 // The calls of one edition alone.
-fn put_plainly(name: &[u8], n: &[u32; NUMBERS], count: usize, p: &[u8], other: &[u8]) -> bool {
-    if leaves::answer(name, p) {
-        return true;
+fn put_plainly(
+    stdout: Stdout,
+    name: &[u8],
+    n: &[u32; NUMBERS],
+    count: usize,
+    p: &[u8],
+    other: &[u8],
+) -> io::Result<bool> {
+    if leaves::answer(stdout, name, p)? {
+        return Ok(true);
     }
-    if modules::answer(name, n, p, other) {
-        return true;
+    if modules::answer(stdout, name, n, p, other)? {
+        return Ok(true);
     }
-    if code::answer(name, n, p, other) {
-        return true;
+    if code::answer(stdout, name, n, p, other)? {
+        return Ok(true);
     }
-    if why::answer(name, n, p) {
-        return true;
+    if why::answer(stdout, name, n, p)? {
+        return Ok(true);
     }
-    lent_lists::answer(name, n, count, p)
+    lent_lists::answer(stdout, name, n, count, p)
 }
 
 // A call's name as in the header, without `wm_`.
-fn put(name: &[u8], n: &[u32; NUMBERS], count: usize, p: &[u8], other: &[u8]) -> bool {
+fn put(
+    stdout: Stdout,
+    name: &[u8],
+    n: &[u32; NUMBERS],
+    count: usize,
+    p: &[u8],
+    other: &[u8],
+) -> io::Result<bool> {
     if is(first_word(name), b"wide") {
-        return naming::answer(other_words(name), Edition::Wider, n, p, other);
+        return naming::answer(stdout, other_words(name), Edition::Wider, n, p, other);
     }
-    if naming::answer(name, Edition::First, n, p, other) {
-        return true;
+    if naming::answer(stdout, name, Edition::First, n, p, other)? {
+        return Ok(true);
     }
-    put_plainly(name, n, count, p, other)
+    put_plainly(stdout, name, n, count, p, other)
 }
 
 // A case with its bytes.
-fn answer_with(line: &[u8], p: &[u8], other: &[u8]) {
+fn answer_with(stdout: Stdout, line: &[u8], p: &[u8], other: &[u8]) -> io::Result<()> {
     let mut n = [0; NUMBERS];
     let count = numbers(head(line), &mut n);
-    if !put(call(line), &n, count, p, other) {
-        say(b"  there is no such call\n");
+    if !put(stdout, call(line), &n, count, p, other)? {
+        say(stdout, b"  there is no such call\n")?;
     }
+    Ok(())
 }
 
-pub fn answer(line: &[u8]) {
+pub fn answer(stdout: Stdout, line: &[u8]) -> io::Result<()> {
     let mut payload = [0; ROOM];
     let length = bytes(first(line), &mut payload);
     let mut other = [0; ROOM];
     let other_length = bytes(second(line), &mut other);
     answer_with(
+        stdout,
         line,
         part(&payload, 0, length),
         part(&other, 0, other_length),
-    );
+    )
 }

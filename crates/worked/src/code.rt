@@ -5,51 +5,59 @@ use crate::pieces::{NUMBERS, which};
 use crate::telling::{told, told_hint, told_verdict, told_yes};
 use format::{CodeOffset, Edition, FunctionIndex, InstructionOffset};
 use metadata::telling::{are_hints_canonical, is_canonical};
+use std::io;
+use std::io::Stdout;
 
-fn of_old_hints(call: &[u8], n: &[u32; NUMBERS], p: &[u8]) -> bool {
+fn of_old_hints(stdout: Stdout, call: &[u8], n: &[u32; NUMBERS], p: &[u8]) -> io::Result<bool> {
     let function = FunctionIndex(n[0]);
     let offset = InstructionOffset(n[1]);
     match which(
         call,
         b"old_hint old_hint_in old_hints_judge old_hints_is_canonical old_hints_canonical",
     ) {
-        0 => told_hint(older::hint(p, function, offset)),
-        1 => told_hint(through::older_hint(p, function, offset)),
-        2 => told_verdict(older::judge(p), p.len()),
-        3 => told_yes(reordering::is_canonical(p)),
-        4 => outputs::answer(Wanted::OldHints, Edition::First, n, p, b""),
-        _ => false,
+        0 => told_hint(stdout, older::hint(p, function, offset)),
+        1 => told_hint(stdout, through::older_hint(p, function, offset)),
+        2 => told_verdict(stdout, older::judge(p), p.len()),
+        3 => told_yes(stdout, reordering::is_canonical(p)),
+        4 => outputs::answer(stdout, Wanted::OldHints, Edition::First, n, p, b""),
+        _ => Ok(false),
     }
 }
 
-fn of_hints(call: &[u8], n: &[u32; NUMBERS], p: &[u8]) -> bool {
+fn of_hints(stdout: Stdout, call: &[u8], n: &[u32; NUMBERS], p: &[u8]) -> io::Result<bool> {
     let function = FunctionIndex(n[0]);
     let offset = CodeOffset(n[1]);
     match which(
         call,
         b"hint hint_in hints_judge hints_is_canonical hints_canonical",
     ) {
-        0 => told_hint(metadata::hint(p, function, offset)),
-        1 => told_hint(through::hint(p, function, offset)),
-        2 => told_verdict(metadata::judge_hints(p), p.len()),
-        3 => told_yes(are_hints_canonical(p)),
-        4 => outputs::answer(Wanted::Hints, Edition::First, n, p, b""),
-        _ => of_old_hints(call, n, p),
+        0 => told_hint(stdout, metadata::hint(p, function, offset)),
+        1 => told_hint(stdout, through::hint(p, function, offset)),
+        2 => told_verdict(stdout, metadata::judge_hints(p), p.len()),
+        3 => told_yes(stdout, are_hints_canonical(p)),
+        4 => outputs::answer(stdout, Wanted::Hints, Edition::First, n, p, b""),
+        _ => of_old_hints(stdout, call, n, p),
     }
 }
 
-pub fn answer(call: &[u8], n: &[u32; NUMBERS], p: &[u8], format: &[u8]) -> bool {
+pub fn answer(
+    stdout: Stdout,
+    call: &[u8],
+    n: &[u32; NUMBERS],
+    p: &[u8],
+    format: &[u8],
+) -> io::Result<bool> {
     let function = FunctionIndex(n[0]);
     let offset = CodeOffset(n[1]);
     match which(
         call,
         b"metadata metadata_in metadata_judge metadata_is_canonical metadata_canonical",
     ) {
-        0 => told(metadata::find(p, function, offset)),
-        1 => told(through::metadata(p, format, function, offset)),
-        2 => told_verdict(metadata::judge(p), p.len()),
-        3 => told_yes(is_canonical(p)),
-        4 => outputs::answer(Wanted::Metadata, Edition::First, n, p, b""),
-        _ => of_hints(call, n, p),
+        0 => told(stdout, metadata::find(p, function, offset)),
+        1 => told(stdout, through::metadata(p, format, function, offset)),
+        2 => told_verdict(stdout, metadata::judge(p), p.len()),
+        3 => told_yes(stdout, is_canonical(p)),
+        4 => outputs::answer(stdout, Wanted::Metadata, Edition::First, n, p, b""),
+        _ => of_hints(stdout, call, n, p),
     }
 }

@@ -6,6 +6,8 @@ use format::FunctionIndex;
 use lists::function_names;
 use markers::asking::quick;
 use markers::making::make;
+use std::io;
+use std::io::Stdout;
 
 // What stands in a list before a call, so that a place left alone shows.
 const UNMARKED: u32 = 99;
@@ -26,67 +28,99 @@ fn listed(n: &[u32], from: usize, count: usize) -> &[u32] {
 }
 
 // Function names: the output's length, how many indices there are, these, and the lengths.
-fn write_into(n: &[u32; NUMBERS], count: usize, text: &[u8], out: &mut [u8]) {
+fn write_into(
+    stdout: Stdout,
+    n: &[u32; NUMBERS],
+    count: usize,
+    text: &[u8],
+    out: &mut [u8],
+) -> io::Result<()> {
     let behind = place(LISTED, n[1]);
     let indices = listed(n, place(LISTED, 0), behind);
     let lengths = listed(n, behind, count);
-    told_length(function_names(indices, lengths, text, out));
-    say_bytes(b"  output", out);
+    told_length(stdout, function_names(indices, lengths, text, out))?;
+    say_bytes(stdout, b"  output", out)
 }
 
-fn write_in(n: &[u32; NUMBERS], count: usize, text: &[u8], room: &mut [u8], length: usize) {
+fn write_in(
+    stdout: Stdout,
+    n: &[u32; NUMBERS],
+    count: usize,
+    text: &[u8],
+    room: &mut [u8],
+    length: usize,
+) -> io::Result<()> {
     if length <= room.len() {
-        write_into(n, count, text, &mut room[..length]);
+        write_into(stdout, n, count, text, &mut room[..length])?;
     }
+    Ok(())
 }
 
-fn write(n: &[u32; NUMBERS], count: usize, text: &[u8]) -> bool {
+fn write(stdout: Stdout, n: &[u32; NUMBERS], count: usize, text: &[u8]) -> io::Result<bool> {
     let mut room = [UNTOUCHED; ROOM];
-    write_in(n, count, text, &mut room, place(0, n[0]));
-    true
+    write_in(stdout, n, count, text, &mut room, place(0, n[0]))?;
+    Ok(true)
 }
 
 // Markers: how long the two lists are.
-fn mark_into(p: &[u8], indices: &mut [u32], offsets: &mut [u32]) {
-    told(make(p, indices, offsets));
-    say_numbers(b"  indices", indices);
-    say_numbers(b"  offsets", offsets);
+fn mark_into(stdout: Stdout, p: &[u8], indices: &mut [u32], offsets: &mut [u32]) -> io::Result<()> {
+    told(stdout, make(p, indices, offsets))?;
+    say_numbers(stdout, b"  indices", indices)?;
+    say_numbers(stdout, b"  offsets", offsets)
 }
 
-fn mark_in(p: &[u8], indices: &mut [u32], many: usize, offsets: &mut [u32], others: usize) {
+fn mark_in(
+    stdout: Stdout,
+    p: &[u8],
+    indices: &mut [u32],
+    many: usize,
+    offsets: &mut [u32],
+    others: usize,
+) -> io::Result<()> {
     if many <= indices.len() {
         if others <= offsets.len() {
-            mark_into(p, &mut indices[..many], &mut offsets[..others]);
+            mark_into(stdout, p, &mut indices[..many], &mut offsets[..others])?;
         }
     }
+    Ok(())
 }
 
-fn mark(n: &[u32; NUMBERS], p: &[u8]) -> bool {
+fn mark(stdout: Stdout, n: &[u32; NUMBERS], p: &[u8]) -> io::Result<bool> {
     let mut indices = [UNMARKED; NUMBERS];
     let mut offsets = [UNMARKED; NUMBERS];
     mark_in(
+        stdout,
         p,
         &mut indices,
         place(0, n[0]),
         &mut offsets,
         place(0, n[1]),
-    );
-    true
+    )?;
+    Ok(true)
 }
 
 // A quick question: the end, the function, how many indices there are, these, and the offsets.
-fn ask(n: &[u32; NUMBERS], count: usize, p: &[u8]) -> bool {
+fn ask(stdout: Stdout, n: &[u32; NUMBERS], count: usize, p: &[u8]) -> io::Result<bool> {
     let behind = place(MARKED, n[2]);
     let indices = listed(n, place(MARKED, 0), behind);
     let offsets = listed(n, behind, count);
-    told(quick(p, indices, offsets, wide(n[0]), FunctionIndex(n[1])))
+    told(
+        stdout,
+        quick(p, indices, offsets, wide(n[0]), FunctionIndex(n[1])),
+    )
 }
 
-pub fn answer(call: &[u8], n: &[u32; NUMBERS], count: usize, p: &[u8]) -> bool {
+pub fn answer(
+    stdout: Stdout,
+    call: &[u8],
+    n: &[u32; NUMBERS],
+    count: usize,
+    p: &[u8],
+) -> io::Result<bool> {
     match which(call, b"function_names_write markers quick_function_name") {
-        0 => write(n, count, p),
-        1 => mark(n, p),
-        2 => ask(n, count, p),
-        _ => false,
+        0 => write(stdout, n, count, p),
+        1 => mark(stdout, n, p),
+        2 => ask(stdout, n, count, p),
+        _ => Ok(false),
     }
 }

@@ -3,8 +3,10 @@
 //   # ..                                    words for whoever reads the cases
 #![tactic(auto)]
 
-use libc::{STDIN_FILENO, STDOUT_FILENO};
 use pieces::{end_of, part};
+use std::io;
+use std::io::{ErrorKind, Read, Stdin, Stdout};
+use telling::say;
 
 mod calls;
 mod code;
@@ -21,6 +23,9 @@ const LINE_END: u8 = b'\n';
 
 const REMARK: u8 = b'#';
 
+// So many bytes of cases are read at most.
+const ROOM: usize = 65_536;
+
 // Whether a line has no call.
 fn is_remark(line: &[u8]) -> bool {
     if line.len() == 0 {
@@ -30,26 +35,51 @@ fn is_remark(line: &[u8]) -> bool {
 }
 
 // A line, and behind it what its call answers.
-fn run(line: &[u8]) {
-    io::write_all(STDOUT_FILENO, line);
-    io::write_all(STDOUT_FILENO, b"\n");
+fn run(stdout: Stdout, line: &[u8]) -> io::Result<()> {
+    say(stdout, line)?;
+    say(stdout, b"\n")?;
     if !is_remark(line) {
-        calls::answer(line);
+        calls::answer(stdout, line)?;
     }
+    Ok(())
 }
 
 // Every line.
-fn run_all(cases: &[u8]) {
+fn run_all(stdout: Stdout, cases: &[u8]) -> io::Result<()> {
     let mut at = 0;
     while at < cases.len() {
         let end = end_of(cases, at, LINE_END);
-        run(part(cases, at, end));
+        run(stdout, part(cases, at, end))?;
         at = end + 1;
     }
+    Ok(())
 }
 
-fn main() {
-    let mut space = io::large_buffer();
-    let n = io::read_full(STDIN_FILENO, &mut space);
-    run_all(part(&space, 0, n));
+// Reads to the end of the cases, or until the room is full. A read that a signal interrupted is tried again.
+fn read_cases(mut stdin: Stdin, room: &mut [u8]) -> io::Result<usize> {
+    let mut done = 0;
+    let mut tries = u64::MAX;
+    while done < room.len() {
+        match stdin.read(&mut room[done..]) {
+            Ok(0) => {
+                return Ok(done);
+            }
+            Ok(n) => {
+                done += n;
+            }
+            Err(e) => {
+                if tries == 0 || e.kind() != ErrorKind::Interrupted {
+                    return Err(e);
+                }
+                tries -= 1;
+            }
+        }
+    }
+    Ok(done)
+}
+
+fn main(rt: HostRuntime) -> io::Result<()> {
+    let mut room = [0; ROOM];
+    let length = read_cases(rt.stdin(), &mut room)?;
+    run_all(rt.stdout(), part(&room, 0, length))
 }

@@ -10,6 +10,8 @@ use format::{
 use names::judging;
 use names::telling::is_canonical;
 use names::telling_widely::is_canonical_widely;
+use std::io;
+use std::io::Stdout;
 
 // The first words of questions, in the order of `question`.
 const ASKED: [u8; 75] =
@@ -44,61 +46,85 @@ fn unpaired(call: &[u8]) -> &[u8] {
 }
 
 // The bytes of a name, as a part of its payload.
-fn told_part(p: &[u8], edition: Edition, q: Question) -> bool {
-    say_bytes(b"  bytes", names::ask_bytes(p, edition, q));
-    true
+fn told_part(stdout: Stdout, p: &[u8], edition: Edition, q: Question) -> io::Result<bool> {
+    say_bytes(stdout, b"  bytes", names::ask_bytes(p, edition, q))?;
+    Ok(true)
 }
 
 // A question to one payload, by the words behind its first.
-fn put(words: &[u8], edition: Edition, q: Question, p: &[u8]) -> bool {
+fn put(stdout: Stdout, words: &[u8], edition: Edition, q: Question, p: &[u8]) -> io::Result<bool> {
     match which(words, b"name name_in name_bytes") {
-        0 => told(names::ask(p, edition, q)),
-        1 => told(through::ask(p, edition, q)),
-        2 => told_part(p, edition, q),
-        _ => false,
+        0 => told(stdout, names::ask(p, edition, q)),
+        1 => told(stdout, through::ask(p, edition, q)),
+        2 => told_part(stdout, p, edition, q),
+        _ => Ok(false),
     }
 }
 
 // The same over two payloads, the separate one first.
-fn put_to_both(words: &[u8], edition: Edition, q: Question, p: &[u8], own: &[u8]) -> bool {
+fn put_to_both(
+    stdout: Stdout,
+    words: &[u8],
+    edition: Edition,
+    q: Question,
+    p: &[u8],
+    own: &[u8],
+) -> io::Result<bool> {
     match which(words, b"name") {
-        0 => told_pair(pairs::ask(p, own, edition, q)),
-        _ => false,
+        0 => told_pair(stdout, pairs::ask(p, own, edition, q)),
+        _ => Ok(false),
     }
 }
 
 // A question to two payloads is one that lost a word.
-fn asked(call: &[u8], edition: Edition, n: &[u32; NUMBERS], p: &[u8], own: &[u8]) -> bool {
+fn asked(
+    stdout: Stdout,
+    call: &[u8],
+    edition: Edition,
+    n: &[u32; NUMBERS],
+    p: &[u8],
+    own: &[u8],
+) -> io::Result<bool> {
     let words = unpaired(call);
     let place = which(first_word(words), &ASKED);
     if QUESTIONS <= place {
-        return false;
+        return Ok(false);
     }
     let q = question(place, n[0], n[1]);
     if words.len() == call.len() {
-        return put(other_words(words), edition, q, p);
+        return put(stdout, other_words(words), edition, q, p);
     }
-    put_to_both(other_words(words), edition, q, p, own)
+    put_to_both(stdout, other_words(words), edition, q, p, own)
 }
 
 // Whether a payload is canonical.
-fn told_canonical(edition: Edition, p: &[u8]) -> bool {
+fn told_canonical(stdout: Stdout, edition: Edition, p: &[u8]) -> io::Result<bool> {
     match edition {
-        Edition::First => told_yes(is_canonical(p)),
-        Edition::Wider => told_yes(is_canonical_widely(p)),
+        Edition::First => told_yes(stdout, is_canonical(p)),
+        Edition::Wider => told_yes(stdout, is_canonical_widely(p)),
     }
 }
 
-pub fn answer(call: &[u8], edition: Edition, n: &[u32; NUMBERS], p: &[u8], own: &[u8]) -> bool {
+pub fn answer(
+    stdout: Stdout,
+    call: &[u8],
+    edition: Edition,
+    n: &[u32; NUMBERS],
+    p: &[u8],
+    own: &[u8],
+) -> io::Result<bool> {
     match which(
         call,
         b"names_judge names_is_canonical names_canonical pair_join kept",
     ) {
-        0 => told_verdict(judging::judge(p, edition), p.len()),
-        1 => told_canonical(edition, p),
-        2 => outputs::answer(Wanted::Names, edition, n, p, own),
-        3 => outputs::answer(Wanted::Joined, edition, n, p, own),
-        4 => told(names::ask(p, edition, Question::KeptContents(byte(n[0])))),
-        _ => asked(call, edition, n, p, own),
+        0 => told_verdict(stdout, judging::judge(p, edition), p.len()),
+        1 => told_canonical(stdout, edition, p),
+        2 => outputs::answer(stdout, Wanted::Names, edition, n, p, own),
+        3 => outputs::answer(stdout, Wanted::Joined, edition, n, p, own),
+        4 => told(
+            stdout,
+            names::ask(p, edition, Question::KeptContents(byte(n[0]))),
+        ),
+        _ => asked(stdout, call, edition, n, p, own),
     }
 }

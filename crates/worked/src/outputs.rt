@@ -2,6 +2,8 @@
 use crate::pieces::{NUMBERS, place};
 use crate::telling::{say_bytes, told_join, told_length};
 use format::Edition;
+use std::io;
+use std::io::Stdout;
 
 pub const UNTOUCHED: u8 = 0xEE;
 
@@ -18,38 +20,60 @@ pub enum Wanted {
     OldHints,
 }
 
-fn write(wanted: Wanted, edition: Edition, p: &[u8], own: &[u8], out: &mut [u8]) -> bool {
+fn write(
+    stdout: Stdout,
+    wanted: Wanted,
+    edition: Edition,
+    p: &[u8],
+    own: &[u8],
+    out: &mut [u8],
+) -> io::Result<bool> {
     match wanted {
-        Wanted::Names => told_length(rewrite::names(p, edition, out)),
-        Wanted::Joined => told_join(joining::join(p, own, edition, out)),
-        Wanted::Metadata => told_length(rewrite::metadata(p, out)),
-        Wanted::Hints => told_length(rewrite::hints(p, out)),
-        Wanted::OldHints => told_length(reordering::canonical(p, out)),
+        Wanted::Names => told_length(stdout, rewrite::names(p, edition, out)),
+        Wanted::Joined => told_join(stdout, joining::join(p, own, edition, out)),
+        Wanted::Metadata => told_length(stdout, rewrite::metadata(p, out)),
+        Wanted::Hints => told_length(stdout, rewrite::hints(p, out)),
+        Wanted::OldHints => told_length(stdout, reordering::canonical(p, out)),
     }
 }
 
-fn answer_into(wanted: Wanted, edition: Edition, p: &[u8], own: &[u8], out: &mut [u8]) -> bool {
-    write(wanted, edition, p, own, out);
-    say_bytes(b"  output", out);
-    true
+fn answer_into(
+    stdout: Stdout,
+    wanted: Wanted,
+    edition: Edition,
+    p: &[u8],
+    own: &[u8],
+    out: &mut [u8],
+) -> io::Result<bool> {
+    write(stdout, wanted, edition, p, own, out)?;
+    say_bytes(stdout, b"  output", out)?;
+    Ok(true)
 }
 
 // The first so many bytes of a room are the output.
 fn answer_in(
+    stdout: Stdout,
     wanted: Wanted,
     edition: Edition,
     p: &[u8],
     own: &[u8],
     room: &mut [u8],
     length: usize,
-) -> bool {
+) -> io::Result<bool> {
     if length <= room.len() {
-        return answer_into(wanted, edition, p, own, &mut room[..length]);
+        return answer_into(stdout, wanted, edition, p, own, &mut room[..length]);
     }
-    false
+    Ok(false)
 }
 
-pub fn answer(wanted: Wanted, edition: Edition, n: &[u32; NUMBERS], p: &[u8], own: &[u8]) -> bool {
+pub fn answer(
+    stdout: Stdout,
+    wanted: Wanted,
+    edition: Edition,
+    n: &[u32; NUMBERS],
+    p: &[u8],
+    own: &[u8],
+) -> io::Result<bool> {
     let mut room = [UNTOUCHED; ROOM];
-    answer_in(wanted, edition, p, own, &mut room, place(0, n[0]))
+    answer_in(stdout, wanted, edition, p, own, &mut room, place(0, n[0]))
 }

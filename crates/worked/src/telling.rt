@@ -3,13 +3,11 @@ use format::{
     Answer, Hint, HintAnswer, JoinWritten, Offset, PairAnswer, Place, Refusal, Verdict, Whose,
     Written,
 };
-use libc::STDOUT_FILENO;
 use neighbours::{Neighbour, Why};
+use std::io;
+use std::io::{Stdout, Write};
 use walk::Counted;
 use walk::survey::SectionAnswer;
-
-// A byte has so many hexadecimal digits.
-const DIGITS: usize = 2;
 
 // Whose a name or a refusal is; nobody's where there is none, and of what both are joined to.
 const NOBODY: u64 = 0;
@@ -18,111 +16,122 @@ const SEPARATE: u64 = 1;
 
 const OWN: u64 = 2;
 
-pub fn say(words: &[u8]) {
-    io::write_all(STDOUT_FILENO, words);
+pub fn say(mut stdout: Stdout, words: &[u8]) -> io::Result<()> {
+    stdout.write_all(words)
 }
 
-fn say_number(n: u64) {
-    say(b" ");
-    io::print_decimal(STDOUT_FILENO, n);
+fn say_number(mut stdout: Stdout, n: u64) -> io::Result<()> {
+    write!(stdout, " {n}")
 }
 
-fn say_index(n: u32) {
-    say_number(n as u64);
+fn say_index(stdout: Stdout, n: u32) -> io::Result<()> {
+    say_number(stdout, n as u64)
 }
 
-fn say_byte(b: u8) {
-    say(b" ");
-    io::print_hex(STDOUT_FILENO, b as u64, DIGITS);
+fn say_byte(mut stdout: Stdout, b: u8) -> io::Result<()> {
+    write!(stdout, " {b:02x}")
 }
 
 // Words and numbers. This, and whatever tells by it, says that there was such a call.
-pub fn tell(words: &[u8], numbers: &[u64]) -> bool {
-    say(words);
+pub fn tell(stdout: Stdout, words: &[u8], numbers: &[u64]) -> io::Result<bool> {
+    say(stdout, words)?;
     let mut at = 0;
     while at < numbers.len() {
-        say_number(numbers[at]);
+        say_number(stdout, numbers[at])?;
         at += 1;
     }
-    say(b"\n");
-    true
+    say(stdout, b"\n")?;
+    Ok(true)
 }
 
 // Code, offset and length.
-fn tell_answer(words: &[u8], code: u64, offset: u64, length: u64) -> bool {
-    tell(words, &[code, offset, length])
+fn tell_answer(
+    stdout: Stdout,
+    words: &[u8],
+    code: u64,
+    offset: u64,
+    length: u64,
+) -> io::Result<bool> {
+    tell(stdout, words, &[code, offset, length])
 }
 
-fn told_none() -> bool {
-    tell_answer(b"  none", 0, 0, 0)
+fn told_none(stdout: Stdout) -> io::Result<bool> {
+    tell_answer(stdout, b"  none", 0, 0, 0)
 }
 
-fn told_place(code: u8, at: Offset, length: usize) -> bool {
-    tell_answer(b"  found", code as u64, at.0 as u64, length as u64)
+fn told_place(stdout: Stdout, code: u8, at: Offset, length: usize) -> io::Result<bool> {
+    tell_answer(stdout, b"  found", code as u64, at.0 as u64, length as u64)
 }
 
 // So many bytes from the front: the whole payload, where it was accepted, or what was written. A walk tells how many sections there are in the same words.
-fn told_all(length: usize) -> bool {
-    tell_answer(b"  found", 0, 0, length as u64)
+fn told_all(stdout: Stdout, length: usize) -> io::Result<bool> {
+    tell_answer(stdout, b"  found", 0, 0, length as u64)
 }
 
-fn told_refusal(r: Refusal) -> bool {
+fn told_refusal(stdout: Stdout, r: Refusal) -> io::Result<bool> {
     let reason = r.reason;
     let at = r.offset;
-    tell_answer(b"  refused", reason.number() as u64, at.0 as u64, 0)
+    tell_answer(stdout, b"  refused", reason.number() as u64, at.0 as u64, 0)
 }
 
-pub fn told(answer: Answer) -> bool {
+pub fn told(stdout: Stdout, answer: Answer) -> io::Result<bool> {
     match answer {
-        Answer::None => told_none(),
-        Answer::Refused(r) => told_refusal(r),
-        Answer::Found(p) => told_place(0, p.offset, p.length),
+        Answer::None => told_none(stdout),
+        Answer::Refused(r) => told_refusal(stdout, r),
+        Answer::Found(p) => told_place(stdout, 0, p.offset, p.length),
     }
 }
 
-pub fn told_verdict(verdict: Verdict, length: usize) -> bool {
+pub fn told_verdict(stdout: Stdout, verdict: Verdict, length: usize) -> io::Result<bool> {
     match verdict {
-        Verdict::Refused(r) => told_refusal(r),
-        Verdict::Accepted => told_all(length),
+        Verdict::Refused(r) => told_refusal(stdout, r),
+        Verdict::Accepted => told_all(stdout, length),
     }
 }
 
-pub fn told_count(count: Counted) -> bool {
+pub fn told_count(stdout: Stdout, count: Counted) -> io::Result<bool> {
     match count {
-        Counted::Refused(r) => told_refusal(r),
-        Counted::Count(n) => told_all(n),
+        Counted::Refused(r) => told_refusal(stdout, r),
+        Counted::Count(n) => told_all(stdout, n),
     }
 }
 
-pub fn told_length(written: Written) -> bool {
+pub fn told_length(stdout: Stdout, written: Written) -> io::Result<bool> {
     match written {
-        Written::Refused(r) => told_refusal(r),
-        Written::Length(n) => told_all(n),
+        Written::Refused(r) => told_refusal(stdout, r),
+        Written::Length(n) => told_all(stdout, n),
     }
 }
 
-pub fn told_section(answer: SectionAnswer) -> bool {
+pub fn told_section(stdout: Stdout, answer: SectionAnswer) -> io::Result<bool> {
     match answer {
-        SectionAnswer::None => told_none(),
-        SectionAnswer::Refused(r) => told_refusal(r),
-        SectionAnswer::Found(p) => told_place(p.id, p.at, p.length),
+        SectionAnswer::None => told_none(stdout),
+        SectionAnswer::Refused(r) => told_refusal(stdout, r),
+        SectionAnswer::Found(p) => told_place(stdout, p.id, p.at, p.length),
     }
 }
 
-pub fn told_hint(answer: HintAnswer) -> bool {
+pub fn told_hint(stdout: Stdout, answer: HintAnswer) -> io::Result<bool> {
     match answer {
-        HintAnswer::None => told_none(),
-        HintAnswer::Refused(r) => told_refusal(r),
+        HintAnswer::None => told_none(stdout),
+        HintAnswer::Refused(r) => told_refusal(stdout, r),
         HintAnswer::Found(hint) => match hint {
-            Hint::Unlikely => tell_answer(b"  unlikely", 0, 0, 0),
-            Hint::Likely => tell_answer(b"  likely", 0, 0, 0),
+            Hint::Unlikely => tell_answer(stdout, b"  unlikely", 0, 0, 0),
+            Hint::Likely => tell_answer(stdout, b"  likely", 0, 0, 0),
         },
     }
 }
 
 // The same, and whose it is.
-fn tell_whose(words: &[u8], code: u64, offset: u64, length: u64, whose: u64) -> bool {
-    tell(words, &[code, offset, length, whose])
+fn tell_whose(
+    stdout: Stdout,
+    words: &[u8],
+    code: u64,
+    offset: u64,
+    length: u64,
+    whose: u64,
+) -> io::Result<bool> {
+    tell(stdout, words, &[code, offset, length, whose])
 }
 
 fn of_whose(whose: Whose) -> u64 {
@@ -132,36 +141,49 @@ fn of_whose(whose: Whose) -> u64 {
     }
 }
 
-fn told_its_refusal(whose: u64, r: Refusal) -> bool {
+fn told_its_refusal(stdout: Stdout, whose: u64, r: Refusal) -> io::Result<bool> {
     let reason = r.reason;
     let at = r.offset;
-    tell_whose(b"  refused", reason.number() as u64, at.0 as u64, 0, whose)
+    tell_whose(
+        stdout,
+        b"  refused",
+        reason.number() as u64,
+        at.0 as u64,
+        0,
+        whose,
+    )
 }
 
-fn told_its_place(whose: u64, p: Place) -> bool {
+fn told_its_place(stdout: Stdout, whose: u64, p: Place) -> io::Result<bool> {
     let at = p.offset;
-    tell_whose(b"  found", 0, at.0 as u64, p.length as u64, whose)
+    tell_whose(stdout, b"  found", 0, at.0 as u64, p.length as u64, whose)
 }
 
-pub fn told_pair(answer: PairAnswer) -> bool {
+pub fn told_pair(stdout: Stdout, answer: PairAnswer) -> io::Result<bool> {
     match answer {
-        PairAnswer::None => tell_whose(b"  none", 0, 0, 0, NOBODY),
-        PairAnswer::Refused(whose, r) => told_its_refusal(of_whose(whose), r),
-        PairAnswer::Found(whose, p) => told_its_place(of_whose(whose), p),
+        PairAnswer::None => tell_whose(stdout, b"  none", 0, 0, 0, NOBODY),
+        PairAnswer::Refused(whose, r) => told_its_refusal(stdout, of_whose(whose), r),
+        PairAnswer::Found(whose, p) => told_its_place(stdout, of_whose(whose), p),
     }
 }
 
-pub fn told_join(written: JoinWritten) -> bool {
+pub fn told_join(stdout: Stdout, written: JoinWritten) -> io::Result<bool> {
     match written {
-        JoinWritten::PayloadRefused(whose, r) => told_its_refusal(of_whose(whose), r),
-        JoinWritten::Refused(r) => told_its_refusal(NOBODY, r),
-        JoinWritten::Length(n) => tell_whose(b"  found", 0, 0, n as u64, NOBODY),
+        JoinWritten::PayloadRefused(whose, r) => told_its_refusal(stdout, of_whose(whose), r),
+        JoinWritten::Refused(r) => told_its_refusal(stdout, NOBODY, r),
+        JoinWritten::Length(n) => tell_whose(stdout, b"  found", 0, 0, n as u64, NOBODY),
     }
 }
 
 // Code, offset and position; no neighbours.
-fn tell_why(words: &[u8], code: u64, offset: u64, position: u64) -> bool {
-    tell(words, &[code, offset, position, 0, 0, 0, 0])
+fn tell_why(
+    stdout: Stdout,
+    words: &[u8],
+    code: u64,
+    offset: u64,
+    position: u64,
+) -> io::Result<bool> {
+    tell(stdout, words, &[code, offset, position, 0, 0, 0, 0])
 }
 
 // Whether there is a neighbour, and its index.
@@ -181,52 +203,53 @@ fn on_side(neighbour: Neighbour) -> Side {
     }
 }
 
-fn told_between(below: Side, above: Side) -> bool {
+fn told_between(stdout: Stdout, below: Side, above: Side) -> io::Result<bool> {
     tell(
+        stdout,
         b"  no entry",
         &[0, 0, 0, below.has, below.index, above.has, above.index],
     )
 }
 
-fn told_why_refused(r: Refusal) -> bool {
+fn told_why_refused(stdout: Stdout, r: Refusal) -> io::Result<bool> {
     let reason = r.reason;
     let at = r.offset;
-    tell_why(b"  refused", reason.number() as u64, at.0 as u64, 0)
+    tell_why(stdout, b"  refused", reason.number() as u64, at.0 as u64, 0)
 }
 
-pub fn told_why(why: Why) -> bool {
+pub fn told_why(stdout: Stdout, why: Why) -> io::Result<bool> {
     match why {
-        Why::Named(id, position) => tell_why(b"  found", id as u64, 0, position as u64),
-        Why::NoSubsection => tell_why(b"  no subsection", 0, 0, 0),
-        Why::NoGroup => tell_why(b"  no group", 0, 0, 0),
-        Why::NoEntry(below, above) => told_between(on_side(below), on_side(above)),
-        Why::Refused(r) => told_why_refused(r),
+        Why::Named(id, position) => tell_why(stdout, b"  found", id as u64, 0, position as u64),
+        Why::NoSubsection => tell_why(stdout, b"  no subsection", 0, 0, 0),
+        Why::NoGroup => tell_why(stdout, b"  no group", 0, 0, 0),
+        Why::NoEntry(below, above) => told_between(stdout, on_side(below), on_side(above)),
+        Why::Refused(r) => told_why_refused(stdout, r),
     }
 }
 
 // A yes or no.
-pub fn told_yes(yes: bool) -> bool {
-    tell(b" ", &[yes as u64])
+pub fn told_yes(stdout: Stdout, yes: bool) -> io::Result<bool> {
+    tell(stdout, b" ", &[yes as u64])
 }
 
 // Bytes, in hexadecimal.
-pub fn say_bytes(words: &[u8], bytes: &[u8]) {
-    say(words);
+pub fn say_bytes(stdout: Stdout, words: &[u8], bytes: &[u8]) -> io::Result<()> {
+    say(stdout, words)?;
     let mut at = 0;
     while at < bytes.len() {
-        say_byte(bytes[at]);
+        say_byte(stdout, bytes[at])?;
         at += 1;
     }
-    say(b"\n");
+    say(stdout, b"\n")
 }
 
 // Numbers of 32 bits.
-pub fn say_numbers(words: &[u8], numbers: &[u32]) {
-    say(words);
+pub fn say_numbers(stdout: Stdout, words: &[u8], numbers: &[u32]) -> io::Result<()> {
+    say(stdout, words)?;
     let mut at = 0;
     while at < numbers.len() {
-        say_index(numbers[at]);
+        say_index(stdout, numbers[at])?;
         at += 1;
     }
-    say(b"\n");
+    say(stdout, b"\n")
 }
