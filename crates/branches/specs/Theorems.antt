@@ -20,7 +20,7 @@ use Rattle.branches.specs.Laws.Bytes.{contents_bytes, payload_bytes, body_bytes}
 use Rattle.grammar.specs.Metadata.{BranchHint}
 use Rattle.grammar.specs.Faults.Metadata.{HintFault, MetadataFault}
 use Rattle.grammar.specs.Faults.Modules.{ModuleFault}
-use Rattle.grammar.specs.Refusing.{hints_refused, modules_refused}
+use Rattle.grammar.proofs.Refusing.{hints_refused, modules_refused}
 use Rattle.branches.specs.Laws.Faults.{imports_refused, bodies_refused}
 use Rattle.branches.specs.Laws.Deciding.{all_decide}
 use Rattle.branches.specs.Laws.Hints.{read_again}

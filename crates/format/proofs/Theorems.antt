@@ -39,7 +39,7 @@ use Rattle.format.proofs.Laws.CanonicalNames.{told_is, canonical_is, canonical_a
 use Rattle.format.proofs.Laws.CanonicalMetadata.{items_whole, item_told_lem, items_canonical_is, items_accepted, items_told, items_again, items_shorter, same_items}
 use Rattle.format.proofs.Laws.Unchanged.{names_unchanged, items_unchanged}
 use Rattle.format.proofs.Laws.Hints.{hint_exactly, no_hint_exactly, same_hints, hints_told}
-use Rattle.format.proofs.Laws.CanonicalOlder.{in_order_bytes, order_shorter, older_canonical_is, rewriting, older_least, older_accepted, older_told_lem, older_shorter, older_again, same_older}
+use Rattle.format.proofs.Laws.CanonicalOlder.{in_order_table, order_shorter, older_canonical_is, rewriting, older_least, older_accepted, older_told_lem, older_shorter, older_again, same_older}
 use Rattle.format.proofs.Laws.UnchangedOlder.{older_rises}
 use Rattle.format.proofs.Laws.Lists.{written, listed_told, other_told, lists_stay}
 use Rattle.format.specs.declared.FunctionIndex.{FunctionIndex}
@@ -329,7 +329,7 @@ older_told q p = ask_older q.0 q.1 0 p
 pub older_rewritten : RewritesUnlessLong (judge_older 0) canonical_older older_told OlderInRange
 older_rewritten = record {
   same_exactly = λ x y c d. let h = same_older (rewriting c) (rewriting d) in (λ e q l. h.0 e q.0 q.1 l.0 l.1, λ k. h.1 (λ f at l m. k (f, at) (l, m)));
-  accepts = λ a l. (write_older (in_order_bytes a), older_canonical_is a (omega (arith, order_shorter a)));
+  accepts = λ a l. (write_older (in_order_table a), older_canonical_is a (omega (arith, order_shorter a)));
   rewritten = λ p c. let r = rewriting c in record {
     is_accepted = older_accepted r;
     answers_alike = λ q. older_told_lem r q.0 q.1;

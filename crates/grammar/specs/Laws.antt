@@ -1,17 +1,6 @@
 pub mod Exact
 pub mod Judgements
-pub mod Numbers
-pub mod Ranges
-pub mod Texts
-pub mod CodePoints
 pub mod Encodings
-pub mod Lists
-pub mod Names
-pub mod Metadata
-pub mod Older
 pub mod Ranks
 pub mod Rows
-pub mod Order
-pub mod Checks
-pub mod Modules
 pub mod Faults

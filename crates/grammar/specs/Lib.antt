@@ -9,5 +9,3 @@ pub mod Modules
 pub mod Forgetting
 pub mod Faults
 pub mod Laws
-pub mod Grammar
-pub mod Refusing

@@ -21,7 +21,7 @@ use Rattle.grammar.specs.Faults.Metadata.{AnyItemFault, HintFault, MetadataFault
 use Rattle.grammar.specs.Faults.Older.{OlderFault}
 use Rattle.grammar.specs.Faults.Modules.{ModuleFault}
 use Rattle.grammar.specs.Faults.Writing.{Rise, FineLists, bytes_for, contents_length, ListsFault}
-use Rattle.grammar.specs.Refusing.{Refuses, RefusesLists}
+use Rattle.grammar.proofs.Refusing.{Refuses, RefusesLists}
 -- THE JUDGEMENTS, as the rules are written down once more in `crates/format/specs`, by readers: `Judged A` is `accepted v`, with what was read, or `refused number offset`. `judge_module m` judges a module, `judge_names known_kind at p` a name payload that begins at an offset of what was lent, `judge_names wider_kind at p` one by the wider edition, `judge_metadata any_item at p` metadata of any format, and `judge_metadata hint_item at p` branch hints; `judge_older at p` judges hints of the older edition. Of what was read, `rewrite_names` and `rewrite_metadata` are the bytes of the canonical rewriting, and of older hints `write_older (sorted_from nil es)`.
 use Rattle.format.specs.Reading.{Judged, accepted, refused, judge}
 use Rattle.format.specs.Walk.{walk as judge_module, custom_payload}

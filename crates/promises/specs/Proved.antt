@@ -52,11 +52,11 @@ use Rattle.grammar.specs.Faults.Names.{NamePayloadFault}
 use Rattle.grammar.specs.Faults.Metadata.{AnyItemFault, HintFault, MetadataFault}
 use Rattle.grammar.specs.Faults.Modules.{ModuleFault}
 use Rattle.grammar.specs.Faults.Writing.{lists_disagree, not_above_lem, not_text, subsection_too_large}
-use Rattle.grammar.specs.Refusing.{ids_refused, names_refused, wider_names_refused, metadata_refused, hints_refused, older_refused as older_hints_refused, modules_refused, lists_refused as all_lists_refused}
+use Rattle.grammar.proofs.Refusing.{ids_refused, names_refused, wider_names_refused, metadata_refused, hints_refused, older_refused as older_hints_refused, modules_refused, lists_refused as all_lists_refused}
 use Rattle.grammar.specs.Forgetting.{bare_sections}
-use Rattle.grammar.specs.Grammar.{Accepts, ids_exact, metadata_exact, hints_exact, older_exact, modules_exact}
-use Rattle.grammar.specs.Laws.Metadata.{any_exact, metadata_complete}
-use Rattle.grammar.specs.Laws.Names.{SameIds, source_ids, wider_ids, names_complete}
+use Rattle.grammar.proofs.Grammar.{Accepts, ids_exact, metadata_exact, hints_exact, older_exact, modules_exact}
+use Rattle.grammar.proofs.Laws.Metadata.{any_exact, metadata_complete}
+use Rattle.grammar.proofs.Laws.Names.{SameIds, source_ids, wider_ids, names_complete}
 use Rattle.promises.specs.Laws.Arriving.{as_walk, as_name, as_hints, as_older, no_place, same_state, total_is, is_taken, is_too_large, late_part, late_finish, part_stays, finish_stays}
 use Rattle.promises.specs.Laws.Judging.{found_grammar, refused_grammar}
 use Rattle.promises.specs.Laws.Listing.{lists_accepted, lists_read_back, lists_rest}

@@ -15,7 +15,7 @@ use Rattle.format.specs.Laws.Outcomes.{not_got, got_next, got_rest, by_test, on_
 use Rattle.grammar.specs.Numbers.{Grammar, U32}
 use Rattle.grammar.specs.Older.{Times, no_more, one_more, vector}
 use Rattle.grammar.specs.Laws.Exact.{Stretch, left_bytes, Accepts, Exact, exact_for}
-use Rattle.grammar.specs.Laws.Numbers.{number_sound, number_complete}
+use Rattle.grammar.proofs.Laws.Numbers.{number_sound, number_complete}
 use Rattle.instructions.specs.Immediates as Read
 use Rattle.instructions.specs.Locals.{local_groups, locals as locals_here}
 use Rattle.instructions.specs.declared.pieces.ByteKind.{ByteKind}

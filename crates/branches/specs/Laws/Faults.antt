@@ -19,11 +19,11 @@ use Rattle.grammar.specs.Faults.Parts.{NameFault}
 use Rattle.grammar.specs.Faults.Sequences.{Then, ThenFault, AnyByte, a_byte, ByteFault, no_byte, ByteUpTo, up_to, UpToFault, no_byte_up_to, above}
 use Rattle.grammar.specs.Laws.Exact.{Stretch, Accepts}
 use Rattle.grammar.specs.Laws.Faults.Stops.{stop_number, stop_place, Found, Stops, Reads}
-use Rattle.grammar.specs.Laws.Faults.Numbers.{number_reads}
-use Rattle.grammar.specs.Laws.Faults.Parts.{sized_reads, name_reads, filling_faults}
-use Rattle.grammar.specs.Laws.Faults.Older.{vectors_read, vector_reads}
+use Rattle.grammar.proofs.Laws.Faults.Numbers.{number_reads}
+use Rattle.grammar.proofs.Laws.Faults.Parts.{sized_reads, name_reads, filling_faults}
+use Rattle.grammar.proofs.Laws.Faults.Older.{vectors_read, vector_reads}
 use Rattle.grammar.specs.Laws.Faults.Sequences.{then_reads, reads_as}
-use Rattle.grammar.specs.Laws.Faults.Judgements.{judged_by, refuses_exactly}
+use Rattle.grammar.proofs.Laws.Faults.Judgements.{judged_by, refuses_exactly}
 use Rattle.branches.specs.Bodies.{bodies}
 use Rattle.branches.specs.Faults.{Bounds, BoundsFault, Limits, LimitsFault, Description, DescriptionFault, ImportKind, ImportKindFault, Import, ImportFault, ImportsFault, BodiesFault}
 use Rattle.branches.specs.Imports.{byte, bounds, limits, table_type, global_type, description, kind_byte, import_kind, import_entry, functions_in, import_entries, import_list, imports}

@@ -51,28 +51,28 @@ table_back {t} s h = rw (table_written t) (entries_back (entries_of t) (entries_
 
 -- What an accepted payload holds, put in order
 module _ {bs : List ℕ} (a : Accepted (judge_older 0) bs) where
-  abbrev pub in_order_bytes : Table (Table Hint)
-  in_order_bytes = sorted_from nil a.value
+  abbrev pub in_order_table : Table (Table Hint)
+  in_order_table = sorted_from nil a.value
 
-  pub older_sorted : Sorted (Group Fits32) 0 in_order_bytes
+  pub older_sorted : Sorted (Group Fits32) 0 in_order_table
   older_sorted = sorted_entries (all_imp (λ x f. record { function = f.function; hints = f.hints.each }) (entries_whole a.judged).fine.each)
 
-  pub older_answer : (f : FunctionIndex) (at : InstructionOffset) → ask_older f at 0 bs ≡ accepted (some_then (lookup f.0 in_order_bytes) (lookup at.0))
+  pub older_answer : (f : FunctionIndex) (at : InstructionOffset) → ask_older f at 0 bs ≡ accepted (some_then (lookup f.0 in_order_table) (lookup at.0))
   unfolding ask_older
   older_answer f at = rw (a.judged, first_found f.0 at.0 a.value)
 
-  pub order_shorter : length (write_older in_order_bytes) ≤ length bs
+  pub order_shorter : length (write_older in_order_table) ≤ length bs
   order_shorter = omega (arith, sorted_shorter a.value, (entries_whole a.judged).shorter)
 
-  pub older_canonical_is : length (write_older in_order_bytes) < limit32 → canonical_older bs ≡ accepted (write_older in_order_bytes)
+  pub older_canonical_is : length (write_older in_order_table) < limit32 → canonical_older bs ≡ accepted (write_older in_order_table)
   unfolding canonical_older not_too_long
-  older_canonical_is h = rw (a.judged, le-leb (length (write_older in_order_bytes)) 4_294_967_295 (omega arith))
+  older_canonical_is h = rw (a.judged, le-leb (length (write_older in_order_table)) 4_294_967_295 (omega arith))
 
 -- A payload that has a rewriting
 pub record Rewriting (bs x : List ℕ) : Type 0 where
   pub original : Accepted (judge_older 0) bs
-  pub small : length (write_older (in_order_bytes original)) < limit32
-  pub written : write_older (in_order_bytes original) ≡ x
+  pub small : length (write_older (in_order_table original)) < limit32
+  pub written : write_older (in_order_table original) ≡ x
 
 short_enough : (bytes : List ℕ) {x : List ℕ} → not_too_long bytes ≡ accepted x → (length bytes < limit32) × (bytes ≡ x)
 unfolding not_too_long
@@ -83,13 +83,13 @@ unfolding canonical_older
 rewriting {bs} c = followed (judge_older 0 bs) _ c λ es e w. let (small, is) = short_enough (write_older (sorted_from nil es)) w in record { original = record { value = es; judged = e }; small = small; written = is }
 
 module _ {bs x : List ℕ} (r : Rewriting bs x) where
-  pub older_back : judge_older 0 x ≡ accepted (entries_of (in_order_bytes r.original))
+  pub older_back : judge_older 0 x ≡ accepted (entries_of (in_order_table r.original))
   older_back = rw (← r.written) (table_back (older_sorted r.original) r.small)
 
   abbrev pub older_accepted : Accepted (judge_older 0) x
-  older_accepted = record { value = entries_of (in_order_bytes r.original); judged = older_back }
+  older_accepted = record { value = entries_of (in_order_table r.original); judged = older_back }
 
-  order_again : in_order_bytes older_accepted ≡ in_order_bytes r.original
+  order_again : in_order_table older_accepted ≡ in_order_table r.original
   order_again = sorted_again (older_sorted r.original)
 
   pub older_told_lem : (f : FunctionIndex) (at : InstructionOffset) → ask_older f at 0 x ≡ ask_older f at 0 bs
@@ -100,11 +100,11 @@ module _ {bs x : List ℕ} (r : Rewriting bs x) where
 
   pub older_again : canonical_older x ≡ accepted x
   older_again =
-      let same : write_older (in_order_bytes older_accepted) ≡ x = ap write_older order_again ∙ r.written in
+      let same : write_older (in_order_table older_accepted) ≡ x = ap write_older order_again ∙ r.written in
       rw same at (older_canonical_is older_accepted (rw order_again r.small))
 
 -- an index or an offset of more than 32 bits gets none
-asked_or_none {ℓ} : {C : Type ℓ} {bs : List ℕ} (a : Accepted (judge_older 0) bs) (k j : ℕ) → (k < limit32 → j < limit32 → C) → (some_then (lookup k (in_order_bytes a)) (lookup j) ≡ none → C) → C
+asked_or_none {ℓ} : {C : Type ℓ} {bs : List ℕ} (a : Accepted (judge_older 0) bs) (k j : ℕ) → (k < limit32 → j < limit32 → C) → (some_then (lookup k (in_order_table a)) (lookup j) ≡ none → C) → C
 asked_or_none a k j f g = in_range_or_none (λ _ u p. (p.number, p.sorted)) (λ _ x p. p) (older_sorted a) k j f g
 
 -- every question in range gets the same answer from both
@@ -113,12 +113,12 @@ AskedAlike x y = (f : FunctionIndex) (at : InstructionOffset) → f.0 < limit32 
 
 -- then what they hold is in order the same
 module _ {x y : List ℕ} (a : Accepted (judge_older 0) x) (b : Accepted (judge_older 0) y) (alike : AskedAlike x y) where
-  told_alike : (k j : ℕ) → some_then (lookup k (in_order_bytes a)) (lookup j) ≡ some_then (lookup k (in_order_bytes b)) (lookup j)
+  told_alike : (k j : ℕ) → some_then (lookup k (in_order_table a)) (lookup j) ≡ some_then (lookup k (in_order_table b)) (lookup j)
   told_alike k j =
-      let told : k < limit32 → j < limit32 → some_then (lookup k (in_order_bytes a)) (lookup j) ≡ some_then (lookup k (in_order_bytes b)) (lookup j) = λ l m. accepted_is (sym (older_answer a (record { 0 = k }) (record { 0 = j })) ∙ alike (record { 0 = k }) (record { 0 = j }) l m ∙ older_answer b (record { 0 = k }) (record { 0 = j })) in
+      let told : k < limit32 → j < limit32 → some_then (lookup k (in_order_table a)) (lookup j) ≡ some_then (lookup k (in_order_table b)) (lookup j) = λ l m. accepted_is (sym (older_answer a (record { 0 = k }) (record { 0 = j })) ∙ alike (record { 0 = k }) (record { 0 = j }) l m ∙ older_answer b (record { 0 = k }) (record { 0 = j })) in
       asked_or_none a k j told (λ n. asked_or_none b k j told (λ m. n ∙ sym m))
 
-  same_order : in_order_bytes a ≡ in_order_bytes b
+  same_order : in_order_table a ≡ in_order_table b
   same_order = groups_told (older_sorted a) (older_sorted b) told_alike
 
 -- two payloads have one rewriting exactly where every question gets the same answer
@@ -131,5 +131,5 @@ same_older r q = (
 -- and none that answers as a rewriting's original is shorter than the rewriting, also one that has none itself
 pub older_least : {p x y : List ℕ} → Rewriting p x → Accepted (judge_older 0) y → AskedAlike p y → length x ≤ length y
 older_least {x = x} r b alike =
-    let same : write_older (in_order_bytes b) ≡ x = ap write_older (sym (same_order r.original b alike)) ∙ r.written in
+    let same : write_older (in_order_table b) ≡ x = ap write_older (sym (same_order r.original b alike)) ∙ r.written in
     rw same at (order_shorter b)

@@ -17,7 +17,7 @@ use Rattle.format.proofs.Laws.Unchanged.{groups_unchanged}
 use Rattle.format.proofs.Laws.OlderEntries.{write_entries, entries_whole}
 use Rattle.format.proofs.Laws.OlderShorter.{write_group}
 use Rattle.format.proofs.Laws.OlderInOrder.{entry_table, entries_written, entries_rise, in_order, groups_rise}
-use Rattle.format.proofs.Laws.CanonicalOlder.{in_order_bytes, older_sorted, rewriting, older_back}
+use Rattle.format.proofs.Laws.CanonicalOlder.{in_order_table, older_sorted, rewriting, older_back}
 use Rattle.format.specs.declared.Hint.{Hint}
 
 module _ {bs : List ℕ} (a : Accepted (judge_older 0) bs) where
@@ -26,7 +26,7 @@ module _ {bs : List ℕ} (a : Accepted (judge_older 0) bs) where
       let r = rewriting c in
       rw (accepted_is (sym a.judged ∙ older_back r)) (groups_rise (older_sorted r.original))
 
-  pub older_tight : Bytes bs → rising_entries 0 a.value ≡ true → length (write_older (in_order_bytes a)) ≡ length bs → write_older (in_order_bytes a) ≡ bs
+  pub older_tight : Bytes bs → rising_entries 0 a.value ≡ true → length (write_older (in_order_table a)) ≡ length bs → write_older (in_order_table a) ≡ bs
   unfolding write_older
   older_tight h r long =
       let whole = entries_whole a.judged in

@@ -1,12 +1,2 @@
 pub mod Stops
-pub mod Numbers
-pub mod Parts
-pub mod Lists
 pub mod Sequences
-pub mod Names
-pub mod Metadata
-pub mod Older
-pub mod Seen
-pub mod Modules
-pub mod Writing
-pub mod Judgements

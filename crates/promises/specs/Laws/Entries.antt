@@ -24,12 +24,12 @@ use Rattle.format.specs.Reading.{Reader, Judged, accepted, map_judged}
 use Rattle.format.specs.Tables.{Table, nil, row, lookup, map_table}
 use Rattle.grammar.specs.Faults.Metadata.{AnyItemFault, HintFault, MetadataFault}
 use Rattle.grammar.specs.Faults.Names.{NamePayloadFault}
-use Rattle.grammar.specs.Laws.Metadata.{any_exact, hint_exact}
-use Rattle.grammar.specs.Laws.Names.{SameIds, names_complete}
+use Rattle.grammar.proofs.Laws.Metadata.{any_exact, hint_exact}
+use Rattle.grammar.proofs.Laws.Names.{SameIds, names_complete}
 use Rattle.grammar.specs.Metadata.{Unknown, BranchHint}
 use Rattle.grammar.specs.Modules.{here}
 use Rattle.grammar.specs.Names.{NamePayload}
-use Rattle.grammar.specs.Refusing.{ids_refused, metadata_refused, hints_refused}
+use Rattle.grammar.proofs.Refusing.{ids_refused, metadata_refused, hints_refused}
 use Rattle.wakemiono.specs.Boundary.{wm_found, WmLists, WmWrites}
 use Rattle.wakemiono.specs.declared.WmAnswer.{WmAnswer}
 use Rattle.promises.specs.Demands.{Leaves, PlaceAt, HintAt, text_at, NamesListed, MetadataListed, HintsListed}

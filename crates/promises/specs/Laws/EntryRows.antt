@@ -25,8 +25,8 @@ use Rattle.format.specs.Reading.{Reader, accepted}
 use Rattle.format.specs.Tables.{Table, nil, row, lookup, map_table}
 use Rattle.format.specs.declared.Reason.TheVariants.{NotHint}
 use Rattle.grammar.specs.Laws.Exact.{Exact}
-use Rattle.grammar.specs.Laws.Metadata.{metadata_complete}
-use Rattle.grammar.specs.Laws.Names.{SameIds, names_complete}
+use Rattle.grammar.proofs.Laws.Metadata.{metadata_complete}
+use Rattle.grammar.proofs.Laws.Names.{SameIds, names_complete}
 use Rattle.grammar.specs.Metadata.{Format, Item, CodeMetadata}
 use Rattle.grammar.specs.Names.{NamePayload}
 

@@ -14,7 +14,7 @@ use Rattle.grammar.specs.Numbers.{Grammar}
 use Rattle.grammar.specs.Faults.Numbers.{Faults}
 use Rattle.grammar.specs.Faults.Metadata.{AnyItemFault, HintFault, MetadataFault}
 use Rattle.grammar.specs.Metadata.{Unknown, BranchHint}
-use Rattle.grammar.specs.Refusing.{Refuses, metadata_refused, hints_refused, modules_refused}
+use Rattle.grammar.proofs.Refusing.{Refuses, metadata_refused, hints_refused, modules_refused}
 use Rattle.wakemiono.specs.declared.WmAnswer.{WmAnswer}
 use Rattle.promises.specs.Demands.{Answers, Writing, RefusedThrough, by_the_walk, by_its_payload, FormatFault, of_hints, of_any_other, RefusedOrShort, by_aFault, too_short, OlderRefused, older_fault, older_too_long, older_too_short}
 use Rattle.promises.specs.Laws.Exactly.{RefusedBy, JudgedThrough, walk_refused, payload_refused}

@@ -18,8 +18,8 @@ use Rattle.format.specs.Parts.{Part, sized, remaining}
 use Rattle.format.specs.Questions.{answer, asked}
 use Rattle.format.specs.Reading.{got, accepted}
 use Rattle.format.specs.Tables.{Table, nil, row, lookup, map_table}
-use Rattle.grammar.specs.Laws.Names.{source_ids, names_complete}
-use Rattle.grammar.specs.Laws.Numbers.{number_complete}
+use Rattle.grammar.proofs.Laws.Names.{source_ids, names_complete}
+use Rattle.grammar.proofs.Laws.Numbers.{number_complete}
 use Rattle.grammar.specs.Lists.{Sized, sized as a_part, Entries, no_entry, entry as an_entry, listed}
 use Rattle.grammar.specs.Names.{Name, name as a_name, SourceIds, Contents, a_name_map, Subsections, no_subsection, subsection, NamePayload, payload as a_payload}
 use Rattle.grammar.specs.Numbers.{U32}

@@ -5,7 +5,7 @@ use Rattle.std.proofs.Common.{ap}
 use Rattle.format.specs.Bytes.{Bytes}
 use Rattle.format.specs.Laws.Outcomes.{mapped, refused_exactly}
 use Rattle.format.specs.Reading.{Judged, map_judged}
-use Rattle.grammar.specs.Grammar.{Accepts}
+use Rattle.grammar.proofs.Grammar.{Accepts}
 use Rattle.grammar.specs.Numbers.{Grammar}
 use Rattle.wakemiono.specs.declared.WmAnswer.{WmAnswer}
 use Rattle.promises.specs.Laws.Saying.{Verdict}

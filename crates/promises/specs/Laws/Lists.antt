@@ -12,7 +12,7 @@ use Rattle.lists.proofs.Payloads.{nothing_listed, payload_filled, filled_long}
 use Rattle.wakemiono.specs.Boundary.{wm_found, WmWrites}
 use Rattle.wakemiono.specs.declared.WmAnswer.{WmAnswer}
 use Rattle.grammar.specs.Faults.Writing.{FineLists, entries_length, contents_length}
-use Rattle.grammar.specs.Laws.Faults.Writing.{rising_of, are_text, number_long, fine_wanted as wanted}
+use Rattle.grammar.proofs.Laws.Faults.Writing.{rising_of, are_text, number_long, fine_wanted as wanted}
 use Rattle.promises.specs.Demands.{payload_length}
 use Rattle.promises.specs.Laws.Outputs.{wrote, wrote_there}
 

@@ -14,7 +14,7 @@ use Rattle.format.specs.Tables.{Table}
 use Rattle.format.specs.declared.CodeOffset.{CodeOffset}
 use Rattle.format.specs.declared.FunctionIndex.{FunctionIndex}
 use Rattle.format.specs.declared.Hint.TheVariants.{Unlikely, Likely}
-use Rattle.grammar.specs.Laws.Metadata.{hint_exact, metadata_complete}
+use Rattle.grammar.proofs.Laws.Metadata.{hint_exact, metadata_complete}
 use Rattle.grammar.specs.Metadata.{CodeMetadata, BranchHint}
 use Rattle.wakemiono.specs.Boundary.{wm_refused, wm_place, wm_hint}
 use Rattle.wakemiono.specs.declared.WmAnswer.{WmAnswer}

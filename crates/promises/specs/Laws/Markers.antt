@@ -19,10 +19,10 @@ use Rattle.format.specs.Parts.{Part}
 use Rattle.format.specs.Questions.{as_place, ask}
 use Rattle.format.specs.Reading.{Judged, accepted, refused, map_judged}
 use Rattle.format.specs.declared.Question.TheVariants.{FunctionName}
-use Rattle.grammar.specs.Laws.Names.{source_ids, names_sound}
+use Rattle.grammar.proofs.Laws.Names.{source_ids, names_sound}
 use Rattle.wakemiono.specs.Boundary.{wm_found, wm_refused, wm_place, WmMakes}
 use Rattle.wakemiono.specs.declared.WmAnswer.{WmAnswer}
-use Rattle.grammar.specs.Refusing.{names_refused}
+use Rattle.grammar.proofs.Refusing.{names_refused}
 use Rattle.promises.specs.Laws.Faults.{faults}
 use Rattle.promises.specs.Demands.{Leaves, FunctionNames, sixteenths, Marked, MarkersReply, markers_made, markers_refused_lem, MarkersRefused, payload_refused, payload_too_long, few_indices, few_offsets}
 use Rattle.promises.specs.Laws.FunctionNames.{MarksOf, function_markers, function_names_lem}

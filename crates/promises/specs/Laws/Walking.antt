@@ -25,8 +25,8 @@ use Rattle.format.specs.Reading.{Judged, accepted, refused, map_judged}
 use Rattle.format.specs.Walk.{preamble, Custom, Section, walk, section_count, section_at, payload_of, payload_in, custom_payload}
 use Rattle.grammar.specs.Forgetting.{bare_custom, bare_section, bare_sections}
 use Rattle.format.specs.Laws.Tight.{bytes_after}
-use Rattle.grammar.specs.Laws.Modules.{walk_complete}
-use Rattle.grammar.specs.Laws.Numbers.{number_exactly}
+use Rattle.grammar.proofs.Laws.Modules.{walk_complete}
+use Rattle.grammar.proofs.Laws.Numbers.{number_exactly}
 use Rattle.grammar.specs.Modules.{Custom as MeantCustom, Section as Meant, Among, here, further, Called, Module}
 use Rattle.wakemiono.specs.Boundary.{wm_none, wm_found, wm_refused, wm_count, wm_section, wm_place}
 use Rattle.wakemiono.specs.declared.WmAnswer.{WmAnswer}

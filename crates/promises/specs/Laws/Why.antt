@@ -13,7 +13,7 @@ use Rattle.format.specs.Tables.{Table, map_table}
 use Rattle.format.proofs.Theorems.{AnswersWhy, questions_answered}
 use Rattle.format.specs.Why.{Why, named, no_subsection, no_group, no_entry, an_entry, TrueOfFunction, among_functions, TrueOfLocal, among_locals}
 use Rattle.format.specs.declared.Question.{Question}
-use Rattle.grammar.specs.Laws.Names.{source_ids, names_complete}
+use Rattle.grammar.proofs.Laws.Names.{source_ids, names_complete}
 use Rattle.grammar.specs.Names.{SourceIds, NamePayload}
 use Rattle.wakemiono.specs.Boundary.{wm_place}
 use Rattle.wakemiono.specs.Why.{wm_why}

@@ -75,7 +75,7 @@ module _ (P : Payloads) {A : Type 0} (seen : Answer → A) (c : ℕ) (first : Li
               answers = rw o w.answers;
             }
 
-    onward : {es : List (Event A)} {t u : Table} {s r : List ℕ} (m : Model) → Stands P t s m → desk c m ≡ first → Onward P seen t s es u r → Never Full (answers_to c es) → Alone es u r
+    onward : {t : Table} {s : List ℕ} {es : List (Event A)} {u : Table} {r : List ℕ} (m : Model) → Stands P t s m → desk c m ≡ first → Onward P seen t s es u r → Never Full (answers_to c es) → Alone es u r
     unfolding calls_of answers_to own_desk own_answers
     onward m st e nothing_yet n = record { model = m; stands = st; holds = e; answers = refl }
     onward m st e (once_more call o) n = goes_on call (λ k. onward m st e o k) n

@@ -192,6 +192,7 @@ module _ (P : Payloads) {A : Type 0} (seen : Answer → A) where
   dense_next (opening c payload work) st f (and_opened n) = dense_opened P st c payload work (f n)
 
   pub dense_since : {es : List (Event A)} {t : Table} {s : List ℕ} → Past P seen es t s → SinceStep es → Dense t s
+  dense_since (begun k e more few) n = elim n [ ]
   dense_since (called call past) n = dense_next call (past_stands past).1 (λ k. dense_since past k) n
 
 -- The free blocks, all together

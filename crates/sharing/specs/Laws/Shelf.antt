@@ -85,7 +85,7 @@ at_left ys (past e a) = past e (at_left ys a)
 
 pub at_right : {b d u : ℕ} {p : List ℕ} (xs : Shelf) {ys : Shelf} → b ≡ size xs + d → At d p u ys → At b p u (xs ++ ys)
 at_right {b} {d} {u} {p} [] {ys} e a = let z : d ≡ b = omega arith in rw z at a
-at_right {b} {d} (x ∷ xs) e a = past {b = b} {d = size xs + d} {x = x} (omega arith) (at_right xs refl a)
+at_right {b} {d} (x ∷ xs) e a = past {b = b} {d = size xs + d} {x = x} (omega arith) (at_right {b = size xs + d} xs refl a)
 
 pub record Behind (b : ℕ) (p : List ℕ) (u : ℕ) (xs ys : Shelf) : Type 0 where
   pub from : ℕ
@@ -103,6 +103,7 @@ at_append {b} {u} {p} (x ∷ xs) {ys} (past e a) = on e (at_append xs a)
 
 -- the place says which
 pub at_payload : {b u v : ℕ} {p q : List ℕ} {sh : Shelf} → At b p u sh → At b q v sh → (p ≡ q) × (u ≡ v)
+at_payload {sh = []} a c = elim a [ ]
 at_payload {sh = row p u ∷ sh} (here e) (here f) = (refl, refl)
 at_payload {sh = row p u ∷ sh} (here e) (past f c) = absurd (omega (arith, width_pos (row p u)))
 at_payload {sh = row q v ∷ sh} (past e a) (here f) = absurd (omega (arith, width_pos (row q v)))

@@ -88,6 +88,7 @@ find_some q (row p u ∷ sh) tail {b} e =
 
 pub find_none : (q : List ℕ) (sh : Shelf) (tail : List Mark) {b u : ℕ} → find q (spread marks_of sh ++ tail) (spread blocks_of sh) ≡ none → At b q u sh → ⊥
 unfolding find
+find_none q [] tail e a = elim a [ ]
 find_none q (gap k ∷ sh) tail e (past i a) = find_none q sh tail (later_none 1 (find q (spread marks_of sh ++ tail) (spread blocks_of sh)) e) a
 find_none q (row p u ∷ sh) tail e a = on (sym (find_row q p u (spread marks_of sh ++ tail) (spread blocks_of sh)) ∙ ap (λ (l : List Mark). find q l (scatter p ++ spread blocks_of sh)) (sym (marks_row p u sh tail)) ∙ e) (at_row a) (λ i d v c. find_none q sh tail {b = d} {u = v} i c)
   where

@@ -1,0 +1,12 @@
+pub mod Numbers
+pub mod Ranges
+pub mod Texts
+pub mod CodePoints
+pub mod Lists
+pub mod Names
+pub mod Metadata
+pub mod Older
+pub mod Order
+pub mod Checks
+pub mod Modules
+pub mod Faults

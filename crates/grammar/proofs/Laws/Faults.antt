@@ -1,0 +1,10 @@
+pub mod Numbers
+pub mod Parts
+pub mod Lists
+pub mod Names
+pub mod Metadata
+pub mod Older
+pub mod Seen
+pub mod Modules
+pub mod Writing
+pub mod Judgements

@@ -1,0 +1,3 @@
+pub mod Grammar
+pub mod Refusing
+pub mod Laws

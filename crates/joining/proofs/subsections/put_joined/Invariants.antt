@@ -1,0 +1,10 @@
+use Prim.Native.Nat.{◌+◌, ◌-◌}
+use Rattle.format.specs.Names.{kind_in}
+use Rattle.joining.proofs.SubsectionPuts.{PuttingJoined}
+use Rattle.joining.proofs.subsections.put_joined.Given as goal
+
+abbrev pub invariant-loop-id : goal.invariant-loop-id
+invariant-loop-id l = PuttingJoined (kind_in l.edition) l.s l.initial.ours l.o l.initial.theirs l.initial.out l.out l.place l.ours l.theirs
+
+abbrev pub decreases-loop-id : goal.decreases-loop-id
+decreases-loop-id l = (l.ours.end - l.ours.at) + (l.theirs.end - l.theirs.at)
