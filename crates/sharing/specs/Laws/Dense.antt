@@ -23,7 +23,7 @@ use Rattle.sharing.specs.Laws.Standing.{Stands, fits_is}
 use Rattle.sharing.specs.Laws.Stored.{blocks_size}
 use Rattle.sharing.specs.Laws.Tidying.{only_rows}
 use Rattle.sharing.specs.Laws.Walks.{later, later_some, run_past}
-use Rattle.sharing.specs.Model.{Payloads, Call, opening, asking, tidying, Answer, Model, desk, first_true, Front, stop, go, front, customer, changed, acting}
+use Rattle.sharing.specs.Model.{Payloads, Call, opening, asking, closing, tidying, Answer, Model, desk, first_true, Front, stop, go, front, customer, changed, acting}
 use Rattle.sharing.specs.Step.{After, leaves, unused, joined, leading, newly, placed, opened_in, fitting, step}
 use Rattle.sharing.specs.Table.{Mark, mark, blank, Table, blocks, rows_right, find, reach, taken, starts_free, first_run}
 use Rattle.sharing.specs.Tidy.{rank}
@@ -188,6 +188,7 @@ module _ (P : Payloads) {A : Type 0} (seen : Answer → A) where
   dense_next : {es : List (Event A)} {t : Table} {s : List ℕ} {m : Model} {a : A} (call : Call) → Stands P t s m → (SinceStep es → Dense t s) → SinceStep (event call a ∷ es) → Dense (step P t s call).table (step P t s call).store
   unfolding step fitting
   dense_next tidying st f just_now = dense_stepped st
+  dense_next (closing c hold) st f n = elim n [ ]
   dense_next (asking c hold index out) st f (and_asked n) = rw (fits_is st.laid) (f n)
   dense_next (opening c payload work) st f (and_opened n) = dense_opened P st c payload work (f n)
 

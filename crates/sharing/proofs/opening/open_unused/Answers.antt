@@ -8,4 +8,4 @@ pub returns-in-Refused : goal.returns-in-Refused
 returns-in-Refused c = search opens_unused
 
 pub returns-in-Length : goal.returns-in-Length
-returns-in-Length c = unused_written _ _ c.names.ensures c.n.given.1 c.open_with.ensures
+returns-in-Length c = unused_written _ _ c.names.ensures c.in-Length.is c.open_with.ensures
