@@ -268,8 +268,8 @@ yes = value 1 0
 not : Result
 not = value 0 0
 
-NumberTold : String → Result
-NumberTold s = of_outcome (λ v o. yes_no (as_few (shortest v) (drop o (hex s)) (hex s))) (number 0 (hex s))
+number_told : String → Result
+number_told s = of_outcome (λ v o. yes_no (as_few (shortest v) (drop o (hex s)) (hex s))) (number 0 (hex s))
 
 names_told : String → Result
 names_told s = yes_no (names_are_canonical known_kind (hex s))
@@ -283,11 +283,11 @@ hints_told s = yes_no (items_are_canonical hint_item (hex s))
 pub tellings : List Example
 tellings =
     -- a number is shortest with one byte, or with a last byte that is not 0
-    NumberTold "00" gives yes ∷
-    NumberTold "80 00" gives not ∷
-    NumberTold "80 01" gives yes ∷
-    NumberTold "80 80 80 80 00" gives not ∷
-    NumberTold "FF FF FF FF 0F" gives yes ∷
+    number_told "00" gives yes ∷
+    number_told "80 00" gives not ∷
+    number_told "80 01" gives yes ∷
+    number_told "80 80 80 80 00" gives not ∷
+    number_told "FF FF FF FF 0F" gives yes ∷
     -- the examples E7 to E11, and P
     names_told "01 85 00 01 00 81 00 61" gives not ∷
     names_told "01 04 01 00 01 61" gives yes ∷
@@ -334,7 +334,7 @@ tellings =
     []
 
 pub tellings_hold : map computed tellings ≡ map stated tellings
-unfolding tellings computed stated yes_no yes not NumberTold names_told metadata_told hints_told P hex digit of_outcome same number groups shortest fewest utf8 characters character completes sized name remaining lookup size map_table rows table known known_kind contents subsections payload judge_names hint_of any_item hint_item metadata judge_metadata write_part write_rows write_table unless_empty keep_rows bare write_content write_subsections rewrite_names canonical_names rewrite_metadata canonical_of is_its_rewriting names_are_canonical items_are_canonical
+unfolding tellings computed stated yes_no yes not number_told names_told metadata_told hints_told P hex digit of_outcome same number groups shortest fewest utf8 characters character completes sized name remaining lookup size map_table rows table known known_kind contents subsections payload judge_names hint_of any_item hint_item metadata judge_metadata write_part write_rows write_table unless_empty keep_rows bare write_content write_subsections rewrite_names canonical_names rewrite_metadata canonical_of is_its_rewriting names_are_canonical items_are_canonical
 tellings_hold = refl
 
 -- K9: the wider edition, and beside it the first

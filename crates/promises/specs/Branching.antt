@@ -71,5 +71,5 @@ modules_computed = refl
 pub hints_on_branches_lem : Demanded BranchesHintsOnBranches verdict_of module_rows
 hints_on_branches_lem = by_table (λ m r meets. meets) module_rows modules_computed
 
-pub WmHintsOnBranches : Demanded (λ m a. call.wm_hints_on_branches m a) says_verdict module_rows
-WmHintsOnBranches = by_table (λ m a meets. ap says_verdict meets ∙ verdict_said (length m) (hints_on_branches m)) module_rows modules_computed
+pub wm_hints_on_branches : Demanded (λ m a. call.WmHintsOnBranches m a) says_verdict module_rows
+wm_hints_on_branches = by_table (λ m a meets. ap says_verdict meets ∙ verdict_said (length m) (hints_on_branches m)) module_rows modules_computed

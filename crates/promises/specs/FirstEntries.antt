@@ -49,11 +49,11 @@ names_computed : map (λ (row : Row (List ℕ) (Judged (Unit {0}))). verdict (ju
 unfolding hex digit number groups utf8 characters character completes sized name remaining lookup rows table known known_kind contents subsections payload judge_names
 names_computed = refl
 
-pub NamesJudge : Demanded (λ p r. verdict_of r ≡ verdict (judge_names known_kind 0 p)) verdict_of name_rows
-NamesJudge = by_table (λ p r meets. meets) name_rows names_computed
+pub names_judge : Demanded (λ p r. verdict_of r ≡ verdict (judge_names known_kind 0 p)) verdict_of name_rows
+names_judge = by_table (λ p r meets. meets) name_rows names_computed
 
-pub WmNamesJudge : Demanded (λ p a. call.wm_names_judge p a) says_verdict name_rows
-WmNamesJudge = by_table (λ p a meets. ap says_verdict meets ∙ verdict_said (length p) (verdict (judge_names known_kind 0 p))) name_rows names_computed
+pub wm_names_judge : Demanded (λ p a. call.WmNamesJudge p a) says_verdict name_rows
+wm_names_judge = by_table (λ p a meets. ap says_verdict meets ∙ verdict_said (length p) (verdict (judge_names known_kind 0 p))) name_rows names_computed
 
 -- The same by the wider edition, and its own: tables, memories, globals, segments, and labels as locals
 abbrev pub wide_rows : List (Row (List ℕ) (Judged (Unit {0})))
@@ -72,8 +72,8 @@ wide_computed : map (λ (row : Row (List ℕ) (Judged (Unit {0}))). verdict (jud
 unfolding hex digit number groups utf8 characters character completes sized name remaining lookup rows table wider wider_kind contents subsections payload judge_names
 wide_computed = refl
 
-pub WmWideNamesJudge : Demanded (λ p a. call.wm_wide_names_judge p a) says_verdict wide_rows
-WmWideNamesJudge = by_table (λ p a meets. ap says_verdict meets ∙ verdict_said (length p) (verdict (judge_names wider_kind 0 p))) wide_rows wide_computed
+pub wm_wide_names_judge : Demanded (λ p a. call.WmWideNamesJudge p a) says_verdict wide_rows
+wm_wide_names_judge = by_table (λ p a meets. ap says_verdict meets ∙ verdict_said (length p) (verdict (judge_names wider_kind 0 p))) wide_rows wide_computed
 
 -- Code metadata: the second function, and the first function's second item
 abbrev pub metadata_rows : List (Row (List ℕ) (Judged (Unit {0})))
@@ -89,11 +89,11 @@ metadata_computed : map (λ (row : Row (List ℕ) (Judged (Unit {0}))). verdict 
 unfolding hex digit number groups sized rows table any_item metadata judge_metadata
 metadata_computed = refl
 
-pub MetadataJudge : Demanded (λ p r. verdict_of r ≡ verdict (judge_metadata any_item 0 p)) verdict_of metadata_rows
-MetadataJudge = by_table (λ p r meets. meets) metadata_rows metadata_computed
+pub metadata_judge : Demanded (λ p r. verdict_of r ≡ verdict (judge_metadata any_item 0 p)) verdict_of metadata_rows
+metadata_judge = by_table (λ p r meets. meets) metadata_rows metadata_computed
 
-pub WmMetadataJudge : Demanded (λ p a. call.wm_metadata_judge p a) says_verdict metadata_rows
-WmMetadataJudge = by_table (λ p a meets. ap says_verdict meets ∙ verdict_said (length p) (verdict (judge_metadata any_item 0 p))) metadata_rows metadata_computed
+pub wm_metadata_judge : Demanded (λ p a. call.WmMetadataJudge p a) says_verdict metadata_rows
+wm_metadata_judge = by_table (λ p a meets. ap says_verdict meets ∙ verdict_said (length p) (verdict (judge_metadata any_item 0 p))) metadata_rows metadata_computed
 
 -- Hints: the same, and a second hint that is none
 abbrev pub hint_rows : List (Row (List ℕ) (Judged (Unit {0})))
@@ -109,11 +109,11 @@ hints_computed : map (λ (row : Row (List ℕ) (Judged (Unit {0}))). verdict (ju
 unfolding hex digit number groups sized rows table hint_of hint_item metadata judge_metadata
 hints_computed = refl
 
-pub MetadataJudgeHints : Demanded (λ p r. verdict_of r ≡ verdict (judge_metadata hint_item 0 p)) verdict_of hint_rows
-MetadataJudgeHints = by_table (λ p r meets. meets) hint_rows hints_computed
+pub metadata_judge_hints : Demanded (λ p r. verdict_of r ≡ verdict (judge_metadata hint_item 0 p)) verdict_of hint_rows
+metadata_judge_hints = by_table (λ p r meets. meets) hint_rows hints_computed
 
-pub WmHintsJudge : Demanded (λ p a. call.wm_hints_judge p a) says_verdict hint_rows
-WmHintsJudge = by_table (λ p a meets. ap says_verdict meets ∙ verdict_said (length p) (verdict (judge_metadata hint_item 0 p))) hint_rows hints_computed
+pub wm_hints_judge : Demanded (λ p a. call.WmHintsJudge p a) says_verdict hint_rows
+wm_hints_judge = by_table (λ p a meets. ap says_verdict meets ∙ verdict_said (length p) (verdict (judge_metadata hint_item 0 p))) hint_rows hints_computed
 
 -- Hints of the older edition: the second entry, and the first entry's second hint
 abbrev pub older_rows : List (Row (List ℕ) (Judged (Unit {0})))
@@ -132,11 +132,11 @@ older_computed : map (λ (row : Row (List ℕ) (Judged (Unit {0}))). verdict (ju
 unfolding hex digit number groups times vector zero_byte older_kind older_hint older_entry judge_older
 older_computed = refl
 
-pub OlderJudge : Demanded (λ p r. verdict_of r ≡ verdict (judge_older 0 p)) verdict_of older_rows
-OlderJudge = by_table (λ p r meets. meets) older_rows older_computed
+pub older_judge : Demanded (λ p r. verdict_of r ≡ verdict (judge_older 0 p)) verdict_of older_rows
+older_judge = by_table (λ p r meets. meets) older_rows older_computed
 
-pub WmOldHintsJudge : Demanded (λ p a. call.wm_old_hints_judge p a) says_verdict older_rows
-WmOldHintsJudge = by_table (λ p a meets. ap says_verdict meets ∙ verdict_said (length p) (verdict (judge_older 0 p))) older_rows older_computed
+pub wm_old_hints_judge : Demanded (λ p a. call.WmOldHintsJudge p a) says_verdict older_rows
+wm_old_hints_judge = by_table (λ p a meets. ap says_verdict meets ∙ verdict_said (length p) (verdict (judge_older 0 p))) older_rows older_computed
 
 -- Sections: the second one repeated, unknown, past the module; a second `name`, and data after it; a second `branch_hints`, and one after the code, and beside the newer edition's (K2)
 abbrev pub section_rows : List (Row (List ℕ) (Judged ℕ))
@@ -158,11 +158,11 @@ sections_computed : map (λ (row : Row (List ℕ) (Judged ℕ)). section_count r
 unfolding hex digit ascii same preamble begins greatest_id is_custom is_code is_data rank custom is_called name_section hint_section nothing seeing id_rules name_rules section sections framing walk section_count number groups utf8 characters character completes sized name remaining
 sections_computed = refl
 
-pub WalkCount : Demanded (λ m r. counted r ≡ section_count m) counted section_rows
-WalkCount = by_table (λ m r meets. meets) section_rows sections_computed
+pub walk_count : Demanded (λ m r. counted r ≡ section_count m) counted section_rows
+walk_count = by_table (λ m r meets. meets) section_rows sections_computed
 
-pub WmWalk : Demanded (λ m a. call.wm_walk m a) says_count section_rows
-WmWalk = by_table (λ m a meets. ap says_count meets ∙ count_said (section_count m)) section_rows sections_computed
+pub wm_walk : Demanded (λ m a. call.WmWalk m a) says_count section_rows
+wm_walk = by_table (λ m a meets. ap says_count meets ∙ count_said (section_count m)) section_rows sections_computed
 
 -- The rewritings refuse what the judgement refuses, and write the others: put into an output as long as the payload
 abbrev itself : Row (List ℕ) (Judged (Unit {0})) → Row (List ℕ × List ℕ) (Judged (Unit {0}))
@@ -179,21 +179,21 @@ module _ (wanted : List ℕ → Judged (List ℕ)) (rows : List (Row (List ℕ) 
     c_call = by_table (λ x a meets. ap verdict (ap says_count meets.says ∙ count_said (write_answer (length x.1) (wanted x.0)))) (map itself rows) e;
   }
 
-pub RewriteNames : RewritesSo (canonical_names known_kind) name_rows
+pub rewrite_names_lem : RewritesSo (canonical_names known_kind) name_rows
 unfolding same hex digit number groups shortest fewest utf8 characters character completes sized name remaining lookup size map_table rows table known known_kind contents subsections payload judge_names write_part write_rows write_table unless_empty keep_rows bare write_content write_subsections rewrite_names canonical_names fitting write_answer output_after
-RewriteNames = rewrites_so (canonical_names known_kind) name_rows refl
+rewrite_names_lem = rewrites_so (canonical_names known_kind) name_rows refl
 
 pub rewrite_wide_names : RewritesSo (canonical_names wider_kind) wide_rows
 unfolding same hex digit number groups shortest fewest utf8 characters character completes sized name remaining lookup size map_table rows table wider wider_kind contents subsections payload judge_names write_part write_rows write_table unless_empty keep_rows bare write_content write_subsections rewrite_names canonical_names fitting write_answer output_after
 rewrite_wide_names = rewrites_so (canonical_names wider_kind) wide_rows refl
 
-pub RewriteMetadata : RewritesSo canonical_metadata metadata_rows
+pub rewrite_metadata_lem : RewritesSo canonical_metadata metadata_rows
 unfolding same hex digit number groups shortest fewest sized size map_table rows table any_item metadata judge_metadata write_part write_rows write_table unless_empty keep_rows rewrite_metadata canonical_of canonical_metadata fitting write_answer output_after
-RewriteMetadata = rewrites_so canonical_metadata metadata_rows refl
+rewrite_metadata_lem = rewrites_so canonical_metadata metadata_rows refl
 
-pub RewriteHints : RewritesSo canonical_hints hint_rows
+pub rewrite_hints : RewritesSo canonical_hints hint_rows
 unfolding same hex digit number groups shortest fewest sized size map_table rows table hint_of hint_item metadata judge_metadata write_part write_rows write_table unless_empty keep_rows rewrite_metadata canonical_of canonical_hints fitting write_answer output_after
-RewriteHints = rewrites_so canonical_hints hint_rows refl
+rewrite_hints = rewrites_so canonical_hints hint_rows refl
 
 pub rewrite_older : RewritesSo canonical_older older_rows
 unfolding same hex digit number groups shortest fewest size write_rows write_table times vector zero_byte older_kind older_hint older_entry judge_older put_first amend with_hints sorted_from write_older_hints write_older not_too_long canonical_older fitting write_answer output_after

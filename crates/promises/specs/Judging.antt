@@ -46,14 +46,14 @@ unfolding hex digit number groups sized known known_kind wider wider_kind lookup
 names_verdicts First = record { fine = hex ""; bad = refuses (hex "01 00") 2 2; worse = refuses (hex "01") 2 1; is_fine = λ h. h; is_bad = refl; is_worse = refl; apart = refl }
 names_verdicts Wider = record { fine = hex ""; bad = refuses (hex "01 00") 2 2; worse = refuses (hex "01") 2 1; is_fine = λ h. h; is_bad = refl; is_worse = refl; apart = refl }
 
-pub NamesJudge : (edition : Edition) → JudgesRightly (λ p r. verdict_of r ≡ verdict (judge_names (kind_in edition) 0 p)) verdict_of
-NamesJudge edition = judges_rightly (λ p r meets. meets) (names_verdicts edition)
+pub names_judge : (edition : Edition) → JudgesRightly (λ p r. verdict_of r ≡ verdict (judge_names (kind_in edition) 0 p)) verdict_of
+names_judge edition = judges_rightly (λ p r meets. meets) (names_verdicts edition)
 
-pub WmNamesJudge : JudgesRightly (λ p a. call.wm_names_judge p a) says_verdict
-WmNamesJudge = judges_rightly (λ p a meets. ap says_verdict meets ∙ verdict_said (length p) (verdict (judge_names known_kind 0 p))) (names_verdicts First)
+pub wm_names_judge : JudgesRightly (λ p a. call.WmNamesJudge p a) says_verdict
+wm_names_judge = judges_rightly (λ p a meets. ap says_verdict meets ∙ verdict_said (length p) (verdict (judge_names known_kind 0 p))) (names_verdicts First)
 
-pub WmWideNamesJudge : JudgesRightly (λ p a. call.wm_wide_names_judge p a) says_verdict
-WmWideNamesJudge = judges_rightly (λ p a meets. ap says_verdict meets ∙ verdict_said (length p) (verdict (judge_names wider_kind 0 p))) (names_verdicts Wider)
+pub wm_wide_names_judge : JudgesRightly (λ p a. call.WmWideNamesJudge p a) says_verdict
+wm_wide_names_judge = judges_rightly (λ p a meets. ap says_verdict meets ∙ verdict_said (length p) (verdict (judge_names wider_kind 0 p))) (names_verdicts Wider)
 
 -- Code metadata of any format, and hints: a payload without functions is accepted; one without its count, a function without its index, a hint of 2 are refused
 metadata_verdicts : Verdicts (λ p. verdict (judge_metadata any_item 0 p))
@@ -64,25 +64,25 @@ hints_verdicts : Verdicts (λ p. verdict (judge_metadata hint_item 0 p))
 unfolding hex digit number groups sized rows table hint_of hint_item metadata judge_metadata
 hints_verdicts = record { fine = hex "00"; bad = refuses (hex "01 02 01 05 01 02") 12 4; worse = refuses (hex "01") 2 1; is_fine = λ h. h; is_bad = refl; is_worse = refl; apart = refl }
 
-pub MetadataJudge : JudgesRightly (λ p r. verdict_of r ≡ verdict (judge_metadata any_item 0 p)) verdict_of
-MetadataJudge = judges_rightly (λ p r meets. meets) metadata_verdicts
+pub metadata_judge : JudgesRightly (λ p r. verdict_of r ≡ verdict (judge_metadata any_item 0 p)) verdict_of
+metadata_judge = judges_rightly (λ p r meets. meets) metadata_verdicts
 
-pub WmMetadataJudge : JudgesRightly (λ p a. call.wm_metadata_judge p a) says_verdict
-WmMetadataJudge = judges_rightly (λ p a meets. ap says_verdict meets ∙ verdict_said (length p) (verdict (judge_metadata any_item 0 p))) metadata_verdicts
+pub wm_metadata_judge : JudgesRightly (λ p a. call.WmMetadataJudge p a) says_verdict
+wm_metadata_judge = judges_rightly (λ p a meets. ap says_verdict meets ∙ verdict_said (length p) (verdict (judge_metadata any_item 0 p))) metadata_verdicts
 
-pub MetadataJudgeHints : JudgesRightly (λ p r. verdict_of r ≡ verdict (judge_metadata hint_item 0 p)) verdict_of
-MetadataJudgeHints = judges_rightly (λ p r meets. meets) hints_verdicts
+pub metadata_judge_hints : JudgesRightly (λ p r. verdict_of r ≡ verdict (judge_metadata hint_item 0 p)) verdict_of
+metadata_judge_hints = judges_rightly (λ p r meets. meets) hints_verdicts
 
-pub WmHintsJudge : JudgesRightly (λ p a. call.wm_hints_judge p a) says_verdict
-WmHintsJudge = judges_rightly (λ p a meets. ap says_verdict meets ∙ verdict_said (length p) (verdict (judge_metadata hint_item 0 p))) hints_verdicts
+pub wm_hints_judge : JudgesRightly (λ p a. call.WmHintsJudge p a) says_verdict
+wm_hints_judge = judges_rightly (λ p a meets. ap says_verdict meets ∙ verdict_said (length p) (verdict (judge_metadata hint_item 0 p))) hints_verdicts
 
 -- Hints of the older edition: a payload without entries is accepted; one without its count, and a byte that is not zero, are refused
 older_verdicts : Verdicts (λ p. verdict (judge_older 0 p))
 unfolding hex digit number groups times vector zero_byte older_kind older_hint older_entry judge_older
 older_verdicts = record { fine = hex "00"; bad = refuses (hex "") 2 0; worse = refuses (hex "01 00 80 00 00") 17 2; is_fine = λ h. h; is_bad = refl; is_worse = refl; apart = refl }
 
-pub OlderJudge : JudgesRightly (λ p r. verdict_of r ≡ verdict (judge_older 0 p)) verdict_of
-OlderJudge = judges_rightly (λ p r meets. meets) older_verdicts
+pub older_judge : JudgesRightly (λ p r. verdict_of r ≡ verdict (judge_older 0 p)) verdict_of
+older_judge = judges_rightly (λ p r meets. meets) older_verdicts
 
-pub WmOldHintsJudge : JudgesRightly (λ p a. call.wm_old_hints_judge p a) says_verdict
-WmOldHintsJudge = judges_rightly (λ p a meets. ap says_verdict meets ∙ verdict_said (length p) (verdict (judge_older 0 p))) older_verdicts
+pub wm_old_hints_judge : JudgesRightly (λ p a. call.WmOldHintsJudge p a) says_verdict
+wm_old_hints_judge = judges_rightly (λ p a meets. ap says_verdict meets ∙ verdict_said (length p) (verdict (judge_older 0 p))) older_verdicts

@@ -64,8 +64,8 @@ made_computed = refl
 pub make : Demanded (λ (x : Lent) (r : Answer × List ℕ × List ℕ). MarkersMake x.0 x.1 x.2 r.1 r.2 r.0) (λ r. (answered r.0, r.1, r.2)) making_rows
 make = by_table (λ x r meets. let one = meets.says in let two = meets.indices in let three = meets.offsets in λ i. (one i, two i, three i)) making_rows made_computed
 
-pub WmMarkers : Demanded (λ (x : Lent) (r : WmAnswer × List ℕ × List ℕ). call.wm_markers x.0 x.1 x.2 r.1 r.2 r.0) (λ r. (says_place r.0, r.1, r.2)) making_rows
-WmMarkers = by_table (λ x r meets. let one = ap says_place meets.says ∙ place_said (map_judged made_as (made x.0 x.1 x.2)) in let two = meets.indices in let three = meets.offsets in λ i. (one i, two i, three i)) making_rows made_computed
+pub wm_markers : Demanded (λ (x : Lent) (r : WmAnswer × List ℕ × List ℕ). call.WmMarkers x.0 x.1 x.2 r.1 r.2 r.0) (λ r. (says_place r.0, r.1, r.2)) making_rows
+wm_markers = by_table (λ x r meets. let one = ap says_place meets.says ∙ place_said (map_judged made_as (made x.0 x.1 x.2)) in let two = meets.indices in let three = meets.offsets in λ i. (one i, two i, three i)) making_rows made_computed
 
 -- THE QUICK QUESTION. What is lent: a payload, two lists, an end and the function asked
 abbrev Asked : Type 0
@@ -129,5 +129,5 @@ quick_computed = refl
 pub quick : Demanded (λ (x : Asked) r. MarkersQuick x.0 x.1 x.2 x.3 (record { 0 = x.4 }) r) answered quick_rows
 quick = by_table (λ x r meets. meets) quick_rows quick_computed
 
-pub WmQuickFunctionName : Demanded (λ (x : Asked) a. call.wm_quick_function_name x.0 x.1 x.2 x.3 x.4 a) says_place quick_rows
-WmQuickFunctionName = by_table (λ x a meets. ap says_place meets ∙ place_said (asking x)) quick_rows quick_computed
+pub wm_quick_function_name : Demanded (λ (x : Asked) a. call.WmQuickFunctionName x.0 x.1 x.2 x.3 x.4 a) says_place quick_rows
+wm_quick_function_name = by_table (λ x a meets. ap says_place meets ∙ place_said (asking x)) quick_rows quick_computed

@@ -59,11 +59,11 @@ judged_computed : map (λ (row : Row (List ℕ) (Judged (Unit {0}))). verdict (j
 unfolding hex digit number groups times vector zero_byte older_kind older_hint older_entry judge_older
 judged_computed = refl
 
-pub OlderJudge : Demanded (λ p r. verdict_of r ≡ verdict (judge_older 0 p)) verdict_of judged_rows
-OlderJudge = by_table (λ p r meets. meets) judged_rows judged_computed
+pub older_judge : Demanded (λ p r. verdict_of r ≡ verdict (judge_older 0 p)) verdict_of judged_rows
+older_judge = by_table (λ p r meets. meets) judged_rows judged_computed
 
-pub WmOldHintsJudge : Demanded (λ p a. call.wm_old_hints_judge p a) says_verdict judged_rows
-WmOldHintsJudge = by_table (λ p a meets. ap says_verdict meets ∙ verdict_said (length p) (verdict (judge_older 0 p))) judged_rows judged_computed
+pub wm_old_hints_judge : Demanded (λ p a. call.WmOldHintsJudge p a) says_verdict judged_rows
+wm_old_hints_judge = by_table (λ p a meets. ap says_verdict meets ∙ verdict_said (length p) (verdict (judge_older 0 p))) judged_rows judged_computed
 
 -- "so the first hint in the file for a pair answers: unlikely for kind 0, likely for kind 1, however the kind is padded, and none without one"
 abbrev pub asked_rows : List (Row (List ℕ × FunctionIndex × InstructionOffset) (Judged (Option Hint)))
@@ -80,9 +80,9 @@ asked_rows =
     (hex "00", record { 0 = 0 }, record { 0 = 5 }) demands accepted none ∷
     []
 
-pub IsOlderHint : HintsDemanded (λ (x : List ℕ × FunctionIndex × InstructionOffset). ask_older x.1 x.2 0 x.0) asked_rows
+pub is_older_hint : HintsDemanded (λ (x : List ℕ × FunctionIndex × InstructionOffset). ask_older x.1 x.2 0 x.0) asked_rows
 unfolding hex digit number groups times vector zero_byte older_kind older_hint older_entry judge_older first_at first_in ask_older
-IsOlderHint = hints_demanded _ asked_rows refl
+is_older_hint = hints_demanded _ asked_rows refl
 
 -- "so the editions are kept and asked apart": modules with one of the two sections, and with both. Of function 2 and offset 5 the older says unlikely and the newer likely. The walk comes first
 unfoldable pub older_section : String → List ℕ
@@ -130,9 +130,9 @@ pub rewrite_older : Demanded (promised canonical_older) (λ r. wrote (written_as
 unfolding same hex digit number groups shortest fewest size write_rows write_table times vector zero_byte older_kind older_hint older_entry judge_older put_first amend with_hints sorted_from write_older_hints write_older not_too_long canonical_older fitting write_answer output_after
 rewrite_older = by_table (written_told canonical_older) written_rows refl
 
-pub WmOldHintsCanonical : Demanded (WmPromised canonical_older) (λ a. wrote (says_count a.0) a.1) written_rows
+pub wm_old_hints_canonical : Demanded (WmPromised canonical_older) (λ a. wrote (says_count a.0) a.1) written_rows
 unfolding same hex digit number groups shortest fewest size write_rows write_table times vector zero_byte older_kind older_hint older_entry judge_older put_first amend with_hints sorted_from write_older_hints write_older not_too_long canonical_older fitting write_answer output_after
-WmOldHintsCanonical = by_table (wm_written_told canonical_older) written_rows refl
+wm_old_hints_canonical = by_table (wm_written_told canonical_older) written_rows refl
 
 -- "every pair once, by function and offset, with the hint that answers", into three lists, which keep what stands behind the rows: in no order, and in order; a pair twice, and a list with room for it once; a function without hints; no hints; each of the lists too short, and a refusal before that
 abbrev Lent : Type 0
@@ -168,8 +168,8 @@ listed_computed : map (λ (row : Row Lent Said). listing row.input) listed_rows 
 unfolding hex digit number groups times vector zero_byte older_kind older_hint older_entry judge_older put_first amend with_hints sorted_from rows_under group_rows older_rows fit_each fitting_rows over_each
 listed_computed = refl
 
-pub ReorderingList : Demanded (λ (x : Lent) (r : Answer × List (List ℕ)). list.reordering_list x.0 x.1 r.1 r.0) (λ r. (answered r.0, r.1)) listed_rows
-ReorderingList = by_table (λ x r meets. let one = meets.says in let two = meets.leaves in λ i. (one i, two i)) listed_rows listed_computed
+pub reordering_list : Demanded (λ (x : Lent) (r : Answer × List (List ℕ)). list.ReorderingList x.0 x.1 r.1 r.0) (λ r. (answered r.0, r.1)) listed_rows
+reordering_list = by_table (λ x r meets. let one = meets.says in let two = meets.leaves in λ i. (one i, two i)) listed_rows listed_computed
 
-pub WmOldHintsList : Demanded (λ (x : Lent) (r : WmAnswer × List (List ℕ)). call.wm_old_hints_list x.0 x.1 r.1 r.0) (λ r. (says_place r.0, r.1)) listed_rows
-WmOldHintsList = by_table (λ x r meets. let one = ap says_place meets.says ∙ place_said (map_judged (map_some rows_found) (fitting_rows x.1 (older_rows x.0))) in let two = meets.leaves in λ i. (one i, two i)) listed_rows listed_computed
+pub wm_old_hints_list : Demanded (λ (x : Lent) (r : WmAnswer × List (List ℕ)). call.WmOldHintsList x.0 x.1 r.1 r.0) (λ r. (says_place r.0, r.1)) listed_rows
+wm_old_hints_list = by_table (λ x r meets. let one = ap says_place meets.says ∙ place_said (map_judged (map_some rows_found) (fitting_rows x.1 (older_rows x.0))) in let two = meets.leaves in λ i. (one i, two i)) listed_rows listed_computed

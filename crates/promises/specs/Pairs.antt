@@ -83,11 +83,11 @@ wide_pairs_computed = refl
 pub ask_pair_lem : Demanded (λ (x : Asked) (r : PairAnswer). PairsAsk x.1 x.2 First x.0 r) pair_answered pair_rows
 ask_pair_lem = by_table (λ x r meets. meets) pair_rows pairs_computed
 
-pub WmPair : Demanded (λ (x : Asked) (a : WmPairAnswer). call.wm_pair x.0 x.1 x.2 a) says_pair pair_rows
-WmPair = by_table (λ x a meets. ap says_pair meets ∙ pair_answer_said (as_places (ask_pair known_kind x.0 x.1 x.2))) pair_rows pairs_computed
+pub wm_pair : Demanded (λ (x : Asked) (a : WmPairAnswer). call.WmPair x.0 x.1 x.2 a) says_pair pair_rows
+wm_pair = by_table (λ x a meets. ap says_pair meets ∙ pair_answer_said (as_places (ask_pair known_kind x.0 x.1 x.2))) pair_rows pairs_computed
 
-pub WmWidePair : Demanded (λ (x : Asked) (a : WmPairAnswer). call.wm_wide_pair x.0 x.1 x.2 a) says_pair wide_pair_rows
-WmWidePair = by_table (λ x a meets. ap says_pair meets ∙ pair_answer_said (as_places (ask_pair wider_kind x.0 x.1 x.2))) wide_pair_rows wide_pairs_computed
+pub wm_wide_pair : Demanded (λ (x : Asked) (a : WmPairAnswer). call.WmWidePair x.0 x.1 x.2 a) says_pair wide_pair_rows
+wm_wide_pair = by_table (λ x a meets. ap says_pair meets ∙ pair_answer_said (as_places (ask_pair wider_kind x.0 x.1 x.2))) wide_pair_rows wide_pairs_computed
 
 -- the separate payload, the own one and the output; what is said, and what the output holds then
 abbrev Lent : Type 0
@@ -134,8 +134,8 @@ both p q = λ i. (p i, q i)
 pub join : Demanded (λ (x : Lent) (r : JoinWritten × List ℕ). JoiningJoin x.0 x.1 First x.2 r.1 r.0) (λ r. (join_written_as r.0, r.1)) join_rows
 join = by_table (λ x r meets. both meets.says meets.leaves) join_rows joins_computed
 
-pub WmPairJoin : Demanded (λ (x : Lent) (r : WmPairAnswer × List ℕ). call.wm_pair_join x.0 x.1 x.2 r.1 r.0) (λ r. (says_join r.0, r.1)) join_rows
-WmPairJoin = by_table (λ x r meets. both (ap says_join meets.says ∙ join_answer_said (join_answer (length x.2) (join_names known_kind x.0 x.1))) meets.leaves) join_rows joins_computed
+pub wm_pair_join : Demanded (λ (x : Lent) (r : WmPairAnswer × List ℕ). call.WmPairJoin x.0 x.1 x.2 r.1 r.0) (λ r. (says_join r.0, r.1)) join_rows
+wm_pair_join = by_table (λ x r meets. both (ap says_join meets.says ∙ join_answer_said (join_answer (length x.2) (join_names known_kind x.0 x.1))) meets.leaves) join_rows joins_computed
 
-pub WmWidePairJoin : Demanded (λ (x : Lent) (r : WmPairAnswer × List ℕ). call.wm_wide_pair_join x.0 x.1 x.2 r.1 r.0) (λ r. (says_join r.0, r.1)) wide_join_rows
-WmWidePairJoin = by_table (λ x r meets. both (ap says_join meets.says ∙ join_answer_said (join_answer (length x.2) (join_names wider_kind x.0 x.1))) meets.leaves) wide_join_rows wide_joins_computed
+pub wm_wide_pair_join : Demanded (λ (x : Lent) (r : WmPairAnswer × List ℕ). call.WmWidePairJoin x.0 x.1 x.2 r.1 r.0) (λ r. (says_join r.0, r.1)) wide_join_rows
+wm_wide_pair_join = by_table (λ x r meets. both (ap says_join meets.says ∙ join_answer_said (join_answer (length x.2) (join_names wider_kind x.0 x.1))) meets.leaves) wide_join_rows wide_joins_computed

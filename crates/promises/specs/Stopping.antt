@@ -193,6 +193,6 @@ older_rows =
     (hex "01 02 00 01 01 05 00", record { 0 = 2 }, record { 0 = 5 }) demands refused 10 6 ∷
     []
 
-pub IsOlderHint : HintsDemanded (λ (x : List ℕ × FunctionIndex × InstructionOffset). ask_older x.1 x.2 0 x.0) older_rows
+pub is_older_hint : HintsDemanded (λ (x : List ℕ × FunctionIndex × InstructionOffset). ask_older x.1 x.2 0 x.0) older_rows
 unfolding hex digit number groups times vector zero_byte older_kind older_hint older_entry judge_older first_at first_in ask_older
-IsOlderHint = hints_demanded _ older_rows refl
+is_older_hint = hints_demanded _ older_rows refl

@@ -54,7 +54,7 @@ pub names_is_canonical_told : Demanded NamesIsCanonical (λ r. r) (names_rows tr
 unfolding names_rows hex digit same number groups shortest fewest utf8 characters character completes sized name remaining lookup size map_table rows table known known_kind contents subsections payload judge_names write_part write_rows write_table unless_empty keep_rows bare write_content write_subsections rewrite_names canonical_names is_its_rewriting names_are_canonical
 names_is_canonical_told = by_table (λ p r meets. meets) (names_rows true false) refl
 
-pub wm_names_is_canonical_told : Demanded call.wm_names_is_canonical (λ y. y) (names_rows 1 0)
+pub wm_names_is_canonical_told : Demanded call.WmNamesIsCanonical (λ y. y) (names_rows 1 0)
 unfolding names_rows hex digit same number groups shortest fewest utf8 characters character completes sized name remaining lookup size map_table rows table known known_kind contents subsections payload judge_names write_part write_rows write_table unless_empty keep_rows bare write_content write_subsections rewrite_names canonical_names is_its_rewriting names_are_canonical
 wm_names_is_canonical_told = by_table (λ p y meets. meets) (names_rows 1 0) refl
 
@@ -62,7 +62,7 @@ pub names_is_canonical_widely_told : Demanded NamesIsCanonicalWidely (λ r. r) (
 unfolding wide_rows hex digit same number groups shortest fewest utf8 characters character completes sized name remaining lookup size map_table rows table wider wider_kind contents subsections payload judge_names write_part write_rows write_table unless_empty keep_rows bare write_content write_subsections rewrite_names canonical_names is_its_rewriting names_are_canonical
 names_is_canonical_widely_told = by_table (λ p r meets. meets) (wide_rows true false) refl
 
-pub wm_wide_names_is_canonical_told : Demanded call.wm_wide_names_is_canonical (λ y. y) (wide_rows 1 0)
+pub wm_wide_names_is_canonical_told : Demanded call.WmWideNamesIsCanonical (λ y. y) (wide_rows 1 0)
 unfolding wide_rows hex digit same number groups shortest fewest utf8 characters character completes sized name remaining lookup size map_table rows table wider wider_kind contents subsections payload judge_names write_part write_rows write_table unless_empty keep_rows bare write_content write_subsections rewrite_names canonical_names is_its_rewriting names_are_canonical
 wm_wide_names_is_canonical_told = by_table (λ p y meets. meets) (wide_rows 1 0) refl
 
@@ -70,7 +70,7 @@ pub metadata_is_canonical_told : Demanded MetadataIsCanonical (λ r. r) (items_r
 unfolding items_rows hex digit same number groups shortest fewest sized lookup size map_table rows table any_item metadata judge_metadata write_part write_rows write_table unless_empty keep_rows rewrite_metadata canonical_of is_its_rewriting items_are_canonical
 metadata_is_canonical_told = by_table (λ p r meets. meets) (items_rows true false) refl
 
-pub wm_metadata_is_canonical_told : Demanded call.wm_metadata_is_canonical (λ y. y) (items_rows 1 0)
+pub wm_metadata_is_canonical_told : Demanded call.WmMetadataIsCanonical (λ y. y) (items_rows 1 0)
 unfolding items_rows hex digit same number groups shortest fewest sized lookup size map_table rows table any_item metadata judge_metadata write_part write_rows write_table unless_empty keep_rows rewrite_metadata canonical_of is_its_rewriting items_are_canonical
 wm_metadata_is_canonical_told = by_table (λ p y meets. meets) (items_rows 1 0) refl
 
@@ -78,7 +78,7 @@ pub metadata_are_hints_canonical_told : Demanded MetadataAreHintsCanonical (λ r
 unfolding items_rows hex digit same number groups shortest fewest sized lookup size map_table rows table hint_of hint_item metadata judge_metadata write_part write_rows write_table unless_empty keep_rows rewrite_metadata canonical_of is_its_rewriting items_are_canonical
 metadata_are_hints_canonical_told = by_table (λ p r meets. meets) (items_rows true false) refl
 
-pub wm_hints_is_canonical_told : Demanded call.wm_hints_is_canonical (λ y. y) (items_rows 1 0)
+pub wm_hints_is_canonical_told : Demanded call.WmHintsIsCanonical (λ y. y) (items_rows 1 0)
 unfolding items_rows hex digit same number groups shortest fewest sized lookup size map_table rows table hint_of hint_item metadata judge_metadata write_part write_rows write_table unless_empty keep_rows rewrite_metadata canonical_of is_its_rewriting items_are_canonical
 wm_hints_is_canonical_told = by_table (λ p y meets. meets) (items_rows 1 0) refl
 
@@ -101,6 +101,6 @@ pub reordering_is_canonical_told : Demanded ReorderingIsCanonical (λ r. r) (old
 unfolding older_rows hex digit same number groups shortest fewest size write_rows write_table times vector zero_byte older_kind older_hint older_entry judge_older put_first amend with_hints sorted_from write_older_hints write_older not_too_long canonical_older is_its_rewriting older_is_canonical
 reordering_is_canonical_told = by_table (λ p r meets. meets) (older_rows true false) refl
 
-pub wm_old_hints_is_canonical_told : Demanded call.wm_old_hints_is_canonical (λ y. y) (older_rows 1 0)
+pub wm_old_hints_is_canonical_told : Demanded call.WmOldHintsIsCanonical (λ y. y) (older_rows 1 0)
 unfolding older_rows hex digit same number groups shortest fewest size write_rows write_table times vector zero_byte older_kind older_hint older_entry judge_older put_first amend with_hints sorted_from write_older_hints write_older not_too_long canonical_older is_its_rewriting older_is_canonical
 wm_old_hints_is_canonical_told = by_table (λ p y meets. meets) (older_rows 1 0) refl

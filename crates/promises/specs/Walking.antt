@@ -57,8 +57,8 @@ module _ {Result : Type 0} {promise : List ℕ → Result → Type 0} {says : Re
 pub count : CountsRightly (λ m r. counted r ≡ section_count m) counted
 count = counts_rightly (λ m r meets. meets)
 
-pub WmWalk : CountsRightly (λ m a. call.wm_walk m a) says_count
-WmWalk = counts_rightly (λ m a meets. ap says_count meets ∙ count_said (section_count m))
+pub wm_walk : CountsRightly (λ m a. call.WmWalk m a) says_count
+wm_walk = counts_rightly (λ m a meets. ap says_count meets ∙ count_said (section_count m))
 
 -- the one pass that all questions of the walk share, whichever position and name it looks for
 abbrev count_surveyed : Surveyed → Judged ℕ
@@ -66,8 +66,8 @@ count_surveyed (WholeSurveyed t) = accepted t.count
 count_surveyed (NotSurveyed r) = refused (number_of r.reason) r.offset.0
 
 survey_told : (position : ℕ) (name : List ℕ) → Tells (λ m r. Surveys m position name r) count_surveyed section_count
-survey_told position name m (WholeSurveyed t) meets = count_found meets refl
-survey_told position name m (NotSurveyed r) meets = count_refused meets refl
+survey_told position _ m (WholeSurveyed t) meets = count_found meets refl
+survey_told position _ m (NotSurveyed r) meets = count_refused meets refl
 
 pub survey : (position : ℕ) (name : List ℕ) → CountsRightly (λ m r. Surveys m position name r) count_surveyed
 survey position name = counts_rightly (survey_told position name)
@@ -96,8 +96,8 @@ section_answers = record {
 pub section_at_lem : AnswersRightly (λ (x : List ℕ × ℕ) r. section_answered r ≡ map_judged (map_some section_place) (section_at x.1 x.0)) section_answered (λ s. s.length) 0
 section_at_lem = answers_rightly (λ x r meets. meets) section_answers
 
-pub WmSection : AnswersRightly (λ (x : List ℕ × ℕ) a. call.wm_section x.1 x.0 a) says_section (λ s. s.length) 0
-WmSection = answers_rightly (λ x a meets. ap says_section meets ∙ section_said (section_wanted x)) section_answers
+pub wm_section : AnswersRightly (λ (x : List ℕ × ℕ) a. call.WmSection x.1 x.0 a) says_section (λ s. s.length) 0
+wm_section = answers_rightly (λ x a meets. ap says_section meets ∙ section_said (section_wanted x)) section_answers
 
 -- the payload of the first custom section of a name, also of one that is lent in two pieces
 pub custom_payload_lem : PlaceCalls (λ (x : List ℕ × List ℕ). as_place (custom_payload x.1 x.0))

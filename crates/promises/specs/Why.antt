@@ -55,11 +55,11 @@ locals_computed = refl
 pub why_function_lem : Demanded (λ x r. NeighboursWhyFunction x.0 (record { 0 = x.1 }) r) why_meant function_rows
 why_function_lem = by_table (λ x r meets. meets) function_rows functions_computed
 
-pub WmWhyFunction : Demanded (λ x a. call.wm_why_function x.1 x.0 a) says_why function_rows
-WmWhyFunction = by_table (λ x a meets. ap says_why meets ∙ why_said (why_function (record { 0 = x.1 }) x.0)) function_rows functions_computed
+pub wm_why_function : Demanded (λ x a. call.WmWhyFunction x.1 x.0 a) says_why function_rows
+wm_why_function = by_table (λ x a meets. ap says_why meets ∙ why_said (why_function (record { 0 = x.1 }) x.0)) function_rows functions_computed
 
 pub why_local_lem : Demanded (λ x r. NeighboursWhyLocal x.0 (record { 0 = x.1 }) (record { 0 = x.2 }) r) why_meant local_rows
 why_local_lem = by_table (λ x r meets. meets) local_rows locals_computed
 
-pub WmWhyLocal : Demanded (λ x a. call.wm_why_local x.1 x.2 x.0 a) says_why local_rows
-WmWhyLocal = by_table (λ x a meets. ap says_why meets ∙ why_said (why_local (record { 0 = x.1 }) (record { 0 = x.2 }) x.0)) local_rows locals_computed
+pub wm_why_local : Demanded (λ x a. call.WmWhyLocal x.1 x.2 x.0 a) says_why local_rows
+wm_why_local = by_table (λ x a meets. ap says_why meets ∙ why_said (why_local (record { 0 = x.1 }) (record { 0 = x.2 }) x.0)) local_rows locals_computed

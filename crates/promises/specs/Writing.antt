@@ -126,9 +126,9 @@ module _ (wanted : List ℕ → Judged (List ℕ)) where
   }
 
 -- A padded function name; nothing but an empty map; a map's second entry damaged; an output that is too short
-pub RewriteNames : RewriteCalls (canonical_names known_kind)
+pub rewrite_names_lem : RewriteCalls (canonical_names known_kind)
 unfolding same hex digit number groups shortest fewest utf8 characters character completes sized name remaining lookup size map_table rows table known known_kind contents subsections payload judge_names write_part write_rows write_table unless_empty keep_rows bare write_content write_subsections rewrite_names canonical_names fitting write_answer output_after
-RewriteNames = rewrite_calls (canonical_names known_kind) (record {
+rewrite_names_lem = rewrite_calls (canonical_names known_kind) (record {
   one = finds (hex "01 85 00 01 00 81 00 61", hex "AA AA AA AA AA AA AA") (hex "01 04 01 00 01 61");
   another = finds (hex "01 01 00", hex "AA") [];
   bad = refuses (hex "01 07 02 03 01 62 03 01 61", hex "AA AA AA AA AA AA AA AA AA") 11 6;
@@ -160,9 +160,9 @@ rewrite_wide_names = rewrite_calls (canonical_names wider_kind) (record {
 }) refl
 
 -- A padded size and count; no function; the second function damaged; an output that is too short
-pub RewriteMetadata : RewriteCalls canonical_metadata
+pub rewrite_metadata_lem : RewriteCalls canonical_metadata
 unfolding same hex digit number groups shortest fewest sized size map_table rows table any_item metadata judge_metadata write_part write_rows write_table unless_empty keep_rows rewrite_metadata canonical_of canonical_metadata fitting write_answer output_after
-RewriteMetadata = rewrite_calls canonical_metadata (record {
+rewrite_metadata_lem = rewrite_calls canonical_metadata (record {
   one = finds (hex "01 02 81 00 05 80 00", hex "AA AA AA AA AA AA") (hex "01 02 01 05 00");
   another = finds (hex "01 02 00", hex "AA") (hex "00");
   bad = refuses (hex "02 02 01 05 01 41 02 00", hex "AA AA AA AA AA AA AA AA") 11 6;
@@ -177,9 +177,9 @@ RewriteMetadata = rewrite_calls canonical_metadata (record {
 }) refl
 
 -- A function without items; nothing but one; the second hint damaged; an output that is too short
-pub RewriteHints : RewriteCalls canonical_hints
+pub rewrite_hints : RewriteCalls canonical_hints
 unfolding same hex digit number groups shortest fewest sized size map_table rows table hint_of hint_item metadata judge_metadata write_part write_rows write_table unless_empty keep_rows rewrite_metadata canonical_of canonical_hints fitting write_answer output_after
-RewriteHints = rewrite_calls canonical_hints (record {
+rewrite_hints = rewrite_calls canonical_hints (record {
   one = finds (hex "02 02 00 03 01 05 01 01", hex "AA AA AA AA AA AA AA") (hex "01 03 01 05 01 01");
   another = finds (hex "01 02 00", hex "AA") (hex "00");
   bad = refuses (hex "01 02 02 05 01 01 06 01 02", hex "AA AA AA AA AA AA AA AA AA") 12 7;

@@ -36,7 +36,7 @@ use Rattle.promises.specs.Laws.Sharing.{seen, sees, past, ForRoom, never_for_roo
 one_more : {t u v : Table} {s r x buffer : List ℕ} {es : List TableEvent} {a : WmAnswer} (call : Call) → Shares u r call v x buffer a → events.Onward names seen t s es u r → events.Onward names seen t s (event call (a, buffer) ∷ es) v x
 one_more call x h = rw (x.table, x.stored, x.lent, x.says) (once_more call h)
 
-onward_as : {t u : SharedTable} {s r : List ℕ} {es : List TableEvent} → Onward t s es u r → events.Onward names seen (table_of t) s es (table_of u) r
+onward_as : {t : SharedTable} {s : List ℕ} {u : SharedTable} {r : List ℕ} {es : List TableEvent} → Onward t s es u r → events.Onward names seen (table_of t) s es (table_of u) r
 onward_as none_yet = nothing_yet
 onward_as (next_open customer payload work work' is o) = one_more (opening customer payload work) is.shares (onward_as o)
 onward_as (next_question customer hold function out out' is o) = one_more (asking customer hold function out) is (onward_as o)

@@ -255,6 +255,7 @@ at_head (further m) = inr m
 
 module _ (k : ℕ) (high : 26 < k) (other : is_among numbers k ≡ false) where
   never_here : {es : List TableEvent} {t : Table} {s : List ℕ} → Past names seen es t s → (call : Call) (r : WmAnswer × List ℕ) → Among (event call r) es → (at : ℕ) → r.0 ≡ wm_refused k at → ⊥
+  never_here (begun n k more few) call r m at e = elim m [ ]
   never_here (called {es = es} {t = t} {s = s} asked past) call r m at e = on (λ n. never_here past call r n at e) (at_head m)
     where
       on : (Among (event call r) es → ⊥) → (event call r ≡ event asked (seen (step names t s asked).answer)) ⊎ Among (event call r) es → ⊥

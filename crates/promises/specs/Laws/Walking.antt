@@ -202,6 +202,7 @@ module _ (name : List ℕ) where
 
   first_payload : (read : List Section) {x : List ℕ} → First name x (bare_sections read) → map_some (λ p. p.bytes) (payload_in name read) ≡ some x
   unfolding payload_in
+  first_payload [] first = elim first [ ]
   first_payload (s ∷ ss) (first_here is) =
       by_option (payload_of name s.custom)
       (λ n. absurd (no_payload s.custom n is))
