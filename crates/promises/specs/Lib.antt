@@ -7,14 +7,7 @@ pub mod FirstEntries
 pub mod Stopping
 pub mod Asking
 pub mod Handing
-pub mod Walking
 pub mod Writing
 pub mod Telling
-pub mod Older
-pub mod Why
-pub mod Markers
-pub mod Pairs
-pub mod Branching
 pub mod Demands
 pub mod Laws
-pub mod Proved

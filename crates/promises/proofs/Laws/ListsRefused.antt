@@ -4,7 +4,7 @@ use Rattle.std.proofs.Common.{sym, subst}
 use Rattle.format.specs.Lists.{function_names}
 use Rattle.grammar.proofs.Laws.Faults.Writing.{lists_stop, by_fault}
 use Rattle.promises.specs.Demands.{ListsRefused, lists_fault, output_too_short, by_aFault, too_short}
-use Rattle.promises.specs.Laws.Exactly.{JudgedOrShort, as_refused, as_short}
+use Rattle.promises.proofs.Laws.Exactly.{JudgedOrShort, as_refused, as_short}
 use Rattle.promises.specs.Laws.Lists.{fine_wanted, fine_long}
 
 module _ (is ns text : List ℕ) (room : ℕ) where

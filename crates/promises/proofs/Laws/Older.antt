@@ -29,7 +29,7 @@ use Rattle.grammar.specs.Older.{OlderHints}
 use Rattle.wakemiono.specs.Boundary.{wm_refused, wm_hint, WmWrites}
 use Rattle.wakemiono.specs.declared.WmAnswer.{WmAnswer}
 use Rattle.promises.specs.Demands.{from_function, in_file, FirstHint, functions_of, offsets_of, InOrder, by_aFault, too_short, OlderRefused, older_fault, older_too_long, older_too_short}
-use Rattle.promises.specs.Laws.Exactly.{RefusedBy, JudgedOrShort, as_refused, as_short, written_exactly}
+use Rattle.promises.proofs.Laws.Exactly.{RefusedBy, JudgedOrShort, as_refused, as_short, written_exactly}
 use Rattle.grammar.proofs.Laws.Faults.Writing.{rising_of}
 use Rattle.promises.specs.Laws.Outputs.{wrote, wrote_first}
 use Rattle.promises.specs.Laws.Refusing.{older_not_15}

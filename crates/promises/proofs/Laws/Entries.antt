@@ -34,9 +34,9 @@ use Rattle.wakemiono.specs.Boundary.{wm_found, WmLists, WmWrites}
 use Rattle.wakemiono.specs.declared.WmAnswer.{WmAnswer}
 use Rattle.promises.specs.Demands.{Leaves, PlaceAt, HintAt, text_at, NamesListed, MetadataListed, HintsListed}
 use Rattle.promises.specs.Laws.EntryRows.{bare_row, RowIn, IsHint, Meant, names_meant, none_meant, items_meant, hints_are}
-use Rattle.promises.specs.Laws.Faults.{faults}
-use Rattle.promises.specs.Laws.Markers.{put_first, first_of}
-use Rattle.promises.specs.Laws.OldLists.{at_inside, map_at}
+use Rattle.promises.proofs.Laws.Faults.{faults}
+use Rattle.promises.proofs.Laws.Markers.{put_first, first_of}
+use Rattle.promises.proofs.Laws.OldLists.{at_inside, map_at}
 use Rattle.promises.specs.Laws.Rows.{Came, came_refused, came_none_lem, came_short, came_listed, came, came_unchanged, rows_answered, came_reply, came_rows, came_none}
 use Rattle.promises.specs.Laws.Refusing.{names_fair, any_fair, hint_fair, items_fair}
 use Rattle.promises.specs.Laws.WrittenBack.{text_of, indices_of, lengths_of, names_of, written_back}

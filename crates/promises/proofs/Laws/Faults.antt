@@ -17,7 +17,7 @@ use Rattle.grammar.specs.Metadata.{Unknown, BranchHint}
 use Rattle.grammar.proofs.Refusing.{Refuses, metadata_refused, hints_refused, modules_refused}
 use Rattle.wakemiono.specs.declared.WmAnswer.{WmAnswer}
 use Rattle.promises.specs.Demands.{Answers, Writing, RefusedThrough, by_the_walk, by_its_payload, FormatFault, of_hints, of_any_other, RefusedOrShort, by_aFault, too_short, OlderRefused, older_fault, older_too_long, older_too_short}
-use Rattle.promises.specs.Laws.Exactly.{RefusedBy, JudgedThrough, walk_refused, payload_refused}
+use Rattle.promises.proofs.Laws.Exactly.{RefusedBy, JudgedThrough, walk_refused, payload_refused}
 
 -- what is said of a refusal may be said in another way
 pub answers_otherwise : {Forms : WmAnswer → Type 0} {R S : (number offset : ℕ) → Type 0} {a : WmAnswer} → Answers Forms R a → ((n at : ℕ) → R n at ↔ S n at) → Answers Forms S a

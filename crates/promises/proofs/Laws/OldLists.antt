@@ -23,7 +23,7 @@ use Rattle.format.specs.declared.Hint.TheVariants.{Unlikely, Likely}
 use Rattle.wakemiono.specs.Boundary.{wm_none, wm_found, wm_refused, wm_hint, WmLists}
 use Rattle.wakemiono.specs.declared.WmAnswer.{WmAnswer}
 use Rattle.promises.specs.Demands.{Leaves, RowAt}
-use Rattle.promises.specs.Laws.Markers.{put_first, first_of, put_nothing}
+use Rattle.promises.proofs.Laws.Markers.{put_first, first_of, put_nothing}
 use Rattle.promises.specs.Laws.Rows.{Came, came_refused, came_none_lem, came_short, came_listed, came}
 
 -- POSITIONS in a list, in one that is joined of two, and in a column

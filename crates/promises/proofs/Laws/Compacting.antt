@@ -29,7 +29,7 @@ use Rattle.wakemiono.specs.Calls.{WmTableOpen, WmTableFunctionName, WmTableClose
 use Rattle.wakemiono.specs.Shared.{wm_shared, buffer_of, Shares}
 use Rattle.wakemiono.specs.declared.WmAnswer.{WmAnswer}
 use Rattle.promises.specs.Demands.{TableEvent, History, granted, users_at, MayOpen, OpenReply, open_no_customer, open_not_accepted, open_too_short, open_no_hold, open_no_room, open_stored, open_new, NeverForRoom, NotTheStore, other_length, no_blocks, Onward, none_yet, next_open, next_question, next_close, next_step, Eased, as_before, now_granted, Stepped}
-use Rattle.promises.specs.Laws.Sharing.{seen, sees, past, ForRoom, never_for_room, open_replies, elsewhere}
+use Rattle.promises.proofs.Laws.Sharing.{seen, sees, past, ForRoom, never_for_room, open_replies, elsewhere}
 
 -- Calls from a table on are steps from it on
 

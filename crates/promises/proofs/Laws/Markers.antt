@@ -23,7 +23,7 @@ use Rattle.grammar.proofs.Laws.Names.{source_ids, names_sound}
 use Rattle.wakemiono.specs.Boundary.{wm_found, wm_refused, wm_place, WmMakes}
 use Rattle.wakemiono.specs.declared.WmAnswer.{WmAnswer}
 use Rattle.grammar.proofs.Refusing.{names_refused}
-use Rattle.promises.specs.Laws.Faults.{faults}
+use Rattle.promises.proofs.Laws.Faults.{faults}
 use Rattle.promises.specs.Demands.{Leaves, FunctionNames, sixteenths, Marked, MarkersReply, markers_made, markers_refused_lem, MarkersRefused, payload_refused, payload_too_long, few_indices, few_offsets}
 use Rattle.promises.specs.Laws.FunctionNames.{MarksOf, function_markers, function_names_lem}
 use Rattle.promises.specs.Laws.Refusing.{Numbered, names_fair}

@@ -64,13 +64,13 @@ use Rattle.promises.specs.Laws.Lists.{lists_fine, fine_written}
 use Rattle.promises.specs.Laws.Lookups.{tells_as, asked_tells, asked_refused, likely_held, unlikely_held, no_hint_held, hint_refused, name_held, contents_held, entry_held, inner_held, within_held}
 use Rattle.promises.specs.Laws.Outputs.{wrote_leaves, wrote_short, wrote_again}
 use Rattle.promises.specs.Laws.Editions.{none_kept, within_one_edition, accepted_by_both, answered_alike}
-use Rattle.promises.specs.Laws.Exactly.{RefusedBy, JudgedThrough, walk_refused, payload_refused, JudgedOrShort, name_in_exactly, metadata_in_exactly, hint_in_exactly, older_in_exactly, written_exactly, rewritten_exactly}
-use Rattle.promises.specs.Laws.Entries.{lists_names, lists_metadata, lists_hints}
-use Rattle.promises.specs.Laws.ListsRefused.{lists_refused}
-use Rattle.promises.specs.Laws.Faults.{answers_otherwise, writes_otherwise, faults, or_short, older_or_short, through_faults, format_faults}
+use Rattle.promises.proofs.Laws.Exactly.{RefusedBy, JudgedThrough, walk_refused, payload_refused, JudgedOrShort, name_in_exactly, metadata_in_exactly, hint_in_exactly, older_in_exactly, written_exactly, rewritten_exactly}
+use Rattle.promises.proofs.Laws.Entries.{lists_names, lists_metadata, lists_hints}
+use Rattle.promises.proofs.Laws.ListsRefused.{lists_refused}
+use Rattle.promises.proofs.Laws.Faults.{answers_otherwise, writes_otherwise, faults, or_short, older_or_short, through_faults, format_faults}
 use Rattle.promises.specs.Laws.Rows.{rows_answered, came_rows}
-use Rattle.promises.specs.Laws.OldLists.{rows as older_listed, older_came, functions_listed, offsets_listed, likely_listed, row_told, every_row, no_row, rows_risen}
-use Rattle.promises.specs.Laws.Older.{older_likely, older_unlikely, older_none, older_hint_refused, older_refused, older_never_15, older_ordered, sections_apart, never_empty}
+use Rattle.promises.proofs.Laws.OldLists.{rows as older_listed, older_came, functions_listed, offsets_listed, likely_listed, row_told, every_row, no_row, rows_risen}
+use Rattle.promises.proofs.Laws.Older.{older_likely, older_unlikely, older_none, older_hint_refused, older_refused, older_never_15, older_ordered, sections_apart, never_empty}
 use Rattle.promises.specs.Laws.Refusing.{Numbered, FairlyJudged, names_fair, any_fair, hint_fair, item_of_fair, items_fair, older_fair, older_fair_by, walk_fair}
 use Rattle.promises.specs.Laws.Rewriting.{WhereWritten, always_written, Asked, names_asked, metadata_asked, hints_asked, older_asked, names_written, metadata_written, hints_written, names_first_judged, metadata_first_judged, hints_first_judged, rewritten_same, rewritten_accepted, rewritten_alike, rewritten_shorter, rewritten_rests, rewritten_fits, rewriting_refused, names_refuse, metadata_refuse, hints_refuse, older_refuse, older_written}
 use Rattle.promises.specs.Laws.Saying.{Verdict as Says, judged_said, judged_whole, refused_said, hint_refused_said}
@@ -79,12 +79,12 @@ use Rattle.promises.specs.Laws.Telling.{number_told, else_zero, yes_told}
 use Rattle.promises.specs.Laws.Through.{name_through, hint_through, older_through, metadata_through, hint_data_through}
 use Rattle.promises.specs.Laws.Why.{function_in_1, local_in_2, says_why_lem}
 use Rattle.promises.specs.Laws.Branching.{imports_numbered, bodies_numbered, branches_fair}
-use Rattle.promises.specs.Laws.Compacting.{stepped, room_after, nobodys_call, compact_elsewhere, compact_damaged, compact_granted}
-use Rattle.promises.specs.Laws.Sharing.{open_replies, ask_replies, close_replies, table_users, table_used, table_kept, table_once, isolated_customer, shown_name, never_refused, open_refused, ask_refused, close_refused}
+use Rattle.promises.proofs.Laws.Compacting.{stepped, room_after, nobodys_call, compact_elsewhere, compact_damaged, compact_granted}
+use Rattle.promises.proofs.Laws.Sharing.{open_replies, ask_replies, close_replies, table_users, table_used, table_kept, table_once, isolated_customer, shown_name, never_refused, open_refused, ask_refused, close_refused}
 use Rattle.promises.specs.Laws.FunctionNames.{function_names_lem}
-use Rattle.promises.specs.Laws.Markers.{made_reply, markers_refused, markers_numbered, indices_left, offsets_left, markers_marked, own_answers, rule_followed, quick_refused, quick_numbered}
+use Rattle.promises.proofs.Laws.Markers.{made_reply, markers_refused, markers_numbered, indices_left, offsets_left, markers_marked, own_answers, rule_followed, quick_refused, quick_numbered}
 use Rattle.promises.specs.Laws.Pairs.{asks_pairs, hands_back}
-use Rattle.promises.specs.Laws.Joins.{joins_pairs}
+use Rattle.promises.proofs.Laws.Joins.{joins_pairs}
 use Rattle.promises.specs.Laws.Walking.{walked, walk_counts, section_found, section_first, section_none, section_refused, custom_tells, custom_refused}
 use Rattle.wakemiono.specs.Calls.{WmWalk, WmMetadataJudge, WmHintsJudge, WmMetadataCanonical, WmHintsCanonical, WmFunctionNamesWrite, WmOldHintsJudge, WmOldHintsCanonical, WmHintsOnBranches}
 use Rattle.promises.specs.Demands.{Verdict, Reply, SectionReply, HintReply, Answers, RefusedThrough, RefusedOrShort, ListsRefused, NeedsRoom, Writing, Demand1, HoldsName, HoldsData, JudgesExactly, AnswersNames, AnswersMetadata, AnswersHints, Walks, Demand2, SameAnswer, Rewritten, Rewrites, Demand3, yes, no, reply_none, reply_found, reply_refused, section_none_lem, section_found_lem, section_refused_lem, hint_none, hint_unlikely, hint_likely, hint_refused_lem, by_aFault, too_short, Faulty, lists_fault, output_too_short, TellsCanonical, K10, K9, OlderRefused, AnswersOlder, K2, OldHintsListed, older_fault, older_too_long, older_too_short, K11, K7, K8, K3, K5, K6, K12, K13, EveryEntry}

@@ -1,0 +1,10 @@
+pub mod ListsRefused
+pub mod Exactly
+pub mod Faults
+pub mod Older
+pub mod Markers
+pub mod OldLists
+pub mod Entries
+pub mod Joins
+pub mod Sharing
+pub mod Compacting
