@@ -1,11 +1,10 @@
 -- K2: wrong readers and writers of the older edition's hints: one that asks for order, or refuses a pair that stands twice; one whose last hint answers; one that reads the kind as a byte, or judges it after the offset is read; one that takes a padded byte for zero; one that asks one edition's section for the other's hints; one that keeps shadowed hints, two entries of a function, or an entry without hints; one that lists a pair twice, or with its last hint, out of order, or into a list that is too short. Ruled out by tables of inputs, each with what every result must say that meets the promise.
-use Rattle.std.specs.Prelude.{ℕ, List, [], ◌∷◌, map, ◌++◌, ◌≡◌, refl, length}
-use Prim.Native.String.{String}
-use Rattle.std.proofs.Math.Option.{Option, none, some}
+use Rattle.std.specs.Prelude.{ℕ, List, map, ◌≡◌, refl, length}
+use Rattle.std.proofs.Math.Option.{none, some}
 use Rattle.std.proofs.Common.{ap, ◌∙◌}
 use Rattle.format.specs.Bytes.{ascii, same}
 use Rattle.format.specs.Canonical.{write_part, write_rows, write_table}
-use Rattle.format.specs.Entries.{rows_under, group_rows, older_rows, older_columns, fit_each, fitting_rows, over_each, lists_after, rows_found}
+use Rattle.format.specs.Entries.{rows_under, group_rows, older_rows, fit_each, fitting_rows, over_each, rows_found}
 use Rattle.format.specs.Examples.{hex, digit}
 use Rattle.format.specs.Metadata.{hint_of, hint_item, metadata, judge_metadata, item_at, ask_metadata, hint_in, ask_hint}
 use Rattle.format.specs.Numbers.{number, groups, shortest, fewest}
@@ -18,42 +17,21 @@ use Rattle.format.specs.Reading.{Judged, accepted, refused, verdict, map_judged}
 use Rattle.format.specs.Tables.{lookup, size, rows, table}
 use Rattle.format.specs.Text.{utf8, characters, character, completes}
 use Rattle.format.specs.Through.{through, ask_hint_through, ask_older_through}
-use Rattle.format.specs.Walk.{preamble, begins, greatest_id, is_custom, is_code, is_data, rank, custom, is_called, name_section, hint_section, older_hint_section, nothing, seeing, id_rules, name_rules, section, sections, framing, walk, payload_of, payload_in, custom_payload}
+use Rattle.format.specs.Walk.{preamble, begins, greatest_id, is_custom, is_code, is_data, rank, custom, is_called, name_section, hint_section, nothing, seeing, id_rules, name_rules, section, sections, framing, walk, payload_of, payload_in, custom_payload}
 use Rattle.format.specs.Verdicts.{verdict_of}
 use Rattle.format.specs.declared.Answer.{Answer}
 use Rattle.format.specs.declared.CodeOffset.{CodeOffset}
 use Rattle.format.specs.declared.FunctionIndex.{FunctionIndex}
-use Rattle.format.specs.declared.Hint.{Hint}
 use Rattle.format.specs.declared.Hint.TheVariants.{Unlikely, Likely}
 use Rattle.format.specs.declared.InstructionOffset.{InstructionOffset}
-use Rattle.format.specs.declared.Place.{Place}
 use Rattle.reordering.specs.Promises as list
 use Rattle.wakemiono.specs.Calls as call
 use Rattle.wakemiono.specs.declared.WmAnswer.{WmAnswer}
 use Rattle.promises.specs.Answers.{says_verdict, verdict_said, says_place, place_said, says_count}
-use Rattle.promises.specs.RuledOut.{Row, ◌demands◌, Demanded, by_table}
+use Rattle.promises.specs.RuledOut.{Row, Demanded, by_table}
 use Rattle.promises.specs.Stopping.{HintsDemanded, hints_demanded}
 use Rattle.promises.specs.Writing.{promised, WmPromised, wrote, written_told, wm_written_told}
-
--- "That edition demands no order and allows repeats": functions that fall; a pair twice with other kinds, in one entry and over two; "however the kind is padded". "17, the byte is not zero, at that byte (missing: 2 at its place); 12 also for a kind above 1, at the kind, before the offset is read; 10 as before"
-abbrev pub judged_rows : List (Row (List ℕ) (Judged (Unit {0})))
-judged_rows =
-    hex "02 07 00 01 01 05 01 00 01 00 02" demands accepted tt ∷
-    hex "01 00 00 02 01 06 01 05" demands accepted tt ∷
-    hex "01 00 00 02 01 05 00 05" demands accepted tt ∷
-    hex "02 00 00 01 00 05 00 00 01 01 05" demands accepted tt ∷
-    hex "01 00 00 01 80 00 05" demands accepted tt ∷
-    hex "01 00 80 00 00" demands refused 17 2 ∷
-    hex "01 00 01" demands refused 17 2 ∷
-    hex "01 00" demands refused 2 2 ∷
-    hex "01 00 00 01 02" demands refused 12 4 ∷
-    hex "01 00 00 01 82 00" demands refused 12 4 ∷
-    hex "01 00 00 01" demands refused 2 4 ∷
-    hex "01 00 00 01 01" demands refused 2 5 ∷
-    hex "01 00 00 01 80 80 80 80 10" demands refused 3 4 ∷
-    hex "00 00" demands refused 10 1 ∷
-    hex "01 00 00 00 00" demands refused 10 4 ∷
-    []
+use Rattle.promises.specs.Older.{judged_rows, asked_rows, older_section, newer_section, apart_rows, written_rows, Lent, Said, listed_rows, listing}
 
 judged_computed : map (λ (row : Row (List ℕ) (Judged (Unit {0}))). verdict (judge_older 0 row.input)) judged_rows ≡ map (λ row. row.verdict) judged_rows
 unfolding hex digit number groups times vector zero_byte older_kind older_hint older_entry judge_older
@@ -65,42 +43,9 @@ older_judge = by_table (λ p r meets. meets) judged_rows judged_computed
 pub wm_old_hints_judge : Demanded (λ p a. call.WmOldHintsJudge p a) says_verdict judged_rows
 wm_old_hints_judge = by_table (λ p a meets. ap says_verdict meets ∙ verdict_said (length p) (verdict (judge_older 0 p))) judged_rows judged_computed
 
--- "so the first hint in the file for a pair answers: unlikely for kind 0, likely for kind 1, however the kind is padded, and none without one"
-abbrev pub asked_rows : List (Row (List ℕ × FunctionIndex × InstructionOffset) (Judged (Option Hint)))
-asked_rows =
-    (hex "02 07 00 01 01 05 01 00 01 00 02", record { 0 = 1 }, record { 0 = 2 }) demands accepted (some Unlikely) ∷
-    (hex "02 07 00 01 01 05 01 00 01 00 02", record { 0 = 7 }, record { 0 = 5 }) demands accepted (some Likely) ∷
-    (hex "02 07 00 01 01 05 01 00 01 00 02", record { 0 = 7 }, record { 0 = 2 }) demands accepted none ∷
-    (hex "01 00 00 02 01 05 00 05", record { 0 = 0 }, record { 0 = 5 }) demands accepted (some Likely) ∷
-    (hex "02 00 00 01 00 05 00 00 01 01 05", record { 0 = 0 }, record { 0 = 5 }) demands accepted (some Unlikely) ∷
-    (hex "02 00 00 01 00 05 00 00 01 01 06", record { 0 = 0 }, record { 0 = 6 }) demands accepted (some Likely) ∷
-    (hex "01 00 00 01 80 00 05", record { 0 = 0 }, record { 0 = 5 }) demands accepted (some Unlikely) ∷
-    (hex "01 00 00 01 81 00 05", record { 0 = 0 }, record { 0 = 5 }) demands accepted (some Likely) ∷
-    (hex "01 00 00 00", record { 0 = 0 }, record { 0 = 5 }) demands accepted none ∷
-    (hex "00", record { 0 = 0 }, record { 0 = 5 }) demands accepted none ∷
-    []
-
 pub is_older_hint : HintsDemanded (λ (x : List ℕ × FunctionIndex × InstructionOffset). ask_older x.1 x.2 0 x.0) asked_rows
 unfolding hex digit number groups times vector zero_byte older_kind older_hint older_entry judge_older first_at first_in ask_older
 is_older_hint = hints_demanded _ asked_rows refl
-
--- "so the editions are kept and asked apart": modules with one of the two sections, and with both. Of function 2 and offset 5 the older says unlikely and the newer likely. The walk comes first
-unfoldable pub older_section : String → List ℕ
-older_section s = 0 ∷ write_part (write_part older_hint_section ++ hex s)
-
-unfoldable pub newer_section : String → List ℕ
-newer_section s = 0 ∷ write_part (write_part hint_section ++ hex s)
-
-abbrev pub apart_rows : {Offset : Type 0} → Offset → (older newer both cut : Judged (Option Hint)) → List (Row (List ℕ × FunctionIndex × Offset) (Judged (Option Hint)))
-apart_rows at older newer both cut =
-    (preamble, record { 0 = 2 }, at) demands accepted none ∷
-    (preamble ++ older_section "01 02 00 01 00 05", record { 0 = 2 }, at) demands older ∷
-    (preamble ++ newer_section "01 02 01 05 01 01", record { 0 = 2 }, at) demands newer ∷
-    (preamble ++ (older_section "01 02 00 01 00 05" ++ newer_section "01 02 01 05 01 01"), record { 0 = 2 }, at) demands both ∷
-    (preamble ++ (newer_section "01 02 01 05 01 01" ++ older_section "01 02 00 01 00 05"), record { 0 = 2 }, at) demands both ∷
-    (preamble ++ older_section "01 02 01", record { 0 = 2 }, at) demands cut ∷
-    (preamble ++ (older_section "01 02 01" ++ older_section ""), record { 0 = 2 }, at) demands refused 7 25 ∷
-    []
 
 pub older_through : HintsDemanded (λ (x : List ℕ × FunctionIndex × InstructionOffset). ask_older_through x.1 x.2 x.0) (apart_rows (record { 0 = 5 }) (accepted (some Unlikely)) (accepted none) (accepted (some Unlikely)) (refused 17 24))
 unfolding older_section newer_section write_part shortest fewest ascii same preamble begins greatest_id is_custom is_code is_data rank custom is_called name_section hint_section nothing seeing id_rules name_rules section sections framing walk payload_of payload_in custom_payload through ask_older_through hex digit number groups utf8 characters character completes sized name remaining times vector zero_byte older_kind older_hint older_entry judge_older first_at first_in ask_older
@@ -110,22 +55,6 @@ pub newer_through : HintsDemanded (λ (x : List ℕ × FunctionIndex × CodeOffs
 unfolding older_section newer_section write_part shortest fewest ascii same preamble begins greatest_id is_custom is_code is_data rank custom is_called name_section hint_section nothing seeing id_rules name_rules section sections framing walk payload_of payload_in custom_payload through ask_hint_through hex digit number groups utf8 characters character completes sized name remaining lookup rows table hint_of hint_item metadata judge_metadata item_at ask_metadata hint_in ask_hint
 newer_through = hints_demanded _ (apart_rows (record { 0 = 5 }) (accepted none) (accepted (some Likely)) (accepted (some Likely)) (accepted none)) refl
 
--- "A canonical rewriting, also sorted by function and offset, shadowed hints dropped, one entry per function", into an output as long as the payload
-abbrev lent : String → List ℕ × List ℕ
-lent s = (hex s, hex s)
-
-abbrev pub written_rows : List (Row (List ℕ × List ℕ) (Judged (List ℕ)))
-written_rows =
-    lent "02 07 00 01 01 05 01 00 01 00 02" demands accepted (hex "02 01 00 01 00 02 07 00 01 01 05") ∷
-    lent "01 00 00 02 01 05 01 05" demands accepted (hex "01 00 00 01 01 05") ∷
-    lent "01 00 00 02 01 05 00 05" demands accepted (hex "01 00 00 01 01 05") ∷
-    lent "02 00 00 01 00 05 00 00 01 01 05" demands accepted (hex "01 00 00 01 00 05") ∷
-    lent "02 03 00 01 00 09 03 00 02 01 02 01 09" demands accepted (hex "01 03 00 02 01 02 00 09") ∷
-    lent "02 00 00 00 07 00 00" demands accepted (hex "00") ∷
-    lent "81 00 80 00 00 81 00 81 00 85 00" demands accepted (hex "01 00 00 01 01 05") ∷
-    (hex "01 00 00 02 01 05 01 05", hex "AA AA AA AA AA") demands refused 13 6 ∷
-    []
-
 pub rewrite_older : Demanded (promised canonical_older) (λ r. wrote (written_as r.0) r.1) written_rows
 unfolding same hex digit number groups shortest fewest size write_rows write_table times vector zero_byte older_kind older_hint older_entry judge_older put_first amend with_hints sorted_from write_older_hints write_older not_too_long canonical_older fitting write_answer output_after
 rewrite_older = by_table (written_told canonical_older) written_rows refl
@@ -133,36 +62,6 @@ rewrite_older = by_table (written_told canonical_older) written_rows refl
 pub wm_old_hints_canonical : Demanded (WmPromised canonical_older) (λ a. wrote (says_count a.0) a.1) written_rows
 unfolding same hex digit number groups shortest fewest size write_rows write_table times vector zero_byte older_kind older_hint older_entry judge_older put_first amend with_hints sorted_from write_older_hints write_older not_too_long canonical_older fitting write_answer output_after
 wm_old_hints_canonical = by_table (wm_written_told canonical_older) written_rows refl
-
--- "every pair once, by function and offset, with the hint that answers", into three lists, which keep what stands behind the rows: in no order, and in order; a pair twice, and a list with room for it once; a function without hints; no hints; each of the lists too short, and a refusal before that
-abbrev Lent : Type 0
-Lent = List ℕ × List (List ℕ)
-
-abbrev Said : Type 0
-Said = Judged (Option Place) × List (List ℕ)
-
-abbrev rows_of : ℕ → Judged (Option Place)
-rows_of n = accepted (some (record { offset = record { 0 = 0 }; length = n }))
-
-abbrev three : (functions offsets likely : List ℕ) → List (List ℕ)
-three functions offsets likely = functions ∷ offsets ∷ likely ∷ []
-
-abbrev pub listed_rows : List (Row Lent Said)
-listed_rows =
-    (hex "02 07 00 01 01 05 01 00 01 00 02", three (9 ∷ 9 ∷ 9 ∷ []) (9 ∷ 9 ∷ []) (9 ∷ 9 ∷ 8 ∷ [])) demands (rows_of 2, three (1 ∷ 7 ∷ 9 ∷ []) (2 ∷ 5 ∷ []) (0 ∷ 1 ∷ 8 ∷ [])) ∷
-    (hex "02 01 00 01 00 02 07 00 01 01 05", three (9 ∷ 9 ∷ 9 ∷ []) (9 ∷ 9 ∷ []) (9 ∷ 9 ∷ 8 ∷ [])) demands (rows_of 2, three (1 ∷ 7 ∷ 9 ∷ []) (2 ∷ 5 ∷ []) (0 ∷ 1 ∷ 8 ∷ [])) ∷
-    (hex "02 03 00 01 00 09 03 00 02 01 02 01 09", three (7 ∷ 7 ∷ []) (7 ∷ 7 ∷ []) (7 ∷ 7 ∷ [])) demands (rows_of 2, three (3 ∷ 3 ∷ []) (2 ∷ 9 ∷ []) (1 ∷ 0 ∷ [])) ∷
-    (hex "01 00 00 02 01 05 00 05", three (7 ∷ []) (7 ∷ []) (7 ∷ [])) demands (rows_of 1, three (0 ∷ []) (5 ∷ []) (1 ∷ [])) ∷
-    (hex "02 00 00 00 07 00 01 80 00 85 00", three (9 ∷ []) (9 ∷ []) (9 ∷ [])) demands (rows_of 1, three (7 ∷ []) (5 ∷ []) (0 ∷ [])) ∷
-    (hex "00", three [] (9 ∷ []) []) demands (rows_of 0, three [] (9 ∷ []) []) ∷
-    (hex "01 00 00 02 01 06 01 05", three (9 ∷ []) (9 ∷ 9 ∷ []) (9 ∷ 9 ∷ [])) demands (refused 13 2, three (9 ∷ []) (9 ∷ 9 ∷ []) (9 ∷ 9 ∷ [])) ∷
-    (hex "01 00 00 02 01 06 01 05", three (9 ∷ 9 ∷ []) (9 ∷ []) (9 ∷ 9 ∷ [])) demands (refused 13 2, three (9 ∷ 9 ∷ []) (9 ∷ []) (9 ∷ 9 ∷ [])) ∷
-    (hex "01 00 00 02 01 05 01 06", three (9 ∷ 9 ∷ []) (9 ∷ 9 ∷ []) (9 ∷ [])) demands (refused 13 2, three (9 ∷ 9 ∷ []) (9 ∷ 9 ∷ []) (9 ∷ [])) ∷
-    (hex "01 00 00 01 02", three [] [] []) demands (refused 12 4, three [] [] []) ∷
-    []
-
-abbrev listing : Lent → Said
-listing x = (map_judged (map_some rows_found) (fitting_rows x.1 (older_rows x.0)), lists_after older_columns (fitting_rows x.1 (older_rows x.0)) x.1)
 
 listed_computed : map (λ (row : Row Lent Said). listing row.input) listed_rows ≡ map (λ row. row.verdict) listed_rows
 unfolding hex digit number groups times vector zero_byte older_kind older_hint older_entry judge_older put_first amend with_hints sorted_from rows_under group_rows older_rows fit_each fitting_rows over_each

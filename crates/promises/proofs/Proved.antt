@@ -12,7 +12,7 @@ use Rattle.grammar.specs.Names.{NamePayload}
 use Rattle.grammar.specs.Metadata.{CodeMetadata, Unknown, BranchHint}
 use Rattle.format.specs.Entries.{older_columns}
 use Rattle.format.specs.Tables.{Table}
-use Rattle.format.specs.Names.{Content, names}
+use Rattle.format.specs.Names.{Content}
 use Rattle.format.specs.Why.{TrueOfFunction, TrueOfLocal, why_function, why_local}
 use Rattle.format.specs.declared.Edition.{Edition}
 use Rattle.format.specs.declared.FunctionIndex.{FunctionIndex}

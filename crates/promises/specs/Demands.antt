@@ -23,7 +23,7 @@ use Rattle.grammar.specs.Faults.Modules.{ModuleFault}
 use Rattle.grammar.specs.Faults.Writing.{Rise, FineLists, bytes_for, contents_length, ListsFault}
 use Rattle.grammar.proofs.Refusing.{Refuses, RefusesLists}
 -- THE JUDGEMENTS, as the rules are written down once more in `crates/format/specs`, by readers: `Judged A` is `accepted v`, with what was read, or `refused number offset`. `judge_module m` judges a module, `judge_names known_kind at p` a name payload that begins at an offset of what was lent, `judge_names wider_kind at p` one by the wider edition, `judge_metadata any_item at p` metadata of any format, and `judge_metadata hint_item at p` branch hints; `judge_older at p` judges hints of the older edition. Of what was read, `rewrite_names` and `rewrite_metadata` are the bytes of the canonical rewriting, and of older hints `write_older (sorted_from nil es)`.
-use Rattle.format.specs.Reading.{Judged, accepted, refused, judge}
+use Rattle.format.specs.Reading.{Judged, accepted, refused}
 use Rattle.format.specs.Walk.{walk as judge_module, custom_payload}
 use Rattle.format.specs.Names.{known_kind, wider_kind, judge_names}
 use Rattle.format.specs.Metadata.{any_item, hint_item, judge_metadata}
@@ -94,7 +94,7 @@ use Rattle.format.specs.declared.TagIndex.{TagIndex}
 use Rattle.format.specs.declared.Question.{Question}
 use Rattle.format.specs.declared.Question.TheVariants.{ModuleName, FunctionName, LocalName, LabelName, TypeName, TableName, MemoryName, GlobalName, ElementName, DataName, FieldName, TagName, KeptContents}
 -- Of metadata and hints: `ItemQuestion` is a function and an offset, each a record of one number; `ItemInRange q` says that both are below 4,294,967,296. `OlderInRange q` says it of a question for a hint of the older edition.
-use Rattle.format.proofs.Theorems.{ItemQuestion, ItemInRange, OlderInRange}
+use Rattle.format.proofs.Theorems.{ItemInRange, OlderInRange}
 -- THE CALLS, each by its promise: `WmWalk bytes a` says that the answer a is one that the promise of wm_walk allows for these bytes. It is the promise itself, the one name that stands in the `ensures` of the call in crates/wakemiono/src. What the promises come to is said below, so that nothing has to be known of how they are put. `WmName q` is the promise of the call that asks q: wm_module_name asks `ModuleName`, wm_function_name `FunctionName` of its function, wm_type_name `TypeName` of its index, wm_tag_name `TagName` of its tag, wm_local_name `LocalName` of its function and its local, wm_field_name `FieldName` of its index and its field, wm_kept `KeptContents` of its id; `WmNameIn q` is that of the same call with `_in`, which is lent a module. `WmWideName q` and `WmWideNameIn q` are those of the wider edition, wm_wide_module_name and so on, which has six more: wm_wide_label_name asks `LabelName` of its function and its label, wm_wide_table_name `TableName`, wm_wide_memory_name `MemoryName`, wm_wide_global_name `GlobalName`, wm_wide_element_name `ElementName` and wm_wide_data_name `DataName`. The calls that write are promised of the output before and after, too: `old` and `new`. `WmMarkers p is os is' os' a` is promised of both lists before the call, `is` and `os`, and after it; `WmOldHintsList p lists lists' a` of its three lists before the call and after it; `WmQuickFunctionName p is os end function a` of a payload, two lists, an end and the function asked. `WmPair q separate own a` is the promise of the call that asks q over two payloads, wm_pair_module_name and so on, and `WmWidePair` that of the wider edition; `WmPairJoin separate own old new a` is the join's. `WmStreamPart s p t a` is promised of the state before the call, s, a part, the state after the call, t, and the answer; `WmStreamFinish s t a` of both states and the answer; `WmStreamBegin b` of the state that comes back. `WmTableStart n t` is promised of the length of a store and the table that comes back; `WmTableOpen t s customer payload work u r work' a` of the table, the store and the work buffer before the call and after it, u, r and work'; `WmTableFunctionName t s customer hold function out out' a` of the output before and after, as nothing else is written to, and `WmTableClose t s customer hold u a` of the table. `WmNamesList p id lists lists' a`, `WmWideNamesList`, `WmMetadataList p lists lists' a` and `WmHintsList` are promised of all lists before the call and after it, in the order of the call.
 use Rattle.wakemiono.specs.Calls.{WmWalk, WmSection, WmCustom, WmNamesJudge, WmName, WmMetadataJudge, WmMetadata, WmHintsJudge, WmHint, WmNameIn, WmMetadataIn, WmHintIn, WmNamesCanonical, WmMetadataCanonical, WmHintsCanonical, WmFunctionNamesWrite, WmNamesIsCanonical, WmMetadataIsCanonical, WmHintsIsCanonical, WmWideNamesJudge, WmWideName, WmWideNameIn, WmWideNamesCanonical, WmWideNamesIsCanonical, WmOldHintsJudge, WmOldHint, WmOldHintIn, WmOldHintsCanonical, WmOldHintsIsCanonical, WmOldHintsList, WmWhyFunction, WmWhyLocal, WmMarkers, WmQuickFunctionName, WmPair, WmWidePair, WmPairJoin, WmWidePairJoin, WmStreamBegin, WmStreamPart, WmStreamFinish, WmHintsOnBranches, WmTableStart, WmTableOpen, WmTableFunctionName, WmTableClose, WmTableCompact, WmNamesList, WmWideNamesList, WmMetadataList, WmHintsList}
 -- HINTS ON BRANCHES, by crates/branches/specs: `hints_on_branches m` is the check of a module; `imported_functions` counts the functions that are imported, and `function_bodies` are the bodies. `Placed` has a `number`, where it stands, `at`, and its `value`: of hints, by function and then by offset. The rule without a step stands in Rule.antt, over the grammar of core specification 1.0 in Grammar.antt: `HasHints m`: walk and hint payload of m are accepted; `Hinted m first parts fs`: so are its import list and its list of bodies, `first` functions are imported, `parts` are the bodies and fs the hints. `AllSit first parts fs`: every hint of fs has a body of which a br_if or an if begins at its offset. `ModuleRefused m n at`: the walk, the payload, the import list, the list of bodies or the first hint that does not sit is refused with n at that offset.

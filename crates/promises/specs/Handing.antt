@@ -1,7 +1,7 @@
 -- Wrong second calls: one that hands back one fixed part, or always the empty one; one that takes its part always from the same place of what was lent. Each promise of a call that hands back bytes rules them out.
 use Prim.Native.Nat.{ℕ, ◌+◌}
 use Prim.Native.String.{String}
-use Rattle.std.specs.Prelude.{map, List, [], ◌∷◌, ◌≡◌, eqb, length}
+use Rattle.std.specs.Prelude.{map, List, [], ◌∷◌, ◌≡◌, eqb}
 use Rattle.std.proofs.Math.Option.{Option, some}
 use Rattle.std.proofs.Math.Path.{refl, ap}
 use Rattle.std.proofs.Common.{sym, ◌∙◌, arith}

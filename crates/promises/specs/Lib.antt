@@ -11,3 +11,9 @@ pub mod Writing
 pub mod Telling
 pub mod Demands
 pub mod Laws
+pub mod Walking
+pub mod Older
+pub mod Why
+pub mod Markers
+pub mod Pairs
+pub mod Branching

@@ -1,7 +1,7 @@
 -- Every entry in one pass: what a call that lists rows comes to, and what its lists hold after it.
 use Rattle.std.specs.Prelude.{ℕ, zero, suc, ◌≤◌, true, List, [], ◌∷◌, ◌++◌, map, ◌≢◌, ◌≡◌, refl, leb, take, drop}
 use Rattle.std.proofs.Math.Logic.Iff
-use Rattle.std.proofs.Math.Option.{Option, none, some}
+use Rattle.std.proofs.Math.Option.{Option, some}
 use Rattle.std.proofs.Common.{sym, ap₂, ◌∙◌, arith, leb-true, take_at}
 use Rattle.std.proofs.Math.Path.{ap}
 use Rattle.std.proofs.Math.ListN.{length, get_elem?, get_or, length-map}
@@ -27,7 +27,6 @@ use Rattle.grammar.specs.Faults.Names.{NamePayloadFault}
 use Rattle.grammar.proofs.Laws.Metadata.{any_exact, hint_exact}
 use Rattle.grammar.proofs.Laws.Names.{SameIds, names_complete}
 use Rattle.grammar.specs.Metadata.{Unknown, BranchHint}
-use Rattle.grammar.specs.Modules.{here}
 use Rattle.grammar.specs.Names.{NamePayload}
 use Rattle.grammar.proofs.Refusing.{ids_refused, metadata_refused, hints_refused}
 use Rattle.wakemiono.specs.Boundary.{wm_found, WmLists, WmWrites}

@@ -19,7 +19,7 @@ use Rattle.format.specs.declared.Question.TheVariants.{FunctionName}
 use Rattle.format.specs.declared.Query.TheVariants.{NameOf}
 use Rattle.grammar.specs.Modules.{Among, here, further}
 use Rattle.sharing.specs.Arrays.{table_of, Full}
-use Rattle.sharing.specs.Events.{event, Past, begun, called, Never, never, nor, yes, is_hold, turned, opened_with, closes, calls_of, answers_to, Stored}
+use Rattle.sharing.specs.Events.{event, Past, begun, called, Never, never, nor, yes, is_hold, turned, opened_with, calls_of, answers_to, Stored}
 use Rattle.sharing.specs.Laws.Alone.{same_answers}
 use Rattle.sharing.specs.Laws.Answers.{held_answers, none_held, no_customer}
 use Rattle.sharing.specs.Laws.Events.{present}

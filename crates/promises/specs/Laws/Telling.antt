@@ -1,7 +1,7 @@
 -- K10: what the number reader and the calls that tell come to.
 use Rattle.std.specs.Prelude.{ℕ, ◌+◌, ◌≤◌, ◌<◌, Bool, true, false, List, ◌++◌, ◌↔◌, ◌≡◌, refl, length, take}
 use Rattle.std.proofs.Common.{sym, ap, ◌∙◌, arith, eqb-true, length-append, length-take}
-use Rattle.format.specs.Bytes.{Bytes, same}
+use Rattle.format.specs.Bytes.{Bytes}
 use Rattle.format.specs.Reading.{Judged, accepted, refused, Accepted, verdict}
 use Rattle.format.specs.Numbers.{shortest}
 use Rattle.format.specs.Outputs.{write_answer, output_after}
