@@ -215,7 +215,7 @@ modules =
     walk_is (custom_section "name" "" ++ custom_section "name" "") gives refusal 7 15 ∷
     walk_is (the_hints "" ++ ordinary 10 "" ++ the_hints "") gives refusal 7 38 ∷
     walk_is (ordinary 10 "" ++ the_hints "") gives refusal 8 10 ∷
-    -- K2: `branch_hints` is counted by itself, so a module may have both editions; it is 7 before 8 as well, and not after code
+    -- K2: `branchHints` is counted by itself, so a module may have both editions; it is 7 before 8 as well, and not after code
     walk_is (custom_section "branchHints" "" ++ the_hints "") gives value 2 0 ∷
     walk_is (custom_section "branchHints" "" ++ the_hints "" ++ custom_section "branchHints" "") gives refusal 7 50 ∷
     walk_is (custom_section "branchHints" "" ++ ordinary 10 "" ++ custom_section "branchHints" "") gives refusal 7 24 ∷

@@ -1,5 +1,5 @@
 -- Rules R7.1 to R7.7, R8.5, R8.6 and R19.5 of docs/RULES.md.
--- K2. The older edition of hints, in a section called `branch_hints`: "a list of (function index, one zero byte, list of (kind, offset)), kind and offset both numbers. That edition demands no order and allows repeats, so the first hint in the file for a pair answers: unlikely for kind 0, likely for kind 1, however the kind is padded, and none without one." Assumes nothing.
+-- K2. The older edition of hints, in a section called `branchHints`: "a list of (function index, one zero byte, list of (kind, offset)), kind and offset both numbers. That edition demands no order and allows repeats, so the first hint in the file for a pair answers: unlikely for kind 0, likely for kind 1, however the kind is padded, and none without one." Assumes nothing.
 use Rattle.std.specs.Prelude.{ℕ, zero, suc, cond, List, [], ◌∷◌, ◌++◌, eqb, ltb, leb, length}
 use Rattle.std.proofs.Math.Option.{Option, none, some}
 use Rattle.format.specs.Reading.{◌>>=◌, ◌>>◌, Reader, return, here, refuse, checked, filling, Judged, accepted, refused, judge, judged_then, map_judged}

@@ -17,7 +17,7 @@ number_of NotText = 4
 number_of SectionUnknown = 5
 -- R18.6: section repeated or out of order
 number_of SectionOrder = 6
--- R18.7: second `name`, `metadata.code.branch_hint` or `branch_hints`
+-- R18.7: second `name`, `metadata.code.branch_hint` or `branchHints`
 number_of SectionTwice = 7
 -- R18.8: data after `name`; hints after code
 number_of SectionTooLate = 8

@@ -57,11 +57,11 @@ pub record Ordered (ss : List Section) : Type 0 where
   pub known : (s : Section) → Among s ss → Among s.id (0 ∷ section_order)
   -- those that are not custom occur at most once, in that order
   pub increasing : (s t : Section) → Before s t ss → s.id ≢ 0 → t.id ≢ 0 → Before s.id t.id section_order
-  -- "At most one `name` section and at most one `metadata.code.branch_hint`"; K2: and at most one `branch_hints`, "counted by itself"
+  -- "At most one `name` section and at most one `metadata.code.branch_hint`"; K2: and at most one `branchHints`, "counted by itself"
   pub one_of_each : (x : Tracked) → Among x tracked → (s t : Section) → Before s t ss → Called x.name s → Called x.name t → ⊥
   -- "no data section (11) after `name`"
   pub data_before_name : (s t : Section) → Before s t ss → Called name_section s → t.id ≢ 11
-  -- "no `metadata.code.branch_hint` after code (10)"; K2: and no `branch_hints`
+  -- "no `metadata.code.branch_hint` after code (10)"; K2: and no `branchHints`
   pub before_code_lem : (x : Tracked) → Among x tracked → x.before_code ≡ true → (s t : Section) → Before s t ss → s.id ≡ 10 → Called x.name t → ⊥
 
 -- module ::= magic version sections

@@ -8,7 +8,7 @@ use Rattle.std.proofs.Math.Option.{Option, none, some}
 use Rattle.std.proofs.Math.ListN.{get_elem?}
 -- WHAT IS LENT. Bytes are a list of numbers, and `Bytes p` says that each is below 256.
 use Rattle.format.specs.Bytes.{Bytes}
--- THE SECTIONS that are asked, by the bytes of their names: `name_section` is name, `metadata_section format` is metadata.code. with the format behind it, `branch_hint` is the format branch_hint, and `hint_section` its section; `older_hint_section` is branch_hints.
+-- THE SECTIONS that are asked, by the bytes of their names: `name_section` is name, `metadata_section format` is metadata.code. with the format behind it, `branch_hint` is the format branch_hint, and `hint_section` its section; `older_hint_section` is branchHints.
 use Rattle.format.specs.Walk.{name_section, branch_hint, hint_section, older_hint_section}
 use Rattle.format.specs.Through.{metadata_section}
 -- WHAT COMES BACK. Each call answers with a record of four numbers: `kind` (0 none, 1 found, 2 refused, 3 unlikely, 4 likely), `code`, `offset` and `length`. `wm_none` is four times 0; `wm_found code offset length` is the answer of kind 1 with these; `wm_refused n at` is the answer of kind 2 with the refusal's number n as its code, its offset `at` and the length 0.
@@ -145,7 +145,7 @@ pub data HintReply : WmAnswer → Type 0 where
 -- 4 | text not UTF-8 | first byte of the text: `not_text` in Parts; of lists `not_text` in Writing
 -- 5 | section id above 12, by K1 above 13 | id byte: `unknown_id` in Modules
 -- 6 | section repeated or out of order | id byte: `out_of_order` in Modules
--- 7 | second `name` or `metadata.code.branch_hint`, by K2 `branch_hints` | its id byte: `second_of_its_name` in Modules
+-- 7 | second `name` or `metadata.code.branch_hint`, by K2 `branchHints` | its id byte: `second_of_its_name` in Modules
 -- 8 | data after `name`; hints after code | id byte of the later section: `data_after_name` and `hints_after_code` in Modules
 -- 9 | subsection id not above the one before | id byte: `id_not_above` in Names
 -- 10 | bytes left over in a subsection or a metadata payload | first of them: `left_over` in Parts

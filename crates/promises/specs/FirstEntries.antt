@@ -138,7 +138,7 @@ older_judge = by_table (λ p r meets. meets) older_rows older_computed
 pub wm_old_hints_judge : Demanded (λ p a. call.WmOldHintsJudge p a) says_verdict older_rows
 wm_old_hints_judge = by_table (λ p a meets. ap says_verdict meets ∙ verdict_said (length p) (verdict (judge_older 0 p))) older_rows older_computed
 
--- Sections: the second one repeated, unknown, past the module; a second `name`, and data after it; a second `branch_hints`, and one after the code, and beside the newer edition's (K2)
+-- Sections: the second one repeated, unknown, past the module; a second `name`, and data after it; a second `branchHints`, and one after the code, and beside the newer edition's (K2)
 abbrev pub section_rows : List (Row (List ℕ) (Judged ℕ))
 section_rows =
     hex "00 61 73 6D 01 00 00 00 01 00" demands accepted 1 ∷

@@ -27,7 +27,7 @@ pub data SectionFault (before : List Section) : List ℕ → (number place : ℕ
   data_after_name : {s : Section} (rest : List ℕ) → InOrder before 11 → Among s before → Called name_section s → SectionFault before (11 ∷ rest) 8 0
   in_the_size : {id : ℕ} {rest : List ℕ} {n at : ℕ} → IdKept before id → SizedFault rest n at → SectionFault before (id ∷ rest) n (1 + at)
   in_the_name : {size contents : List ℕ} {n at : ℕ} (rest : List ℕ) → U32 size (length contents) → NameFault contents n at → SectionFault before (0 ∷ (size ++ (contents ++ rest))) n (1 + (length size + at))
-  -- R18.7: "7 | second `name` or `metadata.code.branch_hint` | its id byte"; K2: and `branch_hints`, "counted by itself"
+  -- R18.7: "7 | second `name` or `metadata.code.branch_hint` | its id byte"; K2: and `branchHints`, "counted by itself"
   second_of_its_name : {bs : List ℕ} {s t : Section} {x : Tracked} (rest : List ℕ) → Framed bs t → Among x tracked → Called x.name t → Among s before → Called x.name s → SectionFault before (bs ++ rest) 7 0
   -- R18.8: "8 | ..; hints after code | id byte of the later section", where it is no 7
   hints_after_code : {bs : List ℕ} {s t : Section} {x : Tracked} (rest : List ℕ) → Framed bs t → Among x tracked → x.before_code ≡ true → Called x.name t → ((s : Section) → Among s before → Called x.name s → ⊥) → Among s before → s.id ≡ 10 → SectionFault before (bs ++ rest) 8 0
