@@ -8,3 +8,4 @@ pub mod HintSteps
 pub mod LookLaws
 pub mod FunctionSteps
 pub mod CheckSteps
+pub mod Theorems

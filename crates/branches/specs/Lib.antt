@@ -13,5 +13,4 @@ pub mod Grammar
 pub mod Faults
 pub mod Rule
 pub mod Laws
-pub mod Theorems
 pub mod Promises

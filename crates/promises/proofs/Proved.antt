@@ -89,7 +89,7 @@ use Rattle.promises.specs.Laws.Walking.{walked, walk_counts, section_found, sect
 use Rattle.wakemiono.specs.Calls.{WmWalk, WmMetadataJudge, WmHintsJudge, WmMetadataCanonical, WmHintsCanonical, WmFunctionNamesWrite, WmOldHintsJudge, WmOldHintsCanonical, WmHintsOnBranches}
 use Rattle.promises.specs.Demands.{Verdict, Reply, SectionReply, HintReply, Answers, RefusedThrough, RefusedOrShort, ListsRefused, NeedsRoom, Writing, Demand1, HoldsName, HoldsData, JudgesExactly, AnswersNames, AnswersMetadata, AnswersHints, Walks, Demand2, SameAnswer, Rewritten, Rewrites, Demand3, yes, no, reply_none, reply_found, reply_refused, section_none_lem, section_found_lem, section_refused_lem, hint_none, hint_unlikely, hint_likely, hint_refused_lem, by_aFault, too_short, Faulty, lists_fault, output_too_short, TellsCanonical, K10, K9, OlderRefused, AnswersOlder, K2, OldHintsListed, older_fault, older_too_long, older_too_short, K11, K7, K8, K3, K5, K6, K12, K13, EveryEntry}
 use Rattle.branches.specs.Branches.{hints_on_branches}
-use Rattle.branches.specs.Theorems.{module_exactly, module_refused_exactly, without_hints}
+use Rattle.branches.proofs.Theorems.{module_exactly, module_refused_exactly, without_hints}
 use Rattle.promises.specs.Answers.{says_verdict, verdict_said}
 
 -- Demand 1
