@@ -15,11 +15,11 @@ use Rattle.format.proofs.Laws.Answers.{same_answer, same_hint_answer}
 use Rattle.format.specs.Laws.Outputs.{writes_same}
 use Rattle.format.proofs.Laws.Entries.{lists_same}
 use Rattle.format.specs.Laws.PairAnswers.{same_pair_answer, joins_same}
-use Rattle.format.specs.declared.Answer.{Answer}
+use Rattle.format.specs.Returned.{Answer}
 use Rattle.format.specs.declared.Hint.{Hint}
-use Rattle.format.specs.declared.JoinWritten.{JoinWritten}
+use Rattle.format.specs.Returned.{JoinWritten}
 use Rattle.format.specs.declared.Place.{Place}
-use Rattle.format.specs.declared.Written.{Written}
+use Rattle.format.specs.Returned.{Written}
 
 abbrev pub Determines : {Result : Type 0} → (Result → Type 0) → Type 0
 Determines {Result} promise = (a b : Result) → promise a → promise b → a ≡ b

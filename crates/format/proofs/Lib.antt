@@ -1,3 +1,4 @@
+pub mod Nested
 pub mod Tags
 pub mod Theorems
 pub mod PairTheorems

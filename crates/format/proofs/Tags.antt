@@ -1,4 +1,5 @@
 -- An arm of a match that binds nothing gives the tag alone: which case it is.
+use Rattle.std.specs.Prelude.{Ok, Err}
 use Prim.Native.Nat.{ℕ}
 use mathlib.Core.List.{List, [], ◌∷◌}
 use mathlib.Core.Path.{◌≡◌, refl, sym, ap, ◌∙◌}
@@ -6,49 +7,23 @@ use native.Mathlib.Omega.{arith}
 use borrow.Author.Rules.{rules}
 use denote.Enum.Declared.{tag_of}
 use lib.ListN.{get_or}
-use Rattle.format.specs.declared.Answer.{Answer}
 use Rattle.format.specs.Refusals.{number_of}
 use Rattle.format.specs.Reading.{Judged, accepted, refused, verdict}
-use Rattle.format.specs.Verdicts.{verdict_of, refusal_in}
+use Rattle.format.specs.Verdicts.{verdict_of}
 use Rattle.format.specs.Laws.Outcomes.{mapped, refused_exactly}
-use Rattle.format.specs.declared.Answer.TheVariants.{None, Found, Refused as NotAnswered}
 use Rattle.format.specs.declared.Reason.{Reason}
 use Rattle.format.specs.declared.Reason.TheVariants.{NoPreamble, PastItsPart, NumberTooLarge, NotText, SectionUnknown, SectionOrder, SectionTwice, SectionTooLate, SubsectionOrder, LeftOver, NotAbove, NotHint, OutputTooShort, ListsDisagree, SubsectionTooLarge, InputTooLarge, NotZero, AfterFinish, NoBody, NotReadable, NotOnBranch, NotMarkers, NoCustomer, NotOpen, HoldsInUse, NoRoom, Damaged, TotalTooLarge, NotImport, NotTheStore}
 use Rattle.format.specs.declared.Refusal.{Refusal}
-use Rattle.format.specs.declared.Verdict.{Verdict}
-use Rattle.format.specs.declared.Verdict.TheVariants.{Accepted, Refused}
-use Rattle.format.specs.contracts.Answer as answer_type
+use Rattle.format.specs.Returned.{Verdict}
 use Rattle.format.specs.contracts.Reason as reason_type
-use Rattle.format.specs.contracts.Verdict as verdict_type
-
-pub as_accepted : (v : Verdict) → tag_of verdict_type.the_type v ≡ 0 → v ≡ Accepted
-as_accepted Accepted h = refl
-as_accepted (Refused r) h = absurd (omega arith)
-
-pub as_refused : (v : Verdict) → tag_of verdict_type.the_type v ≡ 1 → v ≡ Refused (refusal_in v)
-as_refused Accepted h = absurd (omega arith)
-as_refused (Refused r) h = refl
 
 -- the judgement that a verdict is of: refused so, or accepted
 module _ {A : Type 0} (v : Verdict) (j : Judged A) (says : verdict_of v ≡ verdict j) where
-  pub judged_refused : tag_of verdict_type.the_type v ≡ 1 → j ≡ refused (number_of (refusal_in v).reason) (refusal_in v).offset.0
-  judged_refused h = (refused_exactly (λ _. tt) j).0 (sym says ∙ ap verdict_of (as_refused v h))
+  pub judged_refused : {r : Refusal} → v ≡ Err r → j ≡ refused (number_of r.reason) r.offset.0
+  judged_refused e = (refused_exactly (λ _. tt) j).0 (sym says ∙ ap verdict_of e)
 
-  pub judged_accepted : tag_of verdict_type.the_type v ≡ 0 → (t : A) × (j ≡ accepted t)
-  judged_accepted h = mapped (λ _. tt) j (sym says ∙ ap verdict_of (as_accepted v h)) λ t e _. (t, e)
-
-pub refusal_is : (v : Verdict) {r : Refusal} → v ≡ Refused r → r ≡ refusal_in v
-refusal_is v e = rw e
-
-pub refusal_none : (v : Verdict) → tag_of verdict_type.the_type v ≡ 0 → record { reason = NoPreamble; offset = record { 0 = 0 } } ≡ refusal_in v
-refusal_none v h = rw (as_accepted v h)
-
-pub ruleset refusals = (refusal_is, refusal_none, rules)
-
-pub no_answer : (a : Answer) → tag_of answer_type.the_type a ≡ 0 → a ≡ None
-no_answer None h = refl
-no_answer (Found p) h = absurd (omega arith)
-no_answer (NotAnswered r) h = absurd (omega arith)
+  pub judged_accepted : v ≡ Ok tt → (t : A) × (j ≡ accepted t)
+  judged_accepted e = mapped (λ _. tt) j (sym says ∙ ap verdict_of e) λ t e _. (t, e)
 
 -- the numbers that are given, in the order in which the reasons are declared
 abbrev pub given : List ℕ

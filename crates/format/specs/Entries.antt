@@ -12,7 +12,7 @@ use Rattle.format.specs.Metadata.{judge_metadata}
 use Rattle.format.specs.Older.{judge_older, sorted_from, kind_number}
 use Rattle.format.specs.Questions.{answered}
 use Rattle.format.specs.Outputs.{over}
-use Rattle.format.specs.declared.Answer.{Answer}
+use Rattle.format.specs.Returned.{Answer}
 use Rattle.format.specs.declared.Hint.{Hint}
 use Rattle.format.specs.declared.Place.{Place}
 use Rattle.format.specs.declared.Reason.TheVariants.{OutputTooShort}

@@ -1,6 +1,7 @@
 -- Rules R10.5 and R10.6 of docs/RULES.md.
 -- K3. "Add a writer of one canonical payload that answers every question, kept subsections too, as the pair does. Refusals: the separate payload's first, the answer saying whose; 15 for a joined subsection too large, then 13." Assumes nothing.
-use Rattle.std.specs.Prelude.{ℕ, Bool, true, cond, ◌&&◌, List, ◌≡◌, ltb, length}
+use Rattle.format.specs.declared.JoinRefusal.TheVariants.{Payload, Output}
+use Rattle.std.specs.Prelude.{ℕ, Bool, true, cond, ◌&&◌, List, ◌≡◌, ltb, length, Ok, Err}
 use Rattle.format.specs.Refusals.{number_of}
 use Rattle.format.specs.Reading.{Judged, accepted, refused, map_judged}
 use Rattle.format.specs.Numbers.{limit32}
@@ -11,8 +12,7 @@ use Rattle.format.specs.Canonical.{keep_rows, trim, bare, write_content, write_s
 use Rattle.format.specs.Lists.{provided}
 use Rattle.format.specs.Outputs.{fitting, output_after}
 use Rattle.format.specs.Pairs.{Paired, agreed, refused_by, both_judged, map_paired}
-use Rattle.format.specs.declared.JoinWritten.{JoinWritten}
-use Rattle.format.specs.declared.JoinWritten.TheVariants.{Length, PayloadRefused, Refused}
+use Rattle.format.specs.Returned.{JoinWritten}
 use Rattle.format.specs.declared.Reason.TheVariants.{SubsectionTooLarge}
 
 -- the rows of two tables in the order of their numbers; where both have a number, one value is made of the two
@@ -69,9 +69,9 @@ joined_over (refused_by w n at) old = old
 
 -- What the answer says
 abbrev pub join_written_as : JoinWritten → Paired (Judged ℕ)
-join_written_as (Length n) = agreed (accepted n)
-join_written_as (PayloadRefused w r) = refused_by w (number_of r.reason) r.offset.0
-join_written_as (Refused r) = agreed (refused (number_of r.reason) r.offset.0)
+join_written_as (Ok n) = agreed (accepted n)
+join_written_as (Err (Payload w r)) = refused_by w (number_of r.reason) r.offset.0
+join_written_as (Err (Output r)) = agreed (refused (number_of r.reason) r.offset.0)
 
 -- the answer, and the whole end state of the output
 pub record JoinWrites (wanted : Paired (Judged (List ℕ))) (old new : List ℕ) (r : JoinWritten) : Type 0 where

@@ -1,3 +1,4 @@
+pub mod Counted
 pub mod Outcomes
 pub mod Bytes
 pub mod Options

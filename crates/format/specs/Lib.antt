@@ -1,3 +1,4 @@
+pub mod Returned
 pub mod Refusals
 pub mod Bytes
 pub mod Options

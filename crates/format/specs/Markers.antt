@@ -12,7 +12,7 @@ use Rattle.format.specs.Names.{Kind, kept, known_kind, judge_names}
 use Rattle.format.specs.Questions.{asked, answered}
 use Rattle.format.specs.Lists.{unless, provided}
 use Rattle.format.specs.Outputs.{over}
-use Rattle.format.specs.declared.Answer.{Answer}
+use Rattle.format.specs.Returned.{Answer}
 use Rattle.format.specs.declared.FunctionIndex.{FunctionIndex}
 use Rattle.format.specs.declared.Place.{Place}
 use Rattle.format.specs.declared.Query.TheVariants.{ItsContents}

@@ -1,6 +1,6 @@
 -- Rules R6.1 to R6.8 and R19.4 of docs/RULES.md.
 -- Code metadata: a list of (function index, list of (offset, size, data)). Function indices strictly increase; offsets within one function strictly increase. The list fills the payload. Assumes nothing.
-use Rattle.std.specs.Prelude.{ℕ, zero, suc, List, [], ◌∷◌}
+use Rattle.std.specs.Prelude.{ℕ, zero, suc, List, [], ◌∷◌, Ok, Err, Some, None}
 use Rattle.std.proofs.Math.Option.{Option, none, some}
 use Rattle.format.specs.Refusals.{number_of}
 use Rattle.format.specs.Reading.{◌>>=◌, ◌>>◌, Reader, return, here, checked, filling, Judged, accepted, refused, judge, map_judged}
@@ -9,8 +9,7 @@ use Rattle.format.specs.Tables.{Table, lookup, table}
 use Rattle.format.specs.Options.{some_then, is_some}
 use Rattle.format.specs.declared.FunctionIndex.{FunctionIndex}
 use Rattle.format.specs.declared.CodeOffset.{CodeOffset}
-use Rattle.format.specs.declared.HintAnswer.{HintAnswer}
-use Rattle.format.specs.declared.HintAnswer.TheVariants.{None, Found, Refused}
+use Rattle.format.specs.Returned.{HintAnswer}
 use Rattle.format.specs.declared.Hint.{Hint}
 use Rattle.format.specs.declared.Hint.TheVariants.{Unlikely, Likely}
 use Rattle.format.specs.declared.Reason.TheVariants.{NotHint}
@@ -61,6 +60,6 @@ ask_hint f at o bs = map_judged hint_in (ask_metadata hint_item f at o bs)
 
 -- What an answer for a hint says
 abbrev pub hint_answered : HintAnswer → Judged (Option Hint)
-hint_answered None = accepted none
-hint_answered (Found h) = accepted (some h)
-hint_answered (Refused r) = refused (number_of r.reason) r.offset.0
+hint_answered (Ok None) = accepted none
+hint_answered (Ok (Some h)) = accepted (some h)
+hint_answered (Err r) = refused (number_of r.reason) r.offset.0

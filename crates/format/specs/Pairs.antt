@@ -1,6 +1,6 @@
 -- Rules R10.1 to R10.4 of docs/RULES.md.
 -- K3. Names that travel beside a stripped module. "We are sent a name payload apart. One question goes over the two lent payloads: the separate one answers unless it gives none, else the module's; a name found says which, and is handed back as a part of the payload that supplied it. .. Refusals: the separate payload's first, the answer saying whose". Assumes nothing.
-use Rattle.std.specs.Prelude.{ℕ, ◌+◌, List, []}
+use Rattle.std.specs.Prelude.{ℕ, ◌+◌, List, [], Ok, Err, Some, None}
 use Rattle.std.proofs.Math.Option.{Option, none, some}
 use Rattle.format.specs.Refusals.{number_of}
 use Rattle.format.specs.Reading.{Judged, accepted, refused}
@@ -8,8 +8,7 @@ use Rattle.format.specs.Options.{map_some}
 use Rattle.format.specs.Parts.{Part, place_of}
 use Rattle.format.specs.Names.{Kind}
 use Rattle.format.specs.Questions.{ask}
-use Rattle.format.specs.declared.PairAnswer.{PairAnswer}
-use Rattle.format.specs.declared.PairAnswer.TheVariants.{None, Found, Refused}
+use Rattle.format.specs.Returned.{PairAnswer}
 use Rattle.format.specs.declared.Place.{Place}
 use Rattle.format.specs.declared.Question.{Question}
 use Rattle.format.specs.declared.Whose.{Whose}
@@ -72,6 +71,6 @@ supplied_from (refused_by w n at) a b = a
 
 -- What an answer says
 abbrev pub pair_answered : PairAnswer → Paired (Option (Supplied Place))
-pair_answered None = agreed none
-pair_answered (Found w p) = agreed (some (record { whose = w; value = p }))
-pair_answered (Refused w r) = refused_by w (number_of r.reason) r.offset.0
+pair_answered (Ok None) = agreed none
+pair_answered (Ok (Some (w, p))) = agreed (some (record { whose = w; value = p }))
+pair_answered (Err (w, r)) = refused_by w (number_of r.reason) r.offset.0

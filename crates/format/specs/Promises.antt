@@ -7,7 +7,7 @@ use Rattle.format.specs.declared.Question.{Question}
 use Rattle.format.specs.Verdicts.{refusal_in}
 use Rattle.format.specs.declared.Reason.{Reason}
 use Rattle.format.specs.declared.Refusal.{Refusal}
-use Rattle.format.specs.declared.Verdict.{Verdict}
+use Rattle.format.specs.Returned.{Verdict}
 
 -- format
 abbrev pub FormatRefusalOf : (verdict : Verdict) → Refusal → Type 0

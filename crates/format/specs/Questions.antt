@@ -1,6 +1,6 @@
 -- Rules R5.1 to R5.6, R5.8 and R5.10 of docs/RULES.md.
 -- Questions to a name payload. Each answer is none, or the part of what was lent that is asked for, or a refusal. Assumes nothing.
-use Rattle.std.specs.Prelude.{ℕ, ◌<◌, List, [], ◌≡◌}
+use Rattle.std.specs.Prelude.{ℕ, ◌<◌, List, [], ◌≡◌, Ok, Err, Some, None}
 use Rattle.std.proofs.Math.Option.{Option, none, some}
 use Rattle.format.specs.Refusals.{number_of}
 use Rattle.format.specs.Reading.{Judged, accepted, refused, map_judged}
@@ -9,8 +9,7 @@ use Rattle.format.specs.Options.{some_then, map_some}
 use Rattle.format.specs.Parts.{Part, place_of}
 use Rattle.format.specs.Tables.{Table, lookup}
 use Rattle.format.specs.Names.{Kind, one_name, name_map, indirect_map, Content, single, names, names_by, whole, judge_names}
-use Rattle.format.specs.declared.Answer.{Answer}
-use Rattle.format.specs.declared.Answer.TheVariants.{None, Found, Refused}
+use Rattle.format.specs.Returned.{Answer}
 use Rattle.format.specs.declared.Place.{Place}
 use Rattle.format.specs.declared.Question.{Question}
 use Rattle.format.specs.declared.Question.TheVariants.{ModuleName, FunctionName, LocalName, LabelName, TypeName, TableName, MemoryName, GlobalName, ElementName, DataName, FieldName, TagName, KeptContents}
@@ -114,6 +113,6 @@ as_told j = map_judged (map_some (λ p. p.bytes)) j
 
 -- What an answer says: none, a place, or a refusal's number and offset
 abbrev pub answered : Answer → Judged (Option Place)
-answered None = accepted none
-answered (Found p) = accepted (some p)
-answered (Refused r) = refused (number_of r.reason) r.offset.0
+answered (Ok None) = accepted none
+answered (Ok (Some p)) = accepted (some p)
+answered (Err r) = refused (number_of r.reason) r.offset.0

@@ -159,12 +159,7 @@ pub struct Place {
 }
 
 // The answer to a question.
-#[derive(Clone, Copy)]
-pub enum Answer {
-    None,
-    Found(Place),
-    Refused(Refusal),
-}
+pub type Answer = Result<Option<Place>, Refusal>;
 
 // K3: which of two payloads, the one that was sent apart or the module's own.
 #[derive(Clone, Copy)]
@@ -174,28 +169,21 @@ pub enum Whose {
 }
 
 // The answer to a question over the two: whose name was found, or which of them is refused.
+pub type PairAnswer = Result<Option<(Whose, Place)>, (Whose, Refusal)>;
+
+// Why two payloads are not joined: one of them is refused, or what is written.
 #[derive(Clone, Copy)]
-pub enum PairAnswer {
-    None,
-    Found(Whose, Place),
-    Refused(Whose, Refusal),
+pub enum JoinRefusal {
+    Payload(Whose, Refusal),
+    Output(Refusal),
 }
 
 // The answer to writing the two as one: how many bytes it left at the front of the output, which of them is refused, or a
 // refusal of what is written.
-#[derive(Clone, Copy)]
-pub enum JoinWritten {
-    Length(usize),
-    PayloadRefused(Whose, Refusal),
-    Refused(Refusal),
-}
+pub type JoinWritten = Result<usize, JoinRefusal>;
 
 // What judging a payload whole comes to.
-#[derive(Clone, Copy)]
-pub enum Verdict {
-    Accepted,
-    Refused(Refusal),
-}
+pub type Verdict = Result<(), Refusal>;
 
 #[derive(Clone, Copy)]
 pub enum Hint {
@@ -204,19 +192,10 @@ pub enum Hint {
 }
 
 // The answer to a question for a hint.
-#[derive(Clone, Copy)]
-pub enum HintAnswer {
-    None,
-    Found(Hint),
-    Refused(Refusal),
-}
+pub type HintAnswer = Result<Option<Hint>, Refusal>;
 
 // The answer to a write: how many bytes it left at the front of the output.
-#[derive(Clone, Copy)]
-pub enum Written {
-    Length(usize),
-    Refused(Refusal),
-}
+pub type Written = Result<usize, Refusal>;
 
 // The refusal of a verdict that is one: a let .. else binds nothing in its other branch.
 pub fn refusal_of(verdict: Verdict) -> Refusal
@@ -224,13 +203,13 @@ pub fn refusal_of(verdict: Verdict) -> Refusal
 {
     match verdict {
         // field by field, since the bytes between the fields would be copied with the whole
-        Verdict::Refused(r) => {
+        Err(r) => {
             let reason = r.reason;
             let offset = r.offset;
             Refusal { reason, offset }
         }
         // never asked for
-        Verdict::Accepted => Refusal {
+        Ok(()) => Refusal {
             reason: Reason::NoPreamble,
             offset: Offset(0),
         },

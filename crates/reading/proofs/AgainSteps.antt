@@ -143,7 +143,7 @@ module _ {s : List ℕ} {c : Cursor} (k : Known sized s c) where
     part_stands =
         let i = k.stands.inside in
         let read = number_read z.reads z.same_end in
-        let taken = sized_fits i read refl size_fits in
+        let taken = sized_fits i read size_fits in
         let b = part_behind i taken refl in
         record { stands = record { inside = i; reads = sized_means taken refl; behind = b.in_rest; same_end = b.same_end }; in_part = b.in_part }
 

@@ -1,4 +1,5 @@
 -- Laws for callers: a reading stays inside its part and moves forward, and a part that was read lies where it says. Callers cite these and never open a definition of reading.
+use Rattle.std.specs.Prelude.{Ok}
 use Prim.Native.Nat.{ℕ, suc, ◌-◌, ◌≤◌, ◌<◌}
 use mathlib.Core.Bool.{Bool}
 use mathlib.Core.List.{List, [], ◌∷◌, append_assoc}
@@ -22,10 +23,8 @@ use Rattle.format.proofs.Laws.Passing.{Passes, number_passes, sized_passes}
 use Rattle.format.specs.declared.Reason.TheVariants.{NotText}
 use Rattle.reading.specs.Cursors.{Inside, over_all, left, part_of, NumberReads, PartReads}
 use Rattle.reading.specs.declared.Cursor.{Cursor}
-use Rattle.reading.specs.declared.NumberRead.{NumberRead}
-use Rattle.reading.specs.declared.NumberRead.TheVariants.{Value}
-use Rattle.reading.specs.declared.PartRead.{PartRead}
-use Rattle.reading.specs.declared.PartRead.TheVariants.{Part as APart}
+use Rattle.reading.specs.Returned.{NumberRead}
+use Rattle.reading.specs.Returned.{PartRead}
 
 -- A reading that goes byte by byte stays inside, and the bytes left are those of the slice from the offset to the part's end
 pub record Reached (s : List ℕ) (end o : ℕ) (rest : List ℕ) : Type 0 where
@@ -49,29 +48,29 @@ pub reached : {A : Type 0} {read : Reader A} → ((Holds : ℕ → List ℕ → 
 reached passes {s} {c} i e = passes (Reached s c.end) (reached_step s c.end i.within) c.at (left s c) _ _ _ (here i) e
 
 -- A number
-pub number_read : {s : List ℕ} {c next : Cursor} {v : ℕ} → number c.at (left s c) ≡ got v next.at (left s next) → next.end ≡ c.end → NumberReads s c (Value v next (as_few (shortest v) (left s next) (left s c)))
+pub number_read : {s : List ℕ} {c next : Cursor} {v : ℕ} → number c.at (left s c) ≡ got v next.at (left s next) → next.end ≡ c.end → NumberReads s c (Ok (v, next, (as_few (shortest v) (left s next) (left s c))))
 number_read e far = record { means = sym e; same_part = far; tells = refl }
 
 module _ {s : List ℕ} {c : Cursor} {x : NumberRead} {v : ℕ} {next : Cursor} {told : Bool} where
-  pub number_means : NumberReads s c x → x ≡ Value v next told → number c.at (left s c) ≡ got v next.at (left s next)
+  pub number_means : NumberReads s c x → x ≡ Ok (v, next, told) → number c.at (left s c) ≡ got v next.at (left s next)
   number_means r e = sym (rw e at r.means)
 
-  pub number_tells : NumberReads s c x → x ≡ Value v next told → told ≡ as_few (shortest v) (left s next) (left s c)
+  pub number_tells : NumberReads s c x → x ≡ Ok (v, next, told) → told ≡ as_few (shortest v) (left s next) (left s c)
   number_tells r e = rw e at r.tells
 
-  pub number_end : NumberReads s c x → x ≡ Value v next told → next.end ≡ c.end
+  pub number_end : NumberReads s c x → x ≡ Ok (v, next, told) → next.end ≡ c.end
   number_end r e = rw e at r.same_part
 
-  pub number_inside : Inside s c → NumberReads s c x → x ≡ Value v next told → Inside s next
+  pub number_inside : Inside s c → NumberReads s c x → x ≡ Ok (v, next, told) → Inside s next
   number_inside i r e =
       let there = reached number_passes i (number_means r e) in
       let same = number_end r e in
       record { ahead = omega (arith, there.inside); within = omega (arith, i.within) }
 
-  pub number_ahead : Inside s c → NumberReads s c x → x ≡ Value v next told → next.at ≤ next.end
+  pub number_ahead : Inside s c → NumberReads s c x → x ≡ Ok (v, next, told) → next.at ≤ next.end
   number_ahead i r e = (number_inside i r e).ahead
 
-  pub number_moves : Inside s c → NumberReads s c x → x ≡ Value v next told → c.at < next.at
+  pub number_moves : Inside s c → NumberReads s c x → x ≡ Ok (v, next, told) → c.at < next.at
   number_moves i r e =
       let sound = (number_sound c.at (left s c) (number_means r e)).shorter in
       let there = number_inside i r e in
@@ -103,16 +102,16 @@ module _ {s : List ℕ} {c part next : Cursor} where
       }
 
   module _ {x : PartRead} {told : Bool} where
-    pub sized_means : PartReads sized s c x → x ≡ APart part next told → sized c.at (left s c) ≡ got (part_of s part) next.at (left s next)
+    pub sized_means : PartReads sized s c x → x ≡ Ok (part, next, told) → sized c.at (left s c) ≡ got (part_of s part) next.at (left s next)
     sized_means r e = sym (rw e at r.means)
 
-    pub name_means : PartReads name s c x → x ≡ APart part next told → name c.at (left s c) ≡ got (part_of s part) next.at (left s next)
+    pub name_means : PartReads name s c x → x ≡ Ok (part, next, told) → name c.at (left s c) ≡ got (part_of s part) next.at (left s next)
     name_means r e = sym (rw e at r.means)
 
-    pub part_behind : Inside s c → PartReads sized s c x → x ≡ APart part next told → Behind s c part next
+    pub part_behind : Inside s c → PartReads sized s c x → x ≡ Ok (part, next, told) → Behind s c part next
     part_behind i r e = let same = rw e at r.same_part in sized_behind i (sized_means r e) same.0 same.1
 
-    pub name_behind : Inside s c → PartReads name s c x → x ≡ APart part next told → Behind s c part next
+    pub name_behind : Inside s c → PartReads name s c x → x ≡ Ok (part, next, told) → Behind s c part next
     unfolding name
     name_behind i r e =
         let same = rw e at r.same_part in

@@ -1,4 +1,5 @@
 -- The loop that reads a number: what was read so far, and what the bytes left will add.
+use Rattle.std.specs.Prelude.{Ok, Err}
 use Prim.Native.Nat.{ℕ, zero, suc, ◌+◌, ◌*◌, ◌%◌, ◌-◌, ◌≤◌, ◌<◌}
 use mathlib.Core.Bool.{true, not}
 use mathlib.Core.List.{List, ◌∷◌}
@@ -18,7 +19,6 @@ use Rattle.format.proofs.Laws.Padding.{last_byte, one_byte_few, last_tells}
 use Rattle.format.specs.declared.Reason.TheVariants.{PastItsPart, NumberTooLarge}
 use Rattle.reading.specs.Cursors.{Inside, left, Followed, NumberReads}
 use Rattle.reading.specs.declared.Cursor.{Cursor}
-use Rattle.reading.specs.declared.NumberRead.TheVariants.{Value, Refused}
 
 -- a number of which `value` is read, and what follows counts `weight` times
 unfoldable pub onto : (value weight : ℕ) → Outcome ℕ → Outcome ℕ
@@ -127,7 +127,7 @@ module _ (s : List ℕ) (c : Cursor) (i v b : ℕ) (inside : Inside s c) (h : i 
       let there : c.at + (i - c.at) ≡ i = omega arith in
       rw far (get_or-drop c.at (take c.end s) (i - c.at) 0 ∙ rw there (get_or-take c.end s i 0 h ∙ sym q))
 
-  reads_many : c.at < i → number c.at (left s c) ≡ got v (i + 1) (left s (behind_byte c i)) → NumberReads s c (Value v (behind_byte c i) (not (eqb b 0)))
+  reads_many : c.at < i → number c.at (left s c) ≡ got v (i + 1) (left s (behind_byte c i)) → NumberReads s c (Ok (v, (behind_byte c i), (not (eqb b 0))))
   reads_many a e =
       let l = inside.within in
       let many : suc (length (left s (behind_byte c i))) < length (left s c) = omega (arith, length-slice c.at c.end s l, length-slice (i + 1) c.end s l) in
@@ -149,24 +149,24 @@ module _ {s : List ℕ} {c : Cursor} {value weight i : ℕ} where
   past_first : {more b : ℕ} → Turn s c.at c.end value weight i more → Followed s c → b ≡ get_or s i 0 → i < c.end → b < 128 → c.at < i
   past_first n f q h t = by_test (eqb c.at i) (λ e. let is = eqb-true c.at i e in absurd (omega (arith, rw is at (f.first (omega arith))))) (λ e. omega (arith, n.low, eqb-false c.at i e))
 
-  pub number_ends : {more b : ℕ} → Turn s c.at c.end value weight i more → Inside s c → Followed s c → b ≡ get_or s i 0 → i < c.end → (more ≡ 0 → ⊥) → b < 128 → NumberReads s c (Value (value + weight * b) (behind_byte c i) (not (eqb b 0)))
+  pub number_ends : {more b : ℕ} → Turn s c.at c.end value weight i more → Inside s c → Followed s c → b ≡ get_or s i 0 → i < c.end → (more ≡ 0 → ⊥) → b < 128 → NumberReads s c (Ok ((value + weight * b), (behind_byte c i), (not (eqb b 0))))
   number_ends {b = b} n inside f q h z t = reads_many s c i (value + weight * b) b inside h q (past_first n f q h t) (ends n q h inside.within z t)
 
-  pub fifth_ends : {more b : ℕ} → Turn s c.at c.end value weight i more → Inside s c → Followed s c → b ≡ get_or s i 0 → i < c.end → more ≡ 0 → b ≤ 15 → NumberReads s c (Value (value + weight * b) (behind_byte c i) (not (eqb b 0)))
+  pub fifth_ends : {more b : ℕ} → Turn s c.at c.end value weight i more → Inside s c → Followed s c → b ≡ get_or s i 0 → i < c.end → more ≡ 0 → b ≤ 15 → NumberReads s c (Ok ((value + weight * b), (behind_byte c i), (not (eqb b 0))))
   fifth_ends {b = b} n inside f q h z t = reads_many s c i (value + weight * b) b inside h q (past_first n f q h (omega arith)) (ends_fifth n q h inside.within z t)
 
-  pub number_too_large : {more b : ℕ} → Turn s c.at c.end value weight i more → b ≡ get_or s i 0 → i < c.end → c.end ≤ length s → more ≡ 0 → 15 < b → NumberReads s c (Refused (record { reason = NumberTooLarge; offset = record { 0 = c.at } }))
+  pub number_too_large : {more b : ℕ} → Turn s c.at c.end value weight i more → b ≡ get_or s i 0 → i < c.end → c.end ≤ length s → more ≡ 0 → 15 < b → NumberReads s c (Err (record { reason = NumberTooLarge; offset = record { 0 = c.at } }))
   unfolding groups onto
   number_too_large {b = b} n q h l z t = record { means = sym (rw (z, ahead s i c.end q h l, lt-leb b 15 t) at n.same); same_part = tt; tells = tt }
 
-  pub number_runs_out : {more : ℕ} → Turn s c.at c.end value weight i more → c.end ≤ i → NumberReads s c (Refused (record { reason = PastItsPart; offset = record { 0 = c.at } }))
+  pub number_runs_out : {more : ℕ} → Turn s c.at c.end value weight i more → c.end ≤ i → NumberReads s c (Err (record { reason = PastItsPart; offset = record { 0 = c.at } }))
   unfolding groups onto
   number_runs_out n h = let q : i ≡ c.end = omega (arith, n.high) in record { means = sym (rw (q, slice_empty) at n.same); same_part = tt; tells = tt }
 
 pub ruleset number_turns = (number_begins, group_product, group_sum, next_weight, fifth_product, fifth_sum, last_product, last_sum, number_goes_on, number_ends, fifth_ends, number_too_large, number_runs_out, rules)
 
 -- a number of one byte
-pub one_byte : {s : List ℕ} {c : Cursor} {b : ℕ} → Inside s c → c.at < c.end → b ≡ get_or s c.at 0 → b < 128 → NumberReads s c (Value b (record { at = c.at + 1; end = c.end }) true)
+pub one_byte : {s : List ℕ} {c : Cursor} {b : ℕ} → Inside s c → c.at < c.end → b ≡ get_or s c.at 0 → b < 128 → NumberReads s c (Ok (b, (record { at = c.at + 1; end = c.end }), true))
 one_byte {s} {c} {b} i h is l =
     let same : 0 + 1 * b ≡ b = omega arith in
     let e = rw same at (ends (number_begins s c.at c.end i.ahead) is h i.within (λ q. absurd (omega arith)) l) in

@@ -1,4 +1,5 @@
 -- What `sized` and `name` do with what they read first.
+use Rattle.std.specs.Prelude.{Ok, Err}
 use Prim.Native.Nat.{ℕ, zero, suc, ◌+◌, ◌-◌, ◌≤◌, ◌<◌}
 use mathlib.Core.Bool.{Bool, true, false}
 use mathlib.Core.List.{List, [], ◌∷◌, ◌++◌}
@@ -19,10 +20,6 @@ use Rattle.format.specs.declared.Refusal.{Refusal}
 use Rattle.format.specs.declared.Reason.TheVariants.{PastItsPart, NotText}
 use Rattle.reading.specs.Cursors.{Inside, left, NumberReads, PartReads}
 use Rattle.reading.specs.declared.Cursor.{Cursor}
-use Rattle.reading.specs.declared.NumberRead.{NumberRead}
-use Rattle.reading.specs.declared.NumberRead.TheVariants.{Value, Refused as NoNumber}
-use Rattle.reading.specs.declared.PartRead.{PartRead}
-use Rattle.reading.specs.declared.PartRead.TheVariants.{Part as APart, Refused as NoPart}
 use Rattle.reading.proofs.Laws.{number_means, number_tells, number_inside, number_ahead, number_end, sized_means, part_behind}
 
 pub take_drop : (i n : ℕ) (x : List ℕ) → take n (drop i x) ≡ drop i (take (i + n) x)
@@ -42,49 +39,49 @@ told_alike s d v bs h l =
     let lengths : length (shortest v) + length (left s d) ≡ length (shortest v ++ slice d.at (d.at + v) s) + length (slice (d.at + v) d.end s) = omega (arith, length-append (shortest v) (slice d.at (d.at + v) s), part, length-slice d.at d.end s l.within, length-slice (d.at + v) d.end s l.within, l.ahead) in
     rw part (ap (λ (n : ℕ). eqb n (length bs)) lengths)
 
-module _ {s : List ℕ} {c : Cursor} {x : NumberRead} where
-  pub sized_refused : {r : Refusal} → NumberReads s c x → x ≡ NoNumber r → PartReads sized s c (NoPart r)
+module _ {s : List ℕ} {c : Cursor} where
+  pub sized_refused : {r : Refusal} → NumberReads s c (Err r) → PartReads sized s c (Err r)
   unfolding sized
-  sized_refused n e = record { means = rw (← rw e at n.means); same_part = tt; tells = tt }
+  sized_refused n = record { means = rw (← n.means); same_part = tt; tells = tt }
 
-  module _ {v : ℕ} {d : Cursor} {told : Bool} (i : Inside s c) (n : NumberReads s c x) (e : x ≡ Value v d told) where
-    pub sized_long : d.end - d.at < v → PartReads sized s c (NoPart (record { reason = PastItsPart; offset = record { 0 = c.at } }))
+  module _ {v : ℕ} {d : Cursor} {told : Bool} (i : Inside s c) (n : NumberReads s c (Ok (v, d, told))) where
+    pub sized_long : d.end - d.at < v → PartReads sized s c (Err (record { reason = PastItsPart; offset = record { 0 = c.at } }))
     unfolding sized
     sized_long h =
-        let l = number_inside i n e in
-        record { means = rw (number_means n e, length-slice d.at d.end s l.within, lt-leb v (d.end - d.at) h); same_part = tt; tells = tt }
+        let l = number_inside i n refl in
+        record { means = rw (number_means n refl, length-slice d.at d.end s l.within, lt-leb v (d.end - d.at) h); same_part = tt; tells = tt }
 
-    pub sized_fits : v ≤ d.end - d.at → PartReads sized s c (APart (record { at = d.at; end = d.at + v }) (record { at = d.at + v; end = d.end }) told)
+    pub sized_fits : v ≤ d.end - d.at → PartReads sized s c (Ok (record { at = d.at; end = d.at + v }, record { at = d.at + v; end = d.end }, told))
     unfolding sized
     sized_fits h =
-        let l = number_inside i n e in
+        let l = number_inside i n refl in
         record {
-          means = rw (number_means n e, length-slice d.at d.end s l.within, le-leb v (d.end - d.at) h, slice_front s d.at d.end v h l.ahead, drop-drop);
-          same_part = (refl, number_end n e);
-          tells = number_tells n e ∙ told_alike s d v (left s c) h l;
+          means = rw (number_means n refl, length-slice d.at d.end s l.within, le-leb v (d.end - d.at) h, slice_front s d.at d.end v h l.ahead, drop-drop);
+          same_part = (refl, number_end n refl);
+          tells = number_tells n refl ∙ told_alike s d v (left s c) h l;
         }
 
 pub ruleset sized_steps = (sized_refused, sized_long, sized_fits, number_ahead, rules)
 
-module _ {s : List ℕ} {c : Cursor} {x : PartRead} where
-  pub name_refused : {r : Refusal} → PartReads sized s c x → x ≡ NoPart r → PartReads name s c (NoPart r)
+module _ {s : List ℕ} {c : Cursor} where
+  pub name_refused : {r : Refusal} → PartReads sized s c (Err r) → PartReads name s c (Err r)
   unfolding name
-  name_refused n e = record { means = rw (← rw e at n.means); same_part = tt; tells = tt }
+  name_refused n = record { means = rw (← n.means); same_part = tt; tells = tt }
 
-  module _ {part next : Cursor} {told : Bool} (n : PartReads sized s c x) (e : x ≡ APart part next told) where
-    pub name_taken : {b : Bool} → b ≡ utf8 (slice part.at part.end s) → b ≡ true → PartReads name s c (APart part next told)
+  module _ {part next : Cursor} {told : Bool} (n : PartReads sized s c (Ok (part, next, told))) where
+    pub name_taken : {b : Bool} → b ≡ utf8 (slice part.at part.end s) → b ≡ true → PartReads name s c (Ok (part, next, told))
     unfolding name
-    name_taken q t = record { means = rw (sized_means n e, ← q, t); same_part = rw e at n.same_part; tells = rw e at n.tells }
+    name_taken q t = record { means = rw (sized_means n refl, ← q, t); same_part = n.same_part; tells = n.tells }
 
-    pub name_not_text : {b : Bool} → b ≡ utf8 (slice part.at part.end s) → b ≡ false → PartReads name s c (NoPart (record { reason = NotText; offset = record { 0 = part.at } }))
+    pub name_not_text : {b : Bool} → b ≡ utf8 (slice part.at part.end s) → b ≡ false → PartReads name s c (Err (record { reason = NotText; offset = record { 0 = part.at } }))
     unfolding name
-    name_not_text q t = record { means = rw (sized_means n e, ← q, t); same_part = tt; tells = tt }
+    name_not_text q t = record { means = rw (sized_means n refl, ← q, t); same_part = tt; tells = tt }
 
-  module _ {part next : Cursor} {told : Bool} (i : Inside s c) (n : PartReads sized s c x) (e : x ≡ APart part next told) where
+  module _ {part next : Cursor} {told : Bool} (i : Inside s c) (n : PartReads sized s c (Ok (part, next, told))) where
     pub part_ahead : part.at ≤ part.end
-    part_ahead = (part_behind i n e).in_part.ahead
+    part_ahead = (part_behind i n refl).in_part.ahead
 
     pub part_within : part.end ≤ length s
-    part_within = (part_behind i n e).in_part.within
+    part_within = (part_behind i n refl).in_part.within
 
 pub ruleset name_steps = (name_refused, name_taken, name_not_text, part_ahead, part_within, rules)

@@ -1,5 +1,5 @@
 -- What a cursor has left to read, and what its readings mean. Assumes nothing.
-use Rattle.std.specs.Prelude.{ℕ, ◌≤◌, ◌<◌, List, ◌≡◌, length, get_or}
+use Rattle.std.specs.Prelude.{ℕ, ◌≤◌, ◌<◌, List, ◌≡◌, length, get_or, Ok, Err}
 use Rattle.std.proofs.Math.Seq.{slice}
 use Rattle.format.specs.Refusals.{number_of}
 use Rattle.format.specs.Reading.{Outcome, got, stop, Reader}
@@ -9,10 +9,8 @@ use Rattle.format.specs.Canonical.{write_part}
 use Rattle.format.specs.Telling.{as_few}
 use Rattle.format.specs.declared.Refusal.{Refusal}
 use Rattle.reading.specs.declared.Cursor.{Cursor}
-use Rattle.reading.specs.declared.NumberRead.{NumberRead}
-use Rattle.reading.specs.declared.NumberRead.TheVariants.{Value, Refused as NoNumber}
-use Rattle.reading.specs.declared.PartRead.{PartRead}
-use Rattle.reading.specs.declared.PartRead.TheVariants.{Part as APart, Refused as NoPart}
+use Rattle.reading.specs.Returned.{NumberRead}
+use Rattle.reading.specs.Returned.{PartRead}
 
 -- the cursor lies in what was lent
 pub record Inside (s : List ℕ) (c : Cursor) : Type 0 where
@@ -41,18 +39,18 @@ pub record Followed (s : List ℕ) (c : Cursor) : Type 0 where
 
 -- what reading a number found
 abbrev pub number_outcome : List ℕ → NumberRead → Outcome ℕ
-number_outcome s (Value v next shortest) = got v next.at (left s next)
-number_outcome s (NoNumber r) = refusal_of r
+number_outcome s (Ok (v, next, shortest)) = got v next.at (left s next)
+number_outcome s (Err r) = refusal_of r
 
 -- the next cursor has the same part around it
 abbrev pub NumberEnd : ℕ → NumberRead → Type 0
-NumberEnd end (Value v next shortest) = next.end ≡ end
-NumberEnd end (NoNumber r) = Unit {0}
+NumberEnd end (Ok (v, next, shortest)) = next.end ≡ end
+NumberEnd end (Err r) = Unit {0}
 
 -- K10: it says whether the number took its fewest bytes
 abbrev pub NumberTold : List ℕ → Cursor → NumberRead → Type 0
-NumberTold s c (Value v next told) = told ≡ as_few (shortest v) (left s next) (left s c)
-NumberTold s c (NoNumber r) = Unit {0}
+NumberTold s c (Ok (v, next, told)) = told ≡ as_few (shortest v) (left s next) (left s c)
+NumberTold s c (Err r) = Unit {0}
 
 pub record NumberReads (s : List ℕ) (c : Cursor) (r : NumberRead) : Type 0 where
   pub means : number_outcome s r ≡ number c.at (left s c)
@@ -61,18 +59,18 @@ pub record NumberReads (s : List ℕ) (c : Cursor) (r : NumberRead) : Type 0 whe
 
 -- what reading a sized part or a name found
 abbrev pub part_outcome : List ℕ → PartRead → Outcome Part
-part_outcome s (APart part next shortest) = got (part_of s part) next.at (left s next)
-part_outcome s (NoPart r) = refusal_of r
+part_outcome s (Ok (part, next, shortest)) = got (part_of s part) next.at (left s next)
+part_outcome s (Err r) = refusal_of r
 
 -- the part ends where the next cursor begins, which has the same part around it
 abbrev pub PartEnd : ℕ → PartRead → Type 0
-PartEnd end (APart part next shortest) = (part.end ≡ next.at) × (next.end ≡ end)
-PartEnd end (NoPart r) = Unit {0}
+PartEnd end (Ok (part, next, shortest)) = (part.end ≡ next.at) × (next.end ≡ end)
+PartEnd end (Err r) = Unit {0}
 
 -- K10: handed on from its length's number: whether it took as few bytes as a part can
 abbrev pub PartTold : List ℕ → Cursor → PartRead → Type 0
-PartTold s c (APart part next told) = told ≡ as_few (write_part (left s part)) (left s next) (left s c)
-PartTold s c (NoPart r) = Unit {0}
+PartTold s c (Ok (part, next, told)) = told ≡ as_few (write_part (left s part)) (left s next) (left s c)
+PartTold s c (Err r) = Unit {0}
 
 pub record PartReads (read : Reader Part) (s : List ℕ) (c : Cursor) (r : PartRead) : Type 0 where
   pub means : part_outcome s r ≡ read c.at (left s c)

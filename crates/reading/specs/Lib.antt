@@ -1,3 +1,4 @@
+pub mod Returned
 pub mod Texts
 pub mod Cursors
 pub mod Taken

@@ -4,13 +4,13 @@ use Rattle.std.proofs.Math.Seq.{slice}
 use Rattle.format.specs.Numbers.{number}
 use Rattle.format.specs.Parts.{sized, name}
 use Rattle.format.specs.Text.{utf8}
-use Rattle.format.specs.declared.Answer.{Answer}
+use Rattle.format.specs.Returned.{Answer}
 use Rattle.reading.specs.Cursors.{over_all, NumberReads, PartReads}
 use Rattle.reading.specs.Standing.{Stands, TakesPart}
 use Rattle.reading.specs.Taken.{Takes}
 use Rattle.reading.specs.declared.Cursor.{Cursor}
-use Rattle.reading.specs.declared.NumberRead.{NumberRead}
-use Rattle.reading.specs.declared.PartRead.{PartRead}
+use Rattle.reading.specs.Returned.{NumberRead}
+use Rattle.reading.specs.Returned.{PartRead}
 use Rattle.reading.specs.declared.again.Number.{Number}
 use Rattle.reading.specs.declared.again.Piece.{Piece}
 

@@ -19,19 +19,11 @@ pub struct Cursor {
 }
 
 // What reading a number finds: its value, the cursor behind it, and whether it took its fewest bytes.
-#[derive(Clone, Copy)]
-pub enum NumberRead {
-    Value(u32, Cursor, bool),
-    Refused(Refusal),
-}
+pub type NumberRead = Result<(u32, Cursor, bool), Refusal>;
 
 // What reading a sized part or a name finds: a cursor over the part alone, the cursor behind it, and whether its length
 // took its fewest bytes.
-#[derive(Clone, Copy)]
-pub enum PartRead {
-    Part(Cursor, Cursor, bool),
-    Refused(Refusal),
-}
+pub type PartRead = Result<(Cursor, Cursor, bool), Refusal>;
 
 // A byte of a number holds seven bits; one from here on says that another follows.
 const FOLLOWED: u32 = 128;
@@ -77,7 +69,7 @@ impl Cursor {
         if FOLLOWED <= first {
             return self.long_number(s);
         }
-        NumberRead::Value(first, Cursor { at: at + 1, end }, true)
+        Ok((first, Cursor { at: at + 1, end }, true))
     }
 
     // A number of more than one byte, or of none. It is padded exactly where its last byte is 0.
@@ -98,22 +90,22 @@ impl Cursor {
             let shortest = b != PADDING;
             if more == 0 {
                 if b <= GREATEST_FIFTH {
-                    return NumberRead::Value(value + weight * b, next, shortest);
+                    return Ok((value + weight * b, next, shortest));
                 }
-                return NumberRead::Refused(Refusal {
+                return Err(Refusal {
                     reason: Reason::NumberTooLarge,
                     offset: Offset(at),
                 });
             }
             if b < FOLLOWED {
-                return NumberRead::Value(value + weight * b, next, shortest);
+                return Ok((value + weight * b, next, shortest));
             }
             value = value + weight * (b % FOLLOWED);
             weight = weight * FOLLOWED;
             more = more - 1;
             i = i + 1;
         }
-        NumberRead::Refused(Refusal {
+        Err(Refusal {
             reason: Reason::PastItsPart,
             offset: Offset(at),
         })
@@ -125,22 +117,18 @@ impl Cursor {
         ensures { ReadingSized self s.now result }
     {
         let first = self.at;
-        match self.number(s) {
-            NumberRead::Refused(r) => PartRead::Refused(r),
-            NumberRead::Value(n, c, shortest) => {
-                let at = c.at;
-                let end = c.end;
-                let size = n as usize;
-                if end - at < size {
-                    return PartRead::Refused(Refusal {
-                        reason: Reason::PastItsPart,
-                        offset: Offset(first),
-                    });
-                }
-                let next = at + size;
-                PartRead::Part(Cursor { at, end: next }, Cursor { at: next, end }, shortest)
-            }
+        let (n, c, shortest) = self.number(s)?;
+        let at = c.at;
+        let end = c.end;
+        let size = n as usize;
+        if end - at < size {
+            return Err(Refusal {
+                reason: Reason::PastItsPart,
+                offset: Offset(first),
+            });
         }
+        let next = at + size;
+        Ok((Cursor { at, end: next }, Cursor { at: next, end }, shortest))
     }
 
     // A name: a sized part that is valid UTF-8.
@@ -148,18 +136,14 @@ impl Cursor {
         requires { Inside s.now self }
         ensures { ReadingName self s.now result }
     {
-        match self.sized(s) {
-            PartRead::Refused(r) => PartRead::Refused(r),
-            PartRead::Part(part, next, shortest) => {
-                let from = part.at;
-                if text::is_text(s, from, part.end) {
-                    return PartRead::Part(part, next, shortest);
-                }
-                PartRead::Refused(Refusal {
-                    reason: Reason::NotText,
-                    offset: Offset(from),
-                })
-            }
+        let (part, next, shortest) = self.sized(s)?;
+        let from = part.at;
+        if text::is_text(s, from, part.end) {
+            return Ok((part, next, shortest));
         }
+        Err(Refusal {
+            reason: Reason::NotText,
+            offset: Offset(from),
+        })
     }
 }

@@ -7,19 +7,20 @@ use format::Answer;
 pub fn taken(p: &[u8], answer: Answer) -> &[u8]
     ensures { ReadingTaken p.now p.entry.ref_ptr answer result.ref_ptr result.now }
 {
-    match answer {
-        Answer::Found(place) => {
-            let offset = place.offset;
-            let from = offset.0;
-            let length = place.length;
-            if p.len() < from {
-                return &p[..0];
-            }
-            if p.len() - from < length {
-                return &p[..0];
-            }
-            &p[from..from + length]
-        }
-        _ => &p[..0],
+    let Ok(found) = answer else {
+        return &p[..0];
+    };
+    let Some(place) = found else {
+        return &p[..0];
+    };
+    let offset = place.offset;
+    let from = offset.0;
+    let length = place.length;
+    if p.len() < from {
+        return &p[..0];
     }
+    if p.len() - from < length {
+        return &p[..0];
+    }
+    &p[from..from + length]
 }

@@ -1,4 +1,5 @@
 -- Rows that are put behind rows are one write in every list; and what that leaves is what a listing promises.
+use Rattle.std.specs.Prelude.{Ok, Some}
 use Prim.Native.Nat.{ℕ, ◌≤◌}
 use mathlib.Core.Bool.{Bool, true, false, false≢true, ◌&&◌}
 use mathlib.Core.List.{List, [], ◌∷◌, ◌++◌, map, map-append}
@@ -11,7 +12,6 @@ use lib.Dec.{leb}
 use lib.ListN.{length}
 use Rattle.format.specs.Entries.{Listed, fit_each, fitting_rows, over_each, Lists}
 use Rattle.format.specs.Reading.{Judged, accepted}
-use Rattle.format.specs.declared.Answer.TheVariants.{Found}
 use Rattle.writing.specs.Columns.{Room, no_list, another, Columns, no_column, column}
 use Rattle.writing.proofs.Laws.{wrote_nothing, wrote_length, wrote_join}
 
@@ -61,6 +61,6 @@ module _ {X : Type 0} where
       let end : _ ≡ length (map shows es) = w.next_is ∙ zero-add (length (map shows es)) in
       ap₂ ◌∷◌ (w.written ∙ rw end refl) (over_all c)
 
-  pub lists_all : {es : List (Listed X)} {n : ℕ} {columns : List (Listed X → ℕ)} {found : Judged (Option (List (Listed X)))} {lists lists' : List (List ℕ)} → found ≡ accepted (some es) → n ≡ length es → Room n lists → Columns es 0 n columns lists lists' → Lists columns found lists lists' (Found (record { offset = record { 0 = 0 }; length = n }))
+  pub lists_all : {es : List (Listed X)} {n : ℕ} {columns : List (Listed X → ℕ)} {found : Judged (Option (List (Listed X)))} {lists lists' : List (List ℕ)} → found ≡ accepted (some es) → n ≡ length es → Room n lists → Columns es 0 n columns lists lists' → Lists columns found lists lists' (Ok (Some (record { offset = record { 0 = 0 }; length = n })))
   unfolding fitting_rows
   lists_all e count room c = rw count (record { says = rw (e, room_fits (rw count at room)); leaves = rw (e, room_fits (rw count at room)) (over_all c) })

@@ -1,4 +1,5 @@
 -- Writes that follow each other are one write; and the turns of the loops that copy bytes and find digits. Assumes nothing.
+use Rattle.std.specs.Prelude.{Ok}
 use Prim.Native.Nat.{ℕ, zero, suc, ◌+◌, ◌-◌, ◌/◌, ◌%◌, ◌^◌, ◌≤◌, ◌<◌}
 use mathlib.Core.List.{List, [], ◌∷◌, ◌++◌, append_assoc, append-nil}
 use mathlib.Core.Path.{◌≡◌, refl, ap, ◌∙◌, sym}
@@ -13,7 +14,6 @@ use Rattle.format.specs.Listing.{digits, decimal}
 use Rattle.format.specs.Outputs.{Writes}
 use Rattle.format.specs.Laws.Listing.{digits_enough}
 use Rattle.format.specs.Laws.Outputs.{writes_all}
-use Rattle.format.specs.declared.Written.TheVariants.{Length}
 use Rattle.writing.specs.Wrote.{Wrote}
 
 pub wrote_nothing : {old : List ℕ} {at : ℕ} → at ≤ length old → Wrote old old at at []
@@ -56,7 +56,7 @@ wrote_same p q =
     (p.written ∙ rw ends (sym q.written), ends)
 
 -- a write from the front on is what the answer to a write promises
-pub writes_wrote : {wanted : Judged (List ℕ)} {old new bytes : List ℕ} {next : ℕ} → wanted ≡ accepted bytes → Wrote old new 0 next bytes → Writes wanted old new (Length next)
+pub writes_wrote : {wanted : Judged (List ℕ)} {old new bytes : List ℕ} {next : ℕ} → wanted ≡ accepted bytes → Wrote old new 0 next bytes → Writes wanted old new (Ok next)
 writes_wrote {bytes = bytes} {next = next} e w =
     let end : next ≡ length bytes = w.next_is ∙ zero-add (length bytes) in
     rw end (writes_all e (omega arith) (rw end at w.written))

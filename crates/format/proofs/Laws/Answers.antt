@@ -1,7 +1,7 @@
 -- Answers: in bytes they are the bytes of the part that is answered; what may not be asked gets none; the rules' questions are exactly those that its table allows.
 use Prim.Native.Nat.{ℕ, zero, suc, ◌<◌}
 use mathlib.Core.List.{List, [], ◌∷◌}
-use Rattle.std.specs.Prelude.{◌↔◌, ◌≡◌, eqb, length}
+use Rattle.std.specs.Prelude.{◌↔◌, ◌≡◌, eqb, length, Ok, Err, Some, None}
 use Rattle.std.proofs.Math.Option.{Option, none, some}
 use Rattle.std.proofs.Math.Path.{refl}
 use Rattle.std.proofs.Common.{sym, ap, arith}
@@ -25,11 +25,9 @@ use Rattle.format.proofs.Laws.Passing.{sized_passes, bytes_step}
 use Rattle.format.proofs.Laws.Tables.{lookup_map, lookup_fine}
 use Rattle.format.proofs.Laws.Groups.{in_range_or_none}
 use Rattle.format.proofs.Laws.Names.{ContentFine, single_fine, names_fine_lem, names_by_fine, whole_fine, payload_sound}
-use Rattle.format.specs.declared.HintAnswer.{HintAnswer}
-use Rattle.format.specs.declared.HintAnswer.TheVariants.{None as NoHint, Found as AHint, Refused as NotHinted}
+use Rattle.format.specs.Returned.{HintAnswer}
 use Rattle.format.specs.declared.Place.{Place}
-use Rattle.format.specs.declared.Answer.{Answer}
-use Rattle.format.specs.declared.Answer.TheVariants.{None, Found, Refused}
+use Rattle.format.specs.Returned.{Answer}
 
 bare_in : (q : Query) (c : Content Part) → answer_in q (bare c) ≡ map_some (λ p. p.bytes) (answer_in q c)
 unfolding bare
@@ -107,26 +105,26 @@ module _ (kind_of : ℕ → Kind) where
 
 -- what an answer says tells answers apart: two results that meet one promise are equal
 pub same_answer : (a b : Answer) → answered a ≡ answered b → a ≡ b
-same_answer None None e = refl
-same_answer None (Found p) e = absurd (not_some (accepted_is e))
-same_answer None (Refused r) e = absurd (not_accepted (sym e))
-same_answer (Found p) None e = absurd (not_some (sym (accepted_is e)))
-same_answer (Found p) (Found q) e = ap Found (some_is (accepted_is e))
-same_answer (Found p) (Refused r) e = absurd (not_accepted (sym e))
-same_answer (Refused r) None e = absurd (not_accepted e)
-same_answer (Refused r) (Found p) e = absurd (not_accepted e)
-same_answer (Refused r) (Refused s) e = ap Refused (same_judgement e)
+same_answer (Ok None) (Ok None) e = refl
+same_answer (Ok None) (Ok (Some p)) e = absurd (not_some (accepted_is e))
+same_answer (Ok None) (Err r) e = absurd (not_accepted (sym e))
+same_answer (Ok (Some p)) (Ok None) e = absurd (not_some (sym (accepted_is e)))
+same_answer (Ok (Some p)) (Ok (Some q)) e = ap (λ x. Ok (Some x)) (some_is (accepted_is e))
+same_answer (Ok (Some p)) (Err r) e = absurd (not_accepted (sym e))
+same_answer (Err r) (Ok None) e = absurd (not_accepted e)
+same_answer (Err r) (Ok (Some p)) e = absurd (not_accepted e)
+same_answer (Err r) (Err s) e = ap Err (same_judgement e)
 
 pub same_hint_answer : (a b : HintAnswer) → hint_answered a ≡ hint_answered b → a ≡ b
-same_hint_answer NoHint NoHint e = refl
-same_hint_answer NoHint (AHint h) e = absurd (not_some (accepted_is e))
-same_hint_answer NoHint (NotHinted r) e = absurd (not_accepted (sym e))
-same_hint_answer (AHint h) NoHint e = absurd (not_some (sym (accepted_is e)))
-same_hint_answer (AHint h) (AHint k) e = ap AHint (some_is (accepted_is e))
-same_hint_answer (AHint h) (NotHinted r) e = absurd (not_accepted (sym e))
-same_hint_answer (NotHinted r) NoHint e = absurd (not_accepted e)
-same_hint_answer (NotHinted r) (AHint h) e = absurd (not_accepted e)
-same_hint_answer (NotHinted r) (NotHinted s) e = ap NotHinted (same_judgement e)
+same_hint_answer (Ok None) (Ok None) e = refl
+same_hint_answer (Ok None) (Ok (Some h)) e = absurd (not_some (accepted_is e))
+same_hint_answer (Ok None) (Err r) e = absurd (not_accepted (sym e))
+same_hint_answer (Ok (Some h)) (Ok None) e = absurd (not_some (sym (accepted_is e)))
+same_hint_answer (Ok (Some h)) (Ok (Some k)) e = ap (λ x. Ok (Some x)) (some_is (accepted_is e))
+same_hint_answer (Ok (Some h)) (Err r) e = absurd (not_accepted (sym e))
+same_hint_answer (Err r) (Ok None) e = absurd (not_accepted e)
+same_hint_answer (Err r) (Ok (Some h)) e = absurd (not_accepted e)
+same_hint_answer (Err r) (Err s) e = ap Err (same_judgement e)
 
 -- an answer as a place, taken apart
 pub place_none : (j : Judged (Option Part)) → accepted none ≡ as_place j → j ≡ accepted none

@@ -1,6 +1,6 @@
 -- Listing every entry, path by path: refused before, none, without room; and that one answer and one end state alone meet the promise.
 use Prim.Native.Nat.{ℕ, suc}
-use Rattle.std.specs.Prelude.{false, List, ◌≡◌, length}
+use Rattle.std.specs.Prelude.{false, List, ◌≡◌, length, Ok, Err, None}
 use Rattle.std.proofs.Math.Option.{Option, none, some}
 use Rattle.std.proofs.Math.Path.{refl, ap}
 use Rattle.std.proofs.Common.{sym, ◌∙◌}
@@ -9,8 +9,7 @@ use Rattle.format.specs.Reading.{Judged, accepted, refused}
 use Rattle.format.specs.Tables.{Table, nil, row, size}
 use Rattle.format.specs.Entries.{Listed, plain_rows, rows_under, fit_each, fitting_rows, Lists}
 use Rattle.format.proofs.Laws.Answers.{same_answer}
-use Rattle.format.specs.declared.Answer.{Answer}
-use Rattle.format.specs.declared.Answer.TheVariants.{None, Refused}
+use Rattle.format.specs.Returned.{Answer}
 use Rattle.format.specs.declared.Reason.TheVariants.{OutputTooShort}
 use Rattle.format.specs.declared.Refusal.{Refusal}
 
@@ -28,15 +27,15 @@ module _ {X : Type 0} where
 
   -- The paths on which no list changes
   module _ {columns : List (Listed X → ℕ)} {found : Judged (Option (List (Listed X)))} {lists : List (List ℕ)} where
-    pub lists_refused : {r : Refusal} → found ≡ refused (number_of r.reason) r.offset.0 → Lists columns found lists lists (Refused r)
+    pub lists_refused : {r : Refusal} → found ≡ refused (number_of r.reason) r.offset.0 → Lists columns found lists lists (Err r)
     unfolding fitting_rows
     lists_refused e = record { says = rw e; leaves = rw e }
 
-    pub lists_none : found ≡ accepted none → Lists columns found lists lists None
+    pub lists_none : found ≡ accepted none → Lists columns found lists lists (Ok None)
     unfolding fitting_rows
     lists_none e = record { says = rw e; leaves = rw e }
 
-    pub lists_short : {es : List (Listed X)} → found ≡ accepted (some es) → fit_each (length es) lists ≡ false → Lists columns found lists lists (Refused (record { reason = OutputTooShort; offset = record { 0 = length es } }))
+    pub lists_short : {es : List (Listed X)} → found ≡ accepted (some es) → fit_each (length es) lists ≡ false → Lists columns found lists lists (Err (record { reason = OutputTooShort; offset = record { 0 = length es } }))
     unfolding fitting_rows
     lists_short e h = record { says = rw (e, h); leaves = rw (e, h) }
 

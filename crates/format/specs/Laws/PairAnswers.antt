@@ -1,5 +1,6 @@
 -- K3. What comes back of a question to two payloads and of their join: each answer has one meaning, a pair's places are those of both answers, and a join is written as any payload is.
-use Rattle.std.specs.Prelude.{ℕ, List, ◌≡◌, refl}
+use Rattle.format.specs.declared.JoinRefusal.TheVariants.{Payload, Output}
+use Rattle.std.specs.Prelude.{ℕ, List, ◌≡◌, refl, Ok, Err, Some, None}
 use Rattle.std.proofs.Math.Option.{Option, none, some}
 use Rattle.std.proofs.Common.{sym, ap, ◌∙◌}
 use Rattle.format.specs.Refusals.{number_of}
@@ -15,15 +16,12 @@ use Rattle.format.specs.Laws.Outcomes.{accepted_is, not_accepted}
 use Rattle.format.specs.Laws.Options.{not_some, some_is}
 use Rattle.format.specs.Laws.Refusals.{same_refusal, same_judgement}
 use Rattle.format.specs.Laws.Pairs.{agreed_is, not_agreed}
-use Rattle.format.specs.declared.JoinWritten.{JoinWritten}
-use Rattle.format.specs.declared.JoinWritten.TheVariants.{Length as Joined, PayloadRefused, Refused as NotJoined}
-use Rattle.format.specs.declared.PairAnswer.{PairAnswer}
-use Rattle.format.specs.declared.PairAnswer.TheVariants.{None, Found, Refused}
+use Rattle.format.specs.Returned.{JoinWritten}
+use Rattle.format.specs.Returned.{PairAnswer}
 use Rattle.format.specs.declared.Question.{Question}
 use Rattle.format.specs.declared.Refusal.{Refusal}
 use Rattle.format.specs.declared.Whose.{Whose}
-use Rattle.format.specs.declared.Written.{Written}
-use Rattle.format.specs.declared.Written.TheVariants.{Length, Refused as NotWritten}
+use Rattle.format.specs.Returned.{Written}
 
 -- a refusal and whose it is
 same_whose : {A : Type 0} {x y : Whose} {n m at at' : ℕ} → ◌≡◌ {A = Paired A} (refused_by x n at) (refused_by y m at') → x ≡ y
@@ -34,26 +32,26 @@ same_refusal_by {r = r} {s} e = same_refusal r s (cc) (cc)
 
 -- one answer alone has a meaning
 pub same_pair_answer : (a b : PairAnswer) → pair_answered a ≡ pair_answered b → a ≡ b
-same_pair_answer None None e = refl
-same_pair_answer None (Found w p) e = absurd (not_some (agreed_is e))
-same_pair_answer None (Refused w r) e = absurd (not_agreed (sym e))
-same_pair_answer (Found w p) None e = absurd (not_some (sym (agreed_is e)))
-same_pair_answer (Found w p) (Found w' p') e = let s = some_is (agreed_is e) in λ i. Found (s i).whose (s i).value
-same_pair_answer (Found w p) (Refused w' r) e = absurd (not_agreed (sym e))
-same_pair_answer (Refused w r) None e = absurd (not_agreed e)
-same_pair_answer (Refused w r) (Found w' p) e = absurd (not_agreed e)
-same_pair_answer (Refused w r) (Refused w' s) e = let x = same_whose e in let y = same_refusal_by e in λ i. Refused (x i) (y i)
+same_pair_answer (Ok None) (Ok None) e = refl
+same_pair_answer (Ok None) (Ok (Some (w, p))) e = absurd (not_some (agreed_is e))
+same_pair_answer (Ok None) (Err (w, r)) e = absurd (not_agreed (sym e))
+same_pair_answer (Ok (Some (w, p))) (Ok None) e = absurd (not_some (sym (agreed_is e)))
+same_pair_answer (Ok (Some (w, p))) (Ok (Some (w', p'))) e = let s = some_is (agreed_is e) in λ i. Ok (Some ((s i).whose, (s i).value))
+same_pair_answer (Ok (Some (w, p))) (Err (w', r)) e = absurd (not_agreed (sym e))
+same_pair_answer (Err (w, r)) (Ok None) e = absurd (not_agreed e)
+same_pair_answer (Err (w, r)) (Ok (Some (w', p))) e = absurd (not_agreed e)
+same_pair_answer (Err (w, r)) (Err (w', s)) e = let x = same_whose e in let y = same_refusal_by e in λ i. Err ((x i), (y i))
 
 pub same_join_written : (a b : JoinWritten) → join_written_as a ≡ join_written_as b → a ≡ b
-same_join_written (Joined n) (Joined m) e = ap Joined (accepted_is (agreed_is e))
-same_join_written (Joined n) (PayloadRefused w r) e = absurd (not_agreed (sym e))
-same_join_written (Joined n) (NotJoined r) e = absurd (not_accepted (sym (agreed_is e)))
-same_join_written (PayloadRefused w r) (Joined n) e = absurd (not_agreed e)
-same_join_written (PayloadRefused w r) (PayloadRefused w' s) e = let x = same_whose e in let y = same_refusal_by e in λ i. PayloadRefused (x i) (y i)
-same_join_written (PayloadRefused w r) (NotJoined s) e = absurd (not_agreed e)
-same_join_written (NotJoined r) (Joined n) e = absurd (not_accepted (agreed_is e))
-same_join_written (NotJoined r) (PayloadRefused w s) e = absurd (not_agreed (sym e))
-same_join_written (NotJoined r) (NotJoined s) e = ap NotJoined (same_judgement (agreed_is e))
+same_join_written (Ok n) (Ok m) e = ap Ok (accepted_is (agreed_is e))
+same_join_written (Ok n) (Err (Payload w r)) e = absurd (not_agreed (sym e))
+same_join_written (Ok n) (Err (Output r)) e = absurd (not_accepted (sym (agreed_is e)))
+same_join_written (Err (Payload w r)) (Ok n) e = absurd (not_agreed e)
+same_join_written (Err (Payload w r)) (Err (Payload w' s)) e = let x = same_whose e in let y = same_refusal_by e in λ i. Err (Payload (x i) (y i))
+same_join_written (Err (Payload w r)) (Err (Output s)) e = absurd (not_agreed e)
+same_join_written (Err (Output r)) (Ok n) e = absurd (not_accepted (agreed_is e))
+same_join_written (Err (Output r)) (Err (Payload w s)) e = absurd (not_agreed (sym e))
+same_join_written (Err (Output r)) (Err (Output s)) e = ap (λ x. Err (Output x)) (same_judgement (agreed_is e))
 
 -- A pair's places are those of both answers
 first_places : (x y : Option Part) → map_some supplied_at (first_of x y) ≡ first_of (map_some place_of x) (map_some place_of y)
@@ -73,18 +71,18 @@ pair_places kind_of q s o = both_places (ask kind_of q s) (ask kind_of q o)
 
 -- A join is refused for a payload, and nothing changes; or written as any payload is
 abbrev pub join_as : Written → JoinWritten
-join_as (Length n) = Joined n
-join_as (NotWritten r) = NotJoined r
+join_as (Ok n) = Ok n
+join_as (Err r) = Err (Output r)
 
 module _ {wanted : Paired (Judged (List ℕ))} {old : List ℕ} where
-  pub join_refused : {w : Whose} {r : Refusal} → wanted ≡ refused_by w (number_of r.reason) r.offset.0 → JoinWrites wanted old old (PayloadRefused w r)
+  pub join_refused : {w : Whose} {r : Refusal} → wanted ≡ refused_by w (number_of r.reason) r.offset.0 → JoinWrites wanted old old (Err (Payload w r))
   unfolding join_answer
   join_refused e = record { says = rw e; leaves = rw e }
 
   pub join_writes : {j : Judged (List ℕ)} {new : List ℕ} (r : Written) → wanted ≡ agreed j → Writes j old new r → JoinWrites wanted old new (join_as r)
   unfolding join_answer write_answer
-  join_writes (Length n) e w = record { says = rw e (ap agreed w.says); leaves = rw e w.leaves }
-  join_writes (NotWritten r) e w = record { says = rw e (ap agreed w.says); leaves = rw e w.leaves }
+  join_writes (Ok n) e w = record { says = rw e (ap agreed w.says); leaves = rw e w.leaves }
+  join_writes (Err r) e w = record { says = rw e (ap agreed w.says); leaves = rw e w.leaves }
 
 -- two results that meet one promise are equal, the output included
 pub joins_same : {wanted : Paired (Judged (List ℕ))} {old new new' : List ℕ} {r r' : JoinWritten} → JoinWrites wanted old new r → JoinWrites wanted old new' r' → (r ≡ r') × (new ≡ new')

@@ -1,13 +1,12 @@
 -- Refusal numbers tell reasons apart.
-use Rattle.std.specs.Prelude.{ℕ, pred, ◌<◌, List, [], ◌∷◌, ◌≡◌, refl, get_or}
+use Rattle.std.specs.Prelude.{ℕ, pred, ◌<◌, List, [], ◌∷◌, ◌≡◌, refl, get_or, Ok, Err}
 use Rattle.std.proofs.Common.{sym, ap, ◌∙◌, arith}
 use Rattle.format.specs.Refusals.{number_of}
 use Rattle.format.specs.Reading.{Outcome, stop, Judged, refused}
 use Rattle.format.specs.Verdicts.{verdict_of}
 use Rattle.format.specs.Laws.Outcomes.{not_accepted}
 use Rattle.format.specs.declared.Refusal.{Refusal}
-use Rattle.format.specs.declared.Verdict.{Verdict}
-use Rattle.format.specs.declared.Verdict.TheVariants.{Accepted, Refused}
+use Rattle.format.specs.Returned.{Verdict}
 use Rattle.format.specs.declared.Reason.{Reason}
 use Rattle.format.specs.declared.Reason.TheVariants.{NoPreamble, PastItsPart, NumberTooLarge, NotText, SectionUnknown, SectionOrder, SectionTwice, SectionTooLate, SubsectionOrder, LeftOver, NotAbove, NotHint, OutputTooShort, ListsDisagree, SubsectionTooLarge, InputTooLarge, NotZero, AfterFinish, NoBody, NotReadable, NotOnBranch, NotMarkers, NoCustomer, NotOpen, HoldsInUse, NoRoom, Damaged, TotalTooLarge, NotImport, NotTheStore}
 
@@ -103,7 +102,7 @@ module _ {A : Type 0} where
   same_stop {r} {s} e = same_refusal r s (cc) (cc)
 
 pub same_verdict : (a b : Verdict) → verdict_of a ≡ verdict_of b → a ≡ b
-same_verdict Accepted Accepted e = refl
-same_verdict Accepted (Refused r) e = absurd (not_accepted (sym e))
-same_verdict (Refused r) Accepted e = absurd (not_accepted e)
-same_verdict (Refused r) (Refused s) e = ap Refused (same_judgement e)
+same_verdict (Ok _) (Ok _) e = refl
+same_verdict (Ok _) (Err r) e = absurd (not_accepted (sym e))
+same_verdict (Err r) (Ok _) e = absurd (not_accepted e)
+same_verdict (Err r) (Err s) e = ap Err (same_judgement e)
