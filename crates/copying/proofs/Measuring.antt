@@ -1,4 +1,5 @@
 -- The loops that measure: so far, and what is still to come.
+use Rattle.std.specs.Prelude.{Some, None}
 use Prim.Native.Nat.{ℕ, zero, suc, ◌+◌, ◌-◌, ◌/◌, ◌^◌, ◌≤◌, ◌<◌}
 use mathlib.Core.List.{List}
 use mathlib.Core.Path.{◌≡◌, sym, ap, ◌∙◌}
@@ -6,7 +7,6 @@ use native.Mathlib.Nat.{zero-add}
 use native.Mathlib.Omega.{arith}
 use borrow.Author.Rules.{rules}
 use borrow.Author.Tests.{eq-eqb, ne_eqb}
-use denote.Enum.Declared.{tag_of}
 use lib.Dec.{ltb}
 use lib.ListN.{length, length-append}
 use lib.Seq.{length-slice}
@@ -21,12 +21,8 @@ use Rattle.reading.specs.declared.Cursor.{Cursor}
 use Rattle.reading.specs.declared.again.Piece.{Piece}
 use Rattle.tables.specs.Stepping.{behind_at, RowSteps, GroupSteps}
 use Rattle.tables.specs.declared.stepping.Rows.{Rows}
-use Rattle.tables.specs.declared.stepping.RowStep.{RowStep}
-use Rattle.tables.specs.declared.stepping.RowStep.TheVariants.{Row}
-use Rattle.tables.specs.declared.stepping.GroupStep.{GroupStep}
-use Rattle.tables.specs.declared.stepping.GroupStep.TheVariants.{Group}
-use Rattle.tables.specs.contracts.stepping.RowStep as row_type
-use Rattle.tables.specs.contracts.stepping.GroupStep as group_type
+use Rattle.tables.specs.Returned.{RowStep}
+use Rattle.tables.specs.Returned.{GroupStep}
 use Rattle.tables.proofs.Accepted.{rows_table}
 use Rattle.tables.proofs.Along.{Along, setting_out, still_known, ended, onward}
 use Rattle.tables.proofs.StepLaws.{no_row, a_row, row_left, row_fewer, no_group, a_group, group_left, group_fewer, group_count_known, group_rows_known, group_passed}
@@ -71,7 +67,7 @@ module _ {s : List ℕ} {begun left : Rows} {total : ℕ} (t : Counting s begun 
   counting_known = still_known t.along
 
   module _ {x : RowStep} (r : RowSteps s left x) where
-    module _ {k : ℕ} {part next : Cursor} {a b : ℕ} (e : x ≡ Row k part next) (key : a ≡ length (shortest k)) (text : b ≡ length (shortest (part.end - part.at)) + (part.end - part.at)) where
+    module _ {k : ℕ} {part next : Cursor} {a b : ℕ} (e : x ≡ Some (k, part, next)) (key : a ≡ length (shortest k)) (text : b ≡ length (shortest (part.end - part.at)) + (part.end - part.at)) where
       counting_on : Counting s begun (behind_at left next) (total + a + b)
       counting_on =
           let p = a_row r e in
@@ -94,14 +90,14 @@ module _ {s : List ℕ} {begun left : Rows} {total : ℕ} (t : Counting s begun 
       pub counting_key_fits : total + a < 2 ^ 64
       counting_key_fits = omega (arith, counting_within, t.small)
 
-pub counting_all : {n : ℕ} {s : List ℕ} {c : Cursor} {left : Rows} {total : ℕ} {x : RowStep} → Counting s (record { next = c; more = n }) left total → RowSteps s left x → tag_of row_type.the_type x ≡ 0 → Measures (rows sized n 0) rows_of s c (record { length = total; next = left.next })
+pub counting_all : {n : ℕ} {s : List ℕ} {c : Cursor} {left : Rows} {total : ℕ} {x : RowStep} → Counting s (record { next = c; more = n }) left total → RowSteps s left x → x ≡ None → Measures (rows sized n 0) rows_of s c (record { length = total; next = left.next })
 counting_all {x = x} t r h =
-    let end = ended t.along (no_row x r h) in
+    let end = ended t.along (no_row r h) in
     let nothing : length (rows_of t.along.to_come_lem) ≡ 0 = rw (end.nothing, rows_nil) in
     record { value = t.along.all; stands = end.stands; long = omega (arith, nothing, t.so_far) }
 
 -- a row's part
-module _ {s : List ℕ} {left : Rows} {x : RowStep} {k : ℕ} {part next : Cursor} (r : RowSteps s left x) (e : x ≡ Row k part next) where
+module _ {s : List ℕ} {left : Rows} {x : RowStep} {k : ℕ} {part next : Cursor} (r : RowSteps s left x) (e : x ≡ Some (k, part, next)) where
   pub part_small : part.end - part.at < limit32
   part_small = let p = a_row r e in omega (arith, part_fits p.splits.value, part_length p.in_part)
 
@@ -151,7 +147,7 @@ module _ {s : List ℕ} {begun left : Rows} {kept total : ℕ} (t : CountingGrou
   pub groups_known : Known (rows (table sized) left.more 0) s left.next
   groups_known = still_known t.along
 
-  module _ {x : GroupStep} (steps : GroupSteps s left x) {k : ℕ} {place : Cursor} (is : x ≡ Group k place) where
+  module _ {x : GroupStep} (steps : GroupSteps s left x) {k : ℕ} {place : Cursor} (is : x ≡ Some (k, place)) where
     module _ {m : ℕ} {e : Cursor} (j : Stands number s place m e) where
       module _ {r : Measured} (w : Measures (rows sized m 0) rows_of s e r) where
         pub group_sum : length (shortest k) + length (shortest m) + r.length < 2 ^ 64
@@ -188,9 +184,9 @@ module _ {s : List ℕ} {begun left : Rows} {kept total : ℕ} (t : CountingGrou
               let a = groups_on in
               omega (arith, a.many, groups_count begun.more 0 a.along.whole, t.few)
 
-pub groups_all : {n : ℕ} {s : List ℕ} {c : Cursor} {left : Rows} {kept total : ℕ} {x : GroupStep} → CountingGroups s (record { next = c; more = n }) left kept total → GroupSteps s left x → tag_of group_type.the_type x ≡ 0 → MeasuresGroups n s c (record { kept = kept; length = total; next = left.next })
+pub groups_all : {n : ℕ} {s : List ℕ} {c : Cursor} {left : Rows} {kept total : ℕ} {x : GroupStep} → CountingGroups s (record { next = c; more = n }) left kept total → GroupSteps s left x → x ≡ None → MeasuresGroups n s c (record { kept = kept; length = total; next = left.next })
 groups_all {x = x} t r h =
-    let end = ended t.along (no_group x r h) in
+    let end = ended t.along (no_group r h) in
     let nothing : length (groups_of t.along.to_come_lem) ≡ 0 = rw (end.nothing, groups_nil) in
     let none : size (kept_groups t.along.to_come_lem) ≡ 0 = rw end.nothing none_kept in
     record { value = t.along.all; stands = end.stands; many = omega (arith, none, t.many); long = omega (arith, nothing, t.so_far) }

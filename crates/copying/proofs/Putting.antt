@@ -1,10 +1,10 @@
 -- The loops that write: what is written so far, and what is still to come.
+use Rattle.std.specs.Prelude.{Some, None}
 use Prim.Native.Nat.{ℕ, ◌+◌, ◌-◌, ◌≤◌, ◌<◌}
 use mathlib.Core.List.{List, [], ◌++◌, append_assoc, append-nil}
 use mathlib.Core.Path.{◌≡◌, refl, sym, ap, ◌∙◌}
 use native.Mathlib.Omega.{arith}
 use borrow.Author.Rules.{rules}
-use denote.Enum.Declared.{tag_of}
 use lib.ListN.{length, take, drop, length-append}
 use lib.Seq.{length-slice}
 use Rattle.format.specs.Numbers.{number, shortest, limit32}
@@ -17,12 +17,8 @@ use Rattle.reading.specs.declared.Cursor.{Cursor}
 use Rattle.reading.proofs.Standing.{one_value}
 use Rattle.tables.specs.Stepping.{behind_at, RowSteps, GroupSteps}
 use Rattle.tables.specs.declared.stepping.Rows.{Rows}
-use Rattle.tables.specs.declared.stepping.RowStep.{RowStep}
-use Rattle.tables.specs.declared.stepping.RowStep.TheVariants.{Row}
-use Rattle.tables.specs.declared.stepping.GroupStep.{GroupStep}
-use Rattle.tables.specs.declared.stepping.GroupStep.TheVariants.{Group}
-use Rattle.tables.specs.contracts.stepping.RowStep as row_type
-use Rattle.tables.specs.contracts.stepping.GroupStep as group_type
+use Rattle.tables.specs.Returned.{RowStep}
+use Rattle.tables.specs.Returned.{GroupStep}
 use Rattle.tables.proofs.Accepted.{no_rows_lem, no_way, rows_table}
 use Rattle.tables.proofs.Along.{Along, Onward, setting_out, still_known, ended, onward}
 use Rattle.tables.proofs.StepLaws.{no_row, a_row, row_left, row_fewer, no_group, group_left, group_fewer, group_count_known, group_rows_known, group_passed}
@@ -79,7 +75,7 @@ module _ {s : List ℕ} {begun : Rows} {old : List ℕ} {start : ℕ} {new : Lis
   pub putting_known : Known (rows sized left.more 0) s left.next
   putting_known = still_known t.along
 
-  module _ {x : RowStep} {k : ℕ} {part next : Cursor} (r : RowSteps s left x) (e : x ≡ Row k part next) where
+  module _ {x : RowStep} {k : ℕ} {part next : Cursor} (r : RowSteps s left x) (e : x ≡ Some (k, part, next)) where
     -- the row that is to be written, and the room for it
     record Ahead : Type 0 where
       on : Onward t.along k (part_of s part) (behind_at left next)
@@ -113,9 +109,9 @@ module _ {s : List ℕ} {begun : Rows} {old : List ℕ} {start : ℕ} {new : Lis
             room = rw o.same_all t.room;
           })
 
-pub putting_all : {n : ℕ} {s : List ℕ} {c : Cursor} {old : List ℕ} {start : ℕ} {new : List ℕ} {at : ℕ} {left : Rows} {x : RowStep} → Putting s (record { next = c; more = n }) old start new at left → RowSteps s left x → tag_of row_type.the_type x ≡ 0 → Puts (rows sized n 0) rows_of s c old new start (record { at = at; next = left.next })
+pub putting_all : {n : ℕ} {s : List ℕ} {c : Cursor} {old : List ℕ} {start : ℕ} {new : List ℕ} {at : ℕ} {left : Rows} {x : RowStep} → Putting s (record { next = c; more = n }) old start new at left → RowSteps s left x → x ≡ None → Puts (rows sized n 0) rows_of s c old new start (record { at = at; next = left.next })
 putting_all {x = x} t r h =
-    let end = ended t.along (no_row x r h) in
+    let end = ended t.along (no_row r h) in
     let nothing : rows_of t.along.to_come_lem ≡ [] = rw (end.nothing, rows_nil) in
     let done_is : t.done ≡ rows_of t.along.all = sym (append-nil t.done) ∙ rw (← nothing) t.joined in
     record { value = t.along.all; stands = end.stands; wrote = rw done_is at t.so_far }
@@ -170,7 +166,7 @@ module _ {s : List ℕ} {begun : Rows} {old : List ℕ} {start : ℕ} {new : Lis
   pub groups_known : Known (rows (table sized) left.more 0) s left.next
   groups_known = still_known t.along
 
-  module _ {x : GroupStep} {k : ℕ} {place : Cursor} (steps : GroupSteps s left x) (is : x ≡ Group k place) where
+  module _ {x : GroupStep} {k : ℕ} {place : Cursor} (steps : GroupSteps s left x) (is : x ≡ Some (k, place)) where
     module _ {m : ℕ} {e : Cursor} (j : Stands number s place m e) where
       -- the group that is to be written, and what comes behind it
       group_ahead : {v : Table Part} {behind : Cursor} → Stands (rows sized m 0) s e v behind → Onward t.along k v (behind_at left behind)
@@ -200,9 +196,9 @@ module _ {s : List ℕ} {begun : Rows} {old : List ℕ} {start : ℕ} {new : Lis
             room = rw o.same_all t.room;
           })
 
-pub groups_all : {n : ℕ} {s : List ℕ} {c : Cursor} {old : List ℕ} {start : ℕ} {new : List ℕ} {at : ℕ} {left : Rows} {x : GroupStep} → PuttingGroups s (record { next = c; more = n }) old start new at left → GroupSteps s left x → tag_of group_type.the_type x ≡ 0 → Puts (rows (table sized) n 0) groups_of s c old new start (record { at = at; next = left.next })
+pub groups_all : {n : ℕ} {s : List ℕ} {c : Cursor} {old : List ℕ} {start : ℕ} {new : List ℕ} {at : ℕ} {left : Rows} {x : GroupStep} → PuttingGroups s (record { next = c; more = n }) old start new at left → GroupSteps s left x → x ≡ None → Puts (rows (table sized) n 0) groups_of s c old new start (record { at = at; next = left.next })
 groups_all {x = x} t r h =
-    let end = ended t.along (no_group x r h) in
+    let end = ended t.along (no_group r h) in
     let nothing : groups_of t.along.to_come_lem ≡ [] = rw (end.nothing, groups_nil) in
     let done_is : t.done ≡ groups_of t.along.all = sym (append-nil t.done) ∙ rw (← nothing) t.joined in
     record { value = t.along.all; stands = end.stands; wrote = rw done_is at t.so_far }

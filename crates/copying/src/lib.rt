@@ -11,7 +11,7 @@ ghost use Rattle.reading.specs.Standing.{Known};
 ghost use Rattle.copying.specs.Promises.{CopyingSizedLength, CopyingRowsLength, CopyingGroupsLength, CopyingPutPart, CopyingPutRows, CopyingPutGroups};
 
 use reading::Cursor;
-use tables::stepping::{GroupStep, RowStep, Rows, behind, group_step, row_step, rows_here};
+use tables::stepping::{Rows, behind, group_step, row_step, rows_here};
 use writing::{number_length, put_bytes, put_number};
 
 // How long something is in its fewest bytes, and the cursor behind it.
@@ -51,20 +51,14 @@ pub fn rows_length(c: Cursor, s: &[u8], n: u32) -> Measured
 {
     let mut left = Rows { next: c, more: n };
     let mut length = 0;
-    loop {
-        match row_step(left, s) {
-            RowStep::End => {
-                let next = left.next;
-                return Measured { length, next };
-            }
-            RowStep::Row(index, part, next) => {
-                let key = number_length(index);
-                let text = sized_length(part.end - part.at);
-                length = length + key + text;
-                left = behind(left, next);
-            }
-        }
+    while let Some((index, part, next)) = row_step(left, s) {
+        let key = number_length(index);
+        let text = sized_length(part.end - part.at);
+        length = length + key + text;
+        left = behind(left, next);
     }
+    let next = left.next;
+    Measured { length, next }
 }
 
 // How long a group is with its index and its count before it. Without entries it is left out.
@@ -98,24 +92,18 @@ pub fn groups_length(c: Cursor, s: &[u8], n: u32) -> Groups
     let mut left = Rows { next: c, more: n };
     let mut kept: u32 = 0;
     let mut length = 0;
-    loop {
-        match group_step(left, s) {
-            GroupStep::End => {
-                let next = left.next;
-                return Groups { kept, length, next };
-            }
-            GroupStep::Group(index, place) => {
-                let entries = rows_here(place, s);
-                let count = entries.more;
-                let rows = rows_length(entries.next, s, count);
-                let group = group_length(index, count, rows.length);
-                let one = one_if_some(count);
-                length = length + group;
-                kept = kept + one;
-                left = behind(left, rows.next);
-            }
-        }
+    while let Some((index, place)) = group_step(left, s) {
+        let entries = rows_here(place, s);
+        let count = entries.more;
+        let rows = rows_length(entries.next, s, count);
+        let group = group_length(index, count, rows.length);
+        let one = one_if_some(count);
+        length = length + group;
+        kept = kept + one;
+        left = behind(left, rows.next);
     }
+    let next = left.next;
+    Groups { kept, length, next }
 }
 
 // A part with its size before it.
@@ -137,19 +125,13 @@ pub fn put_rows(out: &mut [u8], at: usize, c: Cursor, s: &[u8], n: u32) -> Put
 {
     let mut left = Rows { next: c, more: n };
     let mut to = at;
-    loop {
-        match row_step(left, s) {
-            RowStep::End => {
-                let next = left.next;
-                return Put { at: to, next };
-            }
-            RowStep::Row(index, part, next) => {
-                let text = put_number(out, to, index);
-                to = put_part(out, text, part, s);
-                left = behind(left, next);
-            }
-        }
+    while let Some((index, part, next)) = row_step(left, s) {
+        let text = put_number(out, to, index);
+        to = put_part(out, text, part, s);
+        left = behind(left, next);
     }
+    let next = left.next;
+    Put { at: to, next }
 }
 
 // A group with its index and its count before it. Without entries it is left out.
@@ -172,18 +154,12 @@ pub fn put_groups(out: &mut [u8], at: usize, c: Cursor, s: &[u8], n: u32) -> Put
 {
     let mut left = Rows { next: c, more: n };
     let mut to = at;
-    loop {
-        match group_step(left, s) {
-            GroupStep::End => {
-                let next = left.next;
-                return Put { at: to, next };
-            }
-            GroupStep::Group(index, place) => {
-                let entries = rows_here(place, s);
-                let group = put_group(out, to, index, entries.next, s, entries.more);
-                to = group.at;
-                left = behind(left, group.next);
-            }
-        }
+    while let Some((index, place)) = group_step(left, s) {
+        let entries = rows_here(place, s);
+        let group = put_group(out, to, index, entries.next, s, entries.more);
+        to = group.at;
+        left = behind(left, group.next);
     }
+    let next = left.next;
+    Put { at: to, next }
 }

@@ -1,4 +1,5 @@
 -- What the pieces of immediates do with what they read.
+use Rattle.std.specs.Prelude.{Ok, Err, Some, None}
 use Prim.Native.Nat.{ℕ, zero, suc, ◌+◌, ◌-◌, ◌≤◌, ◌<◌}
 use mathlib.Core.Bool.{Bool, true, false}
 use mathlib.Core.List.{List}
@@ -7,39 +8,35 @@ use native.Mathlib.Numerals.{add-one}
 use native.Mathlib.Omega.{arith}
 use borrow.Author.Rules.{rules}
 use borrow.Author.Tests.{le-leb, lt-leb, le-ltb, lt-ltb}
-use denote.Enum.Declared.{tag_of}
 use lib.ListN.{length, get_or}
 use lib.Seq.{slice}
 use Rattle.format.specs.Reading.{got, Reader, and_then}
+use Rattle.format.specs.declared.Refusal.{Refusal}
 use Rattle.reading.specs.Cursors.{Inside, left, NumberReads}
 use Rattle.reading.specs.declared.Cursor.{Cursor}
-use Rattle.reading.specs.declared.NumberRead.{NumberRead}
-use Rattle.reading.specs.declared.NumberRead.TheVariants.{Value}
-use Rattle.reading.specs.contracts.NumberRead as number_type
+use Rattle.reading.specs.Returned.{NumberRead}
 use Rattle.reading.proofs.Laws.{number_means, number_end, number_inside, number_moves, nothing_left, something_left}
 use Rattle.instructions.specs.Immediates.{is_of, byte_of, index, indices, signed}
 use Rattle.instructions.specs.Ways.{passing, Goes, bytes_on}
 use Rattle.instructions.specs.declared.pieces.ByteKind.{ByteKind}
-use Rattle.instructions.specs.declared.Way.{Way}
-use Rattle.instructions.specs.declared.Way.TheVariants.{Behind, Unreadable}
-use Rattle.instructions.specs.contracts.Way as way_type
-use Rattle.instructions.proofs.WayLaws.{as_unreadable, as_no_number, went, halted, goes_far, goes_inside, end_joined}
+use Rattle.instructions.specs.Returned.{Way}
+use Rattle.instructions.proofs.WayLaws.{no_number, went, halted, goes_far, goes_inside, end_joined}
 
 abbrev pub one_on : Cursor → Cursor
 one_on c = record { at = c.at + 1; end = c.end }
 
 -- one byte
 module _ {s : List ℕ} {c : Cursor} (kind : ByteKind) (i : Inside s c) where
-  pub byte_missing : c.end ≤ c.at → Goes (byte_of kind) s c Unreadable
+  pub byte_missing : c.end ≤ c.at → Goes (byte_of kind) s c None
   unfolding byte_of
   byte_missing h = record { means = rw (nothing_left i h); same_part = tt }
 
   module _ (h : c.at < c.end) {b : Bool} (is : b ≡ is_of kind (get_or s c.at 0)) where
-    pub byte_right : b ≡ true → Goes (byte_of kind) s c (Behind (one_on c))
+    pub byte_right : b ≡ true → Goes (byte_of kind) s c (Some (one_on c))
     unfolding byte_of
     byte_right t = record { means = rw (something_left i h, ← is, t, add-one); same_part = (omega arith, omega arith, refl) }
 
-    pub byte_wrong : b ≡ false → Goes (byte_of kind) s c Unreadable
+    pub byte_wrong : b ≡ false → Goes (byte_of kind) s c None
     unfolding byte_of
     byte_wrong t = record { means = rw (something_left i h, ← is, t); same_part = tt }
 
@@ -50,20 +47,20 @@ pub ruleset byte_steps = (byte_missing, byte_right, byte_wrong, byte_there, rule
 
 -- so many bytes
 module _ (c : Cursor) (n : ℕ) where
-  pub bytes_few : c.end - c.at < n → Unreadable ≡ bytes_on c n
+  pub bytes_few : c.end - c.at < n → None ≡ bytes_on c n
   bytes_few h = rw (lt-leb n (c.end - c.at) h)
 
-  pub bytes_enough : n ≤ c.end - c.at → Behind (record { at = c.at + n; end = c.end }) ≡ bytes_on c n
+  pub bytes_enough : n ≤ c.end - c.at → Some (record { at = c.at + n; end = c.end }) ≡ bytes_on c n
   bytes_enough h = rw (le-leb n (c.end - c.at) h)
 
 pub ruleset byte_counts = (bytes_few, bytes_enough, rules)
 
 -- an index
 module _ {s : List ℕ} {c : Cursor} {x : NumberRead} (n : NumberReads s c x) where
-  pub index_refused : tag_of number_type.the_type x ≡ 1 → Goes index s c Unreadable
-  index_refused t = let (m, at, is) = as_no_number x t n in record { means = rw is; same_part = tt }
+  pub index_refused : {r : Refusal} → x ≡ Err r → Goes index s c None
+  index_refused e = let (m, at, is) = no_number n e in record { means = rw is; same_part = tt }
 
-  pub index_read : {v : ℕ} {next : Cursor} {told : Bool} → Inside s c → x ≡ Value v next told → Goes index s c (Behind next)
+  pub index_read : {v : ℕ} {next : Cursor} {told : Bool} → Inside s c → x ≡ Ok (v, next, told) → Goes index s c (Some next)
   index_read i e =
       let moves = number_moves i n e in
       let ahead = (number_inside i n e).ahead in
@@ -103,24 +100,24 @@ indices_none zero h o bs = refl
 indices_none (suc n) h o bs = absurd (omega arith)
 
 module _ (n more : ℕ) {s : List ℕ} {c next : Cursor} (t : Still (indices n) (indices more) s c next) where
-  pub indices_ended : more ≤ 0 → Goes (indices n) s c (Behind next)
+  pub indices_ended : more ≤ 0 → Goes (indices n) s c (Some next)
   indices_ended h =
       let ahead = t.inside.ahead in
       let far = t.same_end in
       record { means = sym (t.same ∙ rw (indices_none more h next.at (left s next))); same_part = (t.forward, omega (arith, ahead, far), far) }
 
-  module _ {x : Way} (h : 0 < more) (g : Goes index s next x) where
-    pub indices_stop : tag_of way_type.the_type x ≡ 1 → Goes (indices n) s c Unreadable
-    indices_stop q =
-        let (m, at, is) = halted (index next.at (left s next)) (rw (as_unreadable x q) at g.means) in
+  module _ (h : 0 < more) where
+    pub indices_stop : Goes index s next None → Goes (indices n) s c None
+    indices_stop g =
+        let (m, at, is) = halted (index next.at (left s next)) g.means in
         record { means = sym (t.same ∙ rw (indices_next more h next.at (left s next), is)); same_part = tt }
 
-    pub indices_go : {after : Cursor} → x ≡ Behind after → Still (indices n) (indices (more - 1)) s c after
-    indices_go e =
-        let (v, is) = went (index next.at (left s next)) (rw e at g.means) in
-        let far = goes_far g e in
+    pub indices_go : {after : Cursor} → Goes index s next (Some after) → Still (indices n) (indices (more - 1)) s c after
+    indices_go g =
+        let (v, is) = went (index next.at (left s next)) g.means in
+        let far = goes_far g in
         record {
-          inside = goes_inside g e t.inside;
+          inside = goes_inside g t.inside;
           forward = omega (arith, far.0, t.forward);
           same_end = far.2 ∙ t.same_end;
           same = t.same ∙ rw (indices_next more h next.at (left s next), is);
@@ -136,11 +133,11 @@ signed_next (suc more) last {s} {c} l i h b = let d : suc more - 1 ≡ more = om
 
 module _ (following more : ℕ) (last : ByteKind) {s : List ℕ} {c : Cursor} where
   module _ {i : ℕ} (t : Still (signed following last) (signed more last) s c (record { at = i; end = c.end })) where
-    pub signed_missing : 0 < more → c.end ≤ i → Goes (signed following last) s c Unreadable
+    pub signed_missing : 0 < more → c.end ≤ i → Goes (signed following last) s c None
     unfolding signed
     signed_missing = missing more t
       where
-        missing : (more : ℕ) → Still (signed following last) (signed more last) s c (record { at = i; end = c.end }) → 0 < more → c.end ≤ i → Goes (signed following last) s c Unreadable
+        missing : (more : ℕ) → Still (signed following last) (signed more last) s c (record { at = i; end = c.end }) → 0 < more → c.end ≤ i → Goes (signed following last) s c None
         missing zero t l h = absurd (omega arith)
         missing (suc more) t l h = record { means = sym (t.same ∙ rw (nothing_left t.inside h)); same_part = tt }
 
@@ -148,11 +145,11 @@ module _ (following more : ℕ) (last : ByteKind) {s : List ℕ} {c : Cursor} wh
       pub signed_there : i < length s
       signed_there = omega (arith, t.inside.within)
 
-      pub signed_ends : get_or s i 0 < 0x80 → Goes (signed following last) s c (Behind (record { at = i + 1; end = c.end }))
+      pub signed_ends : get_or s i 0 < 0x80 → Goes (signed following last) s c (Some (record { at = i + 1; end = c.end }))
       unfolding signed
       signed_ends = ends more t l
         where
-          ends : (more : ℕ) → Still (signed following last) (signed more last) s c (record { at = i; end = c.end }) → 0 < more → get_or s i 0 < 0x80 → Goes (signed following last) s c (Behind (record { at = i + 1; end = c.end }))
+          ends : (more : ℕ) → Still (signed following last) (signed more last) s c (record { at = i; end = c.end }) → 0 < more → get_or s i 0 < 0x80 → Goes (signed following last) s c (Some (record { at = i + 1; end = c.end }))
           ends zero t l b = absurd (omega arith)
           ends (suc more) t l b = record { means = sym (t.same ∙ rw (something_left t.inside h, lt-ltb (get_or s i 0) 0x80 b, add-one)); same_part = (omega (arith, t.forward), omega arith, refl) }
 

@@ -1,4 +1,5 @@
 -- One instruction: its opcode, and the immediates of its shape.
+use Rattle.std.specs.Prelude.{Ok, Err, Some, None}
 use Prim.Native.Nat.{ℕ, ◌-◌, ◌≤◌, ◌<◌}
 use mathlib.Core.Bool.{Bool}
 use mathlib.Core.List.{List, [], ◌∷◌}
@@ -12,60 +13,57 @@ use lib.Dec.{leb}
 use lib.ListN.{get_or}
 use lib.Seq.{length-slice, drop-drop}
 use Rattle.format.specs.Laws.Outcomes.{by_test}
+use Rattle.format.specs.declared.Refusal.{Refusal}
 use Rattle.reading.specs.Cursors.{Inside, NumberReads}
 use Rattle.reading.specs.declared.Cursor.{Cursor}
-use Rattle.reading.specs.declared.NumberRead.{NumberRead}
-use Rattle.reading.specs.declared.NumberRead.TheVariants.{Value}
-use Rattle.reading.specs.contracts.NumberRead as number_type
+use Rattle.reading.specs.Returned.{NumberRead}
 use Rattle.reading.proofs.Laws.{number_inside, nothing_left, something_left}
 use Rattle.instructions.specs.Immediates.{byte_of, bytes, index, indices, signed, labels, indirect, memory, immediates, instruction}
 use Rattle.instructions.specs.Opcodes.{shape_of}
 use Rattle.instructions.specs.Ways.{Goes, bytes_on}
 use Rattle.instructions.specs.declared.pieces.ByteKind.TheVariants.{BlockType, Zero as ZeroByte, LastOf32, LastOf64}
-use Rattle.instructions.specs.declared.Way.{Way}
-use Rattle.instructions.specs.declared.Way.TheVariants.{Behind, Unreadable}
+use Rattle.instructions.specs.Returned.{Way}
 use Rattle.instructions.specs.declared.shapes.Shape.{Shape}
 use Rattle.instructions.specs.declared.shapes.Shape.TheVariants.{Plain, Block, Index, Table, Indirect, Memory, Zero, Const32, Const64, Float32, Float64, Unknown}
-use Rattle.instructions.specs.contracts.Way as way_type
 use Rattle.instructions.specs.contracts.shapes.Shape as shape_type
 use Rattle.instructions.proofs.PieceSteps.{one_on, byte_there}
 use Rattle.instructions.proofs.WayLaws.{goes_inside, goes_then, goes_stops, end_joined, number_stops, number_goes}
 
 -- the labels of br_table
 module _ {s : List ℕ} {c : Cursor} {x : NumberRead} (r : NumberReads s c x) where
-  pub labels_uncounted : tag_of number_type.the_type x ≡ 1 → Goes labels s c Unreadable
+  pub labels_uncounted : {why : Refusal} → x ≡ Err why → Goes labels s c None
   unfolding labels
-  labels_uncounted q = number_stops _ r q
+  labels_uncounted e = number_stops _ r e
 
-  module _ (i : Inside s c) {n : ℕ} {d : Cursor} {told : Bool} (e : x ≡ Value n d told) {y : Way} (g : Goes (indices n) s d y) where
-    pub labels_stop : tag_of way_type.the_type y ≡ 1 → Goes labels s c Unreadable
+  module _ (i : Inside s c) {n : ℕ} {d : Cursor} {told : Bool} (e : x ≡ Ok (n, d, told)) where
+    pub labels_stop : Goes (indices n) s d None → Goes labels s c None
     unfolding labels
-    labels_stop q = number_goes _ r i e (goes_stops g _ q)
+    labels_stop g = number_goes _ r i e (goes_stops g _)
 
-    pub labels_go : {default : Cursor} {z : Way} → y ≡ Behind default → Goes index s default z → Goes labels s c z
+    pub labels_go : {default : Cursor} {z : Way} → Goes (indices n) s d (Some default) → Goes index s default z → Goes labels s c z
     unfolding labels
-    labels_go q h = number_goes _ r i e (goes_then g q index h)
+    labels_go g h = number_goes _ r i e (goes_then g index h)
 
 pub ruleset labels_steps = (labels_uncounted, labels_stop, labels_go, number_inside, goes_inside, rules)
 
 -- an index, and a zero byte or another index
-module _ {s : List ℕ} {c : Cursor} {x : Way} (g : Goes index s c x) where
-  pub indirect_stops : tag_of way_type.the_type x ≡ 1 → Goes indirect s c Unreadable
+module _ {s : List ℕ} {c : Cursor} where
+  pub indirect_stops : Goes index s c None → Goes indirect s c None
   unfolding indirect
-  indirect_stops q = goes_stops g _ q
+  indirect_stops g = goes_stops g _
 
-  pub memory_stops : tag_of way_type.the_type x ≡ 1 → Goes memory s c Unreadable
+  pub memory_stops : Goes index s c None → Goes memory s c None
   unfolding memory
-  memory_stops q = goes_stops g _ q
+  memory_stops g = goes_stops g _
 
-  module _ {d : Cursor} {y : Way} (e : x ≡ Behind d) where
+  module _ {d : Cursor} {y : Way} (g : Goes index s c (Some d)) where
     pub indirect_goes : Goes (byte_of ZeroByte) s d y → Goes indirect s c y
     unfolding indirect
-    indirect_goes h = goes_then g e (byte_of ZeroByte) h
+    indirect_goes h = goes_then g (byte_of ZeroByte) h
 
     pub memory_goes : Goes index s d y → Goes memory s c y
     unfolding memory
-    memory_goes h = goes_then g e index h
+    memory_goes h = goes_then g index h
 
 pub ruleset pair_steps = (indirect_stops, indirect_goes, memory_stops, memory_goes, goes_inside, rules)
 
@@ -100,11 +98,11 @@ told : (shape : Shape) {tag : ℕ} → tag_of shape_type.the_type shape ≡ tag 
 told shape t = by_tag shape ∙ ap (λ n. get_or declared n Unknown) t
 
 module _ {s : List ℕ} {c : Cursor} (shape : Shape) where
-  pub plain_goes : Inside s c → tag_of shape_type.the_type shape ≡ 0 → Goes (immediates shape) s c (Behind c)
+  pub plain_goes : Inside s c → tag_of shape_type.the_type shape ≡ 0 → Goes (immediates shape) s c (Some c)
   unfolding immediates
   plain_goes i t = rw (told shape t) (record { means = refl; same_part = (omega arith, i.ahead, refl) })
 
-  pub unknown_stops : tag_of shape_type.the_type shape ≡ 11 → Goes (immediates shape) s c Unreadable
+  pub unknown_stops : tag_of shape_type.the_type shape ≡ 11 → Goes (immediates shape) s c None
   unfolding immediates
   unknown_stops t = rw (told shape t) (record { means = refl; same_part = tt })
 
@@ -156,7 +154,7 @@ pub ruleset immediates_steps = (plain_goes, unknown_stops, block_goes, index_goe
 
 -- the opcode
 module _ {s : List ℕ} {c : Cursor} (i : Inside s c) where
-  pub no_opcode : c.end ≤ c.at → Goes instruction s c Unreadable
+  pub no_opcode : c.end ≤ c.at → Goes instruction s c None
   unfolding instruction
   no_opcode h = record { means = rw (nothing_left i h); same_part = tt }
 

@@ -1,26 +1,19 @@
 -- What a piece that was read, or could not be, gives to what is read behind it.
+use Rattle.std.specs.Prelude.{Ok, Err, Some, None}
 use Prim.Native.Nat.{ℕ, ◌≤◌}
 use mathlib.Core.Bool.{Bool}
 use mathlib.Core.List.{List}
 use mathlib.Core.Path.{◌≡◌, refl, sym, ◌∙◌}
 use native.Mathlib.Omega.{arith}
-use denote.Enum.Declared.{tag_of}
 use Rattle.format.specs.Reading.{Outcome, got, stop, Reader, and_then}
 use Rattle.format.specs.Numbers.{number}
 use Rattle.reading.specs.Cursors.{Inside, left, NumberReads}
+use Rattle.format.specs.declared.Refusal.{Refusal}
 use Rattle.reading.specs.declared.Cursor.{Cursor}
-use Rattle.reading.specs.declared.NumberRead.{NumberRead}
-use Rattle.reading.specs.declared.NumberRead.TheVariants.{Value, Refused as NoNumber}
-use Rattle.reading.specs.contracts.NumberRead as number_type
+use Rattle.reading.specs.Returned.{NumberRead}
 use Rattle.reading.proofs.Laws.{number_means, number_end, number_moves}
 use Rattle.instructions.specs.Ways.{behind, unreadable, passing, WayEnd, Goes}
-use Rattle.instructions.specs.declared.Way.{Way}
-use Rattle.instructions.specs.declared.Way.TheVariants.{Behind, Unreadable}
-use Rattle.instructions.specs.contracts.Way as way_type
-
-pub as_unreadable : (w : Way) → tag_of way_type.the_type w ≡ 1 → w ≡ Unreadable
-as_unreadable (Behind next) h = absurd (omega arith)
-as_unreadable Unreadable h = refl
+use Rattle.instructions.specs.Returned.{Way}
 
 pub not_behind : {o : ℕ} {bs : List ℕ} → unreadable ≡ behind o bs → ⊥
 not_behind e = let z : ◌≡◌ {A = ℕ} 0 1 = cc in omega arith
@@ -39,13 +32,13 @@ halted (stop n at) e = (n, at, refl)
 
 -- a way that begins further on
 pub end_joined : {c d : Cursor} (y : Way) → c.at ≤ d.at → d.end ≡ c.end → WayEnd d y → WayEnd c y
-end_joined (Behind next) l far h = (omega (arith, h.0), omega (arith, h.1), h.2 ∙ far)
-end_joined Unreadable l far h = tt
+end_joined (Some next) l far h = (omega (arith, h.0), omega (arith, h.1), h.2 ∙ far)
+end_joined None l far h = tt
 
-module _ {A : Type 0} {read : Reader A} {s : List ℕ} {c : Cursor} {x : Way} (g : Goes read s c x) where
-  module _ {next : Cursor} (e : x ≡ Behind next) where
+module _ {A : Type 0} {read : Reader A} {s : List ℕ} {c : Cursor} where
+  module _ {next : Cursor} (g : Goes read s c (Some next)) where
     pub goes_far : (c.at ≤ next.at) × (next.at ≤ c.end) × (next.end ≡ c.end)
-    goes_far = rw e at g.same_part
+    goes_far = g.same_part
 
     pub goes_inside : Inside s c → Inside s next
     goes_inside i = let far = goes_far in record { ahead = omega (arith, far.1, far.2); within = omega (arith, far.2, i.within) }
@@ -53,25 +46,24 @@ module _ {A : Type 0} {read : Reader A} {s : List ℕ} {c : Cursor} {x : Way} (g
     -- what is read behind a piece
     pub goes_then : {B : Type 0} (second : Reader B) {y : Way} → Goes second s next y → Goes (λ o bs. and_then (read o bs) (λ _. second)) s c y
     goes_then second {y} h =
-        let (v, is) = went (read c.at (left s c)) (rw e at g.means) in
+        let (v, is) = went (read c.at (left s c)) g.means in
         let far = goes_far in
         record { means = rw is h.means; same_part = end_joined y far.0 far.2 h.same_part }
 
-  pub goes_stops : {B : Type 0} (f : A → Reader B) → tag_of way_type.the_type x ≡ 1 → Goes (λ o bs. and_then (read o bs) f) s c Unreadable
-  goes_stops f t =
-      let (n, at, is) = halted (read c.at (left s c)) (rw (as_unreadable x t) at g.means) in
+  pub goes_stops : Goes read s c None → {B : Type 0} (f : A → Reader B) → Goes (λ o bs. and_then (read o bs) f) s c None
+  goes_stops g f =
+      let (n, at, is) = halted (read c.at (left s c)) g.means in
       record { means = rw is; same_part = tt }
 
 -- and behind a number
-pub as_no_number : (x : NumberRead) {s : List ℕ} {c : Cursor} → tag_of number_type.the_type x ≡ 1 → NumberReads s c x → (n : ℕ) × (at : ℕ) × (number c.at (left s c) ≡ stop n at)
-as_no_number (Value v next told) t n = absurd (omega arith)
-as_no_number (NoNumber r) t n = (_, _, sym n.means)
+pub no_number : {x : NumberRead} {s : List ℕ} {c : Cursor} → NumberReads s c x → {r : Refusal} → x ≡ Err r → (n : ℕ) × (at : ℕ) × (number c.at (left s c) ≡ stop n at)
+no_number n e = (_, _, sym (rw e at n.means))
 
 module _ {A : Type 0} (f : ℕ → Reader A) {s : List ℕ} {c : Cursor} {x : NumberRead} (n : NumberReads s c x) where
-  pub number_stops : tag_of number_type.the_type x ≡ 1 → Goes (λ o bs. and_then (number o bs) f) s c Unreadable
-  number_stops t = let (m, at, is) = as_no_number x t n in record { means = rw is; same_part = tt }
+  pub number_stops : {r : Refusal} → x ≡ Err r → Goes (λ o bs. and_then (number o bs) f) s c None
+  number_stops e = let (m, at, is) = no_number n e in record { means = rw is; same_part = tt }
 
-  pub number_goes : {v : ℕ} {next : Cursor} {told : Bool} {y : Way} → Inside s c → x ≡ Value v next told → Goes (f v) s next y → Goes (λ o bs. and_then (number o bs) f) s c y
+  pub number_goes : {v : ℕ} {next : Cursor} {told : Bool} {y : Way} → Inside s c → x ≡ Ok (v, next, told) → Goes (f v) s next y → Goes (λ o bs. and_then (number o bs) f) s c y
   number_goes {y = y} i e g =
       let moves = number_moves i n e in
       record { means = rw (number_means n e) g.means; same_part = end_joined y (omega arith) (number_end n e) g.same_part }

@@ -1,3 +1,4 @@
+pub mod Returned
 pub mod Opcodes
 pub mod Immediates
 pub mod Locals

@@ -4,7 +4,7 @@ use Rattle.reading.specs.declared.Cursor.{Cursor}
 use Rattle.instructions.specs.Immediates.{instruction}
 use Rattle.instructions.specs.Locals.{locals}
 use Rattle.instructions.specs.Ways.{Goes}
-use Rattle.instructions.specs.declared.Way.{Way}
+use Rattle.instructions.specs.Returned.{Way}
 
 -- instructions
 abbrev pub InstructionsStep : (c : Cursor) (s : List ℕ) → Way → Type 0

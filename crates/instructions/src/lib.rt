@@ -8,18 +8,14 @@ ghost use Rattle.instructions.specs.Promises.{InstructionsStep};
 
 use crate::pieces::{ByteKind, byte_of, bytes_on, index, indices, signed};
 use crate::shapes::{Shape, shape_of};
-use reading::{Cursor, NumberRead};
+use reading::Cursor;
 
 pub mod locals;
 mod pieces;
 mod shapes;
 
 // What reading a piece of a body comes to: the cursor behind it, or that version 1.0 cannot read it.
-#[derive(Clone, Copy)]
-pub enum Way {
-    Behind(Cursor),
-    Unreadable,
-}
+pub type Way = Option<Cursor>;
 
 // How many bytes may follow the first of a signed number of 32 and of 64 bits.
 const FOLLOWING_32: u32 = 4;
@@ -36,13 +32,11 @@ fn labels_here(c: Cursor, s: &[u8]) -> Way
     requires { Inside s.now c }
     ensures { Goes labels s.now c result }
 {
-    match c.number(s) {
-        NumberRead::Refused(_) => Way::Unreadable,
-        NumberRead::Value(n, d, _) => match indices(d, s, n) {
-            Way::Unreadable => Way::Unreadable,
-            Way::Behind(default) => index(default, s),
-        },
-    }
+    let Ok((n, d, _)) = c.number(s) else {
+        return None;
+    };
+    let default = indices(d, s, n)?;
+    index(default, s)
 }
 
 // The type of call_indirect, and a zero byte for its table.
@@ -50,10 +44,8 @@ fn indirect_here(c: Cursor, s: &[u8]) -> Way
     requires { Inside s.now c }
     ensures { Goes indirect s.now c result }
 {
-    match index(c, s) {
-        Way::Unreadable => Way::Unreadable,
-        Way::Behind(table) => byte_of(table, s, ByteKind::Zero),
-    }
+    let table = index(c, s)?;
+    byte_of(table, s, ByteKind::Zero)
 }
 
 // The alignment and the offset of a load or a store.
@@ -61,10 +53,8 @@ fn memory_here(c: Cursor, s: &[u8]) -> Way
     requires { Inside s.now c }
     ensures { Goes memory s.now c result }
 {
-    match index(c, s) {
-        Way::Unreadable => Way::Unreadable,
-        Way::Behind(offset) => index(offset, s),
-    }
+    let offset = index(c, s)?;
+    index(offset, s)
 }
 
 // What stands behind an opcode.
@@ -73,7 +63,7 @@ fn immediates_here(shape: Shape, c: Cursor, s: &[u8]) -> Way
     ensures { Goes (immediates shape) s.now c result }
 {
     match shape {
-        Shape::Plain => Way::Behind(c),
+        Shape::Plain => Some(c),
         Shape::Block => byte_of(c, s, ByteKind::BlockType),
         Shape::Index => index(c, s),
         Shape::Table => labels_here(c, s),
@@ -84,7 +74,7 @@ fn immediates_here(shape: Shape, c: Cursor, s: &[u8]) -> Way
         Shape::Const64 => signed(c, s, FOLLOWING_64, ByteKind::LastOf64),
         Shape::Float32 => bytes_on(c, FLOAT_32),
         Shape::Float64 => bytes_on(c, FLOAT_64),
-        Shape::Unknown => Way::Unreadable,
+        Shape::Unknown => None,
     }
 }
 
@@ -96,7 +86,7 @@ pub fn step(c: Cursor, s: &[u8]) -> Way
     let at = c.at;
     let end = c.end;
     if end <= at {
-        return Way::Unreadable;
+        return None;
     }
     let shape = shape_of(s[at]);
     immediates_here(shape, Cursor { at: at + 1, end }, s)

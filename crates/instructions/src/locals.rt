@@ -7,7 +7,7 @@ ghost use Rattle.instructions.specs.Promises.{InstructionsLocals};
 
 use crate::Way;
 use crate::pieces::{ByteKind, byte_of};
-use reading::{Cursor, NumberRead};
+use reading::Cursor;
 
 // A body has fewer locals than this.
 const TOO_MANY: u64 = 0x1_0000_0000;
@@ -18,24 +18,19 @@ fn groups(c: Cursor, s: &[u8], n: u32) -> Way
     ensures { Goes (local_groups n 0) s.now c result }
 {
     let mut next = c;
-    let mut more = n;
     let mut before: u64 = 0;
-    while 0 < more {
-        let NumberRead::Value(count, d, _) = next.number(s) else {
-            return Way::Unreadable;
+    for _ in 0..n {
+        let Ok((count, d, _)) = next.number(s) else {
+            return None;
         };
         let all = before + count as u64;
         if TOO_MANY <= all {
-            return Way::Unreadable;
+            return None;
         }
-        let Way::Behind(after) = byte_of(d, s, ByteKind::ValueType) else {
-            return Way::Unreadable;
-        };
-        next = after;
-        more = more - 1;
+        next = byte_of(d, s, ByteKind::ValueType)?;
         before = all;
     }
-    Way::Behind(next)
+    Some(next)
 }
 
 // The locals: how many groups, and so many.
@@ -43,8 +38,8 @@ pub fn locals(c: Cursor, s: &[u8]) -> Way
     requires { Inside s.now c }
     ensures { InstructionsLocals c s.now result }
 {
-    match c.number(s) {
-        NumberRead::Refused(_) => Way::Unreadable,
-        NumberRead::Value(n, d, _) => groups(d, s, n),
-    }
+    let Ok((n, d, _)) = c.number(s) else {
+        return None;
+    };
+    groups(d, s, n)
 }

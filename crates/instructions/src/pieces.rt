@@ -6,7 +6,7 @@ ghost use Rattle.instructions.specs.Immediates.{is_value_type, is_block_type, is
 ghost use Rattle.instructions.specs.Ways.{Goes, bytes_on};
 
 use crate::Way;
-use reading::{Cursor, NumberRead};
+use reading::Cursor;
 
 // What one byte has to be.
 #[derive(Clone, Copy)]
@@ -100,12 +100,12 @@ pub fn byte_of(c: Cursor, s: &[u8], kind: ByteKind) -> Way
     let at = c.at;
     let end = c.end;
     if end <= at {
-        return Way::Unreadable;
+        return None;
     }
     if is_of(kind, s[at]) {
-        return Way::Behind(Cursor { at: at + 1, end });
+        return Some(Cursor { at: at + 1, end });
     }
-    Way::Unreadable
+    None
 }
 
 // So many bytes of any kind.
@@ -116,9 +116,9 @@ pub fn bytes_on(c: Cursor, n: usize) -> Way
     let at = c.at;
     let end = c.end;
     if end - at < n {
-        return Way::Unreadable;
+        return None;
     }
-    Way::Behind(Cursor { at: at + n, end })
+    Some(Cursor { at: at + n, end })
 }
 
 // An index, or another unsigned number of 32 bits.
@@ -126,10 +126,10 @@ pub fn index(c: Cursor, s: &[u8]) -> Way
     requires { Inside s.now c }
     ensures { Goes Immediates.index s.now c result }
 {
-    match c.number(s) {
-        NumberRead::Refused(_) => Way::Unreadable,
-        NumberRead::Value(_, next, _) => Way::Behind(next),
-    }
+    let Ok((_, next, _)) = c.number(s) else {
+        return None;
+    };
+    Some(next)
 }
 
 // So many of them.
@@ -138,19 +138,10 @@ pub fn indices(c: Cursor, s: &[u8], n: u32) -> Way
     ensures { Goes (Immediates.indices n) s.now c result }
 {
     let mut next = c;
-    let mut more = n;
-    while 0 < more {
-        match index(next, s) {
-            Way::Unreadable => {
-                return Way::Unreadable;
-            }
-            Way::Behind(after) => {
-                next = after;
-                more = more - 1;
-            }
-        }
+    for _ in 0..n {
+        next = index(next, s)?;
     }
-    Way::Behind(next)
+    Some(next)
 }
 
 // A signed number, of which so many bytes may follow the first; the one behind these is of a kind.
@@ -163,10 +154,10 @@ pub fn signed(c: Cursor, s: &[u8], following: u32, last: ByteKind) -> Way
     let mut more = following;
     while 0 < more {
         if end <= i {
-            return Way::Unreadable;
+            return None;
         }
         if s[i] < FOLLOWED {
-            return Way::Behind(Cursor { at: i + 1, end });
+            return Some(Cursor { at: i + 1, end });
         }
         i = i + 1;
         more = more - 1;

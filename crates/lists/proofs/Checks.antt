@@ -1,4 +1,5 @@
 -- The checks of the lists: that they agree, that the indices rise, that each name is text.
+use Rattle.std.specs.Prelude.{Ok, Err}
 use Prim.Native.Nat.{ℕ, zero, suc, ◌+◌, ◌-◌, ◌≤◌, ◌<◌}
 use mathlib.Core.Bool.{Bool, true, false, not}
 use mathlib.Core.List.{List, [], ◌∷◌}
@@ -16,7 +17,6 @@ use Rattle.format.specs.Text.{utf8}
 use Rattle.format.specs.Laws.Outcomes.{by_test}
 use Rattle.format.specs.declared.Reason.TheVariants.{NotAbove, NotText}
 use Rattle.lists.specs.Steps.{agree, checked_as, index_check, text_check}
-use Rattle.lists.specs.declared.Checked.TheVariants.{Passed, Refused}
 use Rattle.lists.proofs.Laws.{sum_next, sum_end, unsorted_next, unsorted_end, bad_text_next, bad_text_end}
 
 -- The loop that adds lengths up: `left` is what those from `k` on have to add up to
@@ -64,11 +64,11 @@ module _ {is : List ℕ} {least k : ℕ} (t : Rising is least k) where
   pub rising_more : {i : ℕ} → k < length is → i ≡ get_or is k 0 → least ≤ i → Rising is (i + 1) (k + 1)
   rising_more {i} h e l = record { same = t.same ∙ rw (unsorted_next is k least h, ← e, le-leb least i l, add-one i) }
 
-  pub rising_refused : {i : ℕ} → k < length is → i ≡ get_or is k 0 → i < least → checked_as (Refused (record { reason = NotAbove; offset = record { 0 = k } })) ≡ index_check is
+  pub rising_refused : {i : ℕ} → k < length is → i ≡ get_or is k 0 → i < least → checked_as (Err (record { reason = NotAbove; offset = record { 0 = k } })) ≡ index_check is
   unfolding index_check
   rising_refused {i} h e l = rw (t.same, unsorted_next is k least h, ← e, lt-leb least i l)
 
-  pub rising_ends : length is ≤ k → checked_as Passed ≡ index_check is
+  pub rising_ends : length is ≤ k → checked_as (Ok tt) ≡ index_check is
   unfolding index_check
   rising_ends h = rw (t.same, unsorted_end is k least h)
 
@@ -101,13 +101,13 @@ module _ {ns text : List ℕ} {start k : ℕ} (t : Reading ns text start k) wher
           same = t.same ∙ rw (bad_text_next ns k text start h, ← e, fine);
         }
 
-    pub reading_refused : {b : Bool} → b ≡ utf8 (slice start (start + n) text) → not b ≡ true → checked_as (Refused (record { reason = NotText; offset = record { 0 = start } })) ≡ text_check ns text
+    pub reading_refused : {b : Bool} → b ≡ utf8 (slice start (start + n) text) → not b ≡ true → checked_as (Err (record { reason = NotText; offset = record { 0 = start } })) ≡ text_check ns text
     unfolding text_check
     reading_refused {b} u v =
         let bad : utf8 (take n (drop start text)) ≡ false = rw (← stretch start n text) (sym u ∙ not-true b v) in
         rw (t.same, bad_text_next ns k text start h, ← e, bad)
 
-  pub reading_ends : length ns ≤ k → checked_as Passed ≡ text_check ns text
+  pub reading_ends : length ns ≤ k → checked_as (Ok tt) ≡ text_check ns text
   unfolding text_check
   reading_ends h = rw (t.same, bad_text_end ns k text start h)
 

@@ -1,4 +1,5 @@
 -- The payload is nothing for empty lists and one subsection otherwise; and what the write leaves is what the lists ask for.
+use Rattle.std.specs.Prelude.{Ok, Err}
 use Prim.Native.Nat.{ℕ, ◌+◌, ◌≤◌, ◌<◌}
 use mathlib.Core.Bool.{Bool, true, false}
 use mathlib.Core.List.{List, [], ◌∷◌, ◌++◌, append-nil}
@@ -23,11 +24,9 @@ use Rattle.format.specs.Laws.Outputs.{writes_refused, writes_short}
 use Rattle.format.specs.declared.Reason.{Reason}
 use Rattle.format.specs.declared.Reason.TheVariants.{OutputTooShort}
 use Rattle.format.specs.declared.Refusal.{Refusal}
-use Rattle.format.specs.declared.Written.{Written}
-use Rattle.format.specs.declared.Written.TheVariants.{Length, Refused as NotWritten}
+use Rattle.format.specs.Returned.{Written}
 use Rattle.lists.specs.Steps.{agree, rows_length, contents_length, contents_as, size_check, lists_judged, Joined, Measured, rows_of, filled, needed_for, payload}
-use Rattle.lists.specs.declared.Contents.{Contents}
-use Rattle.lists.specs.declared.Contents.TheVariants.{Length as Measures, Refused}
+use Rattle.lists.specs.Returned.{Contents}
 use Rattle.lists.proofs.Verdicts.{agreed_joined}
 use Rattle.writing.specs.Wrote.{Wrote}
 use Rattle.writing.proofs.Laws.{wrote_nothing, writes_wrote}
@@ -77,16 +76,16 @@ module _ {is ns text : List ℕ} {size : ℕ} (m : Measured is ns text size) whe
   filled_long = simp (length-append, rows_long is ns text (omega (arith, m.joined.add_up))) (omega (arith, m.measured))
 
   module _ {old : List ℕ} where
-    pub write_nothing : length is ≡ 0 → Writes (accepted (payload is ns text)) old old (Length 0)
+    pub write_nothing : length is ≡ 0 → Writes (accepted (payload is ns text)) old old (Ok 0)
     write_nothing e = writes_wrote (ap accepted (nothing_listed is ns text e)) (wrote_nothing (omega arith))
 
     module _ (h : length is ≡ 0 → ⊥) where
-      pub write_short : {a b : ℕ} → a ≡ length (shortest size) → b ≡ size → length old < 1 + a + b → Writes (accepted (payload is ns text)) old old (NotWritten (record { reason = OutputTooShort; offset = record { 0 = 1 + a + b } }))
+      pub write_short : {a b : ℕ} → a ≡ length (shortest size) → b ≡ size → length old < 1 + a + b → Writes (accepted (payload is ns text)) old old (Err (record { reason = OutputTooShort; offset = record { 0 = 1 + a + b } }))
       write_short {a} {b} p q l =
           let needed : 1 + a + b ≡ length (payload is ns text) = rw (payload_filled h, filled_long) (omega arith) in
           rw needed (writes_short refl (rw needed at l))
 
-      pub write_all : {new : List ℕ} {next : ℕ} → Wrote old new 0 next (filled is ns text size) → Writes (accepted (payload is ns text)) old new (Length next)
+      pub write_all : {new : List ℕ} {next : ℕ} → Wrote old new 0 next (filled is ns text size) → Writes (accepted (payload is ns text)) old new (Ok next)
       write_all w = writes_wrote (ap accepted (payload_filled h)) w
 
 pub ruleset writings = (write_nothing, write_short, write_all, rules)
@@ -119,10 +118,10 @@ module _ (is ns text : List ℕ) where
       record { joined = agreed_joined is ns text t; measured = sym all; small = omega (arith, ltb-true (contents_length is ns) limit32 s) }
 
   module _ {x : Contents} (c : contents_as x ≡ lists_judged is ns text) where
-    pub names_refused : {old : List ℕ} {r : Refusal} → x ≡ Refused r → Writes (function_names is ns text) old old (NotWritten r)
-    names_refused e = writes_refused (judged_names ∙ rw (← c, e))
+    pub names_refused : {old : List ℕ} {r : Refusal} → x ≡ Err r → {y : Written} → y ≡ Err r → Writes (function_names is ns text) old old y
+    names_refused e q = rw q (writes_refused (judged_names ∙ rw (← c, e)))
 
-    module _ {n : ℕ} (e : x ≡ Measures n) where
+    module _ {n : ℕ} (e : x ≡ Ok n) where
       pub names_measured : Measured is ns text n
       names_measured = measured_names (sym c ∙ rw e)
 

@@ -1,4 +1,5 @@
 -- The checks one after the other: the first refusal is the judgement, and lists that pass are measured.
+use Rattle.std.specs.Prelude.{Ok, Err}
 use Prim.Native.Nat.{ℕ, ◌≤◌}
 use mathlib.Core.Bool.{Bool, true, false, not}
 use mathlib.Core.List.{List}
@@ -14,12 +15,8 @@ use Rattle.format.specs.Lists.{sum, unsorted_at, bad_text_at, unless}
 use Rattle.format.specs.Laws.Outcomes.{not_accepted, on_both}
 use Rattle.format.specs.declared.Reason.{Reason}
 use Rattle.format.specs.declared.Reason.TheVariants.{ListsDisagree, NotAbove, NotText}
-use Rattle.format.specs.declared.Refusal.{Refusal}
 use Rattle.lists.specs.Steps.{agree, checked_as, index_check, text_check, contents_as, size_check, lists_judged, Joined}
-use Rattle.lists.specs.declared.Checked.{Checked}
-use Rattle.lists.specs.declared.Checked.TheVariants.{Passed, Refused as NotPassed}
-use Rattle.lists.specs.declared.Contents.{Contents}
-use Rattle.lists.specs.declared.Contents.TheVariants.{Refused}
+use Rattle.lists.specs.Returned.{Contents}
 
 -- A check that refused, and one that passed
 module _ {A : Type 0} (why : Reason) (next : Judged A) where
@@ -41,7 +38,7 @@ agreed_joined is ns text e =
     record { same_count = eqb-true (length is) (length ns) p; add_up = eqb-true (sum ns) (length text) q }
 
 module _ (is ns text : List ℕ) {b : Bool} (a : b ≡ agree is ns text) where
-  pub judge_disagree : not b ≡ true → contents_as (Refused (record { reason = ListsDisagree; offset = record { 0 = 0 } })) ≡ lists_judged is ns text
+  pub judge_disagree : not b ≡ true → contents_as (Err (record { reason = ListsDisagree; offset = record { 0 = 0 } })) ≡ lists_judged is ns text
   unfolding lists_judged
   judge_disagree v = rw (← a, not-true b v)
 
@@ -58,22 +55,21 @@ module _ (is ns text : List ℕ) {b : Bool} (a : b ≡ agree is ns text) where
     pub judge_sum : sum ns ≤ length text
     judge_sum = omega (arith, judge_joined)
 
-    module _ {x : Checked} (i : checked_as x ≡ index_check is) where
-      pub judge_indices : {r : Refusal} → x ≡ NotPassed r → contents_as (Refused r) ≡ lists_judged is ns text
-      unfolding lists_judged index_check
-      judge_indices e = rw agreed (stopped NotAbove _ (unsorted_at 0 0 is) (rw e at i))
+    pub judge_indices : {n at : ℕ} → refused n at ≡ index_check is → refused n at ≡ lists_judged is ns text
+    unfolding lists_judged index_check
+    judge_indices i = rw agreed (stopped NotAbove _ (unsorted_at 0 0 is) i)
 
-      index_passed : x ≡ Passed → unless (unsorted_at 0 0 is) NotAbove (unless (bad_text_at 0 ns text) NotText (size_check is ns)) ≡ unless (bad_text_at 0 ns text) NotText (size_check is ns)
+    module _ (i : checked_as (Ok tt) ≡ index_check is) where
+      index_passed : unless (unsorted_at 0 0 is) NotAbove (unless (bad_text_at 0 ns text) NotText (size_check is ns)) ≡ unless (bad_text_at 0 ns text) NotText (size_check is ns)
       unfolding index_check
-      index_passed p = went_on NotAbove _ (unsorted_at 0 0 is) (rw p at i)
+      index_passed = went_on NotAbove _ (unsorted_at 0 0 is) i
 
-      module _ (p : x ≡ Passed) {y : Checked} (j : checked_as y ≡ text_check ns text) where
-        pub judge_name : {r : Refusal} → y ≡ NotPassed r → contents_as (Refused r) ≡ lists_judged is ns text
-        unfolding lists_judged text_check
-        judge_name e = rw (agreed, index_passed p) (stopped NotText _ (bad_text_at 0 ns text) (rw e at j))
+      pub judge_name : {n at : ℕ} → refused n at ≡ text_check ns text → refused n at ≡ lists_judged is ns text
+      unfolding lists_judged text_check
+      judge_name j = rw (agreed, index_passed) (stopped NotText _ (bad_text_at 0 ns text) j)
 
-        pub judge_measured : (z : Contents) → y ≡ Passed → contents_as z ≡ size_check is ns → contents_as z ≡ lists_judged is ns text
-        unfolding lists_judged text_check
-        judge_measured z q m = rw (agreed, index_passed p) (m ∙ sym (went_on NotText _ (bad_text_at 0 ns text) (rw q at j)))
+      pub judge_measured : (z : Contents) → checked_as (Ok tt) ≡ text_check ns text → contents_as z ≡ size_check is ns → contents_as z ≡ lists_judged is ns text
+      unfolding lists_judged text_check
+      judge_measured z j m = rw (agreed, index_passed) (m ∙ sym (went_on NotText _ (bad_text_at 0 ns text) j))
 
 pub ruleset verdicts = (judge_disagree, judge_count, judge_sum, judge_indices, judge_name, judge_measured, rules)

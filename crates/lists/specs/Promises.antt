@@ -2,7 +2,7 @@
 use Rattle.std.specs.Prelude.{ℕ, List}
 use Rattle.format.specs.Lists.{function_names}
 use Rattle.format.specs.Outputs.{Writes}
-use Rattle.format.specs.declared.Written.{Written}
+use Rattle.format.specs.Returned.{Written}
 
 -- lists
 abbrev pub ListsFunctionNames : (indices lengths text old : List ℕ) → List ℕ → Written → Type 0

@@ -1,23 +1,20 @@
 -- What the steps of the write promise one another: the checks, the length of the contents, and the bytes. Assumes nothing.
-use Rattle.std.specs.Prelude.{ℕ, ◌+◌, ◌<◌, Bool, ◌&&◌, List, [], ◌∷◌, ◌++◌, ◌≡◌, ltb, eqb, length}
+use Rattle.std.specs.Prelude.{ℕ, ◌+◌, ◌<◌, Bool, ◌&&◌, List, [], ◌∷◌, ◌++◌, ◌≡◌, ltb, eqb, length, Ok, Err}
 use Rattle.format.specs.Refusals.{number_of}
 use Rattle.format.specs.Reading.{Judged, accepted, refused}
 use Rattle.format.specs.Numbers.{shortest, limit32}
 use Rattle.format.specs.Canonical.{write_part, write_rows, write_subsections}
 use Rattle.format.specs.Lists.{sum, listed, unsorted_at, bad_text_at, unless, provided, subsection}
 use Rattle.format.specs.declared.Reason.TheVariants.{ListsDisagree, NotAbove, NotText, SubsectionTooLarge}
-use Rattle.lists.specs.declared.Checked.{Checked}
-use Rattle.lists.specs.declared.Checked.TheVariants.{Passed, Refused as NotPassed}
-use Rattle.lists.specs.declared.Contents.{Contents}
-use Rattle.lists.specs.declared.Contents.TheVariants.{Length, Refused}
+use Rattle.lists.specs.Returned.{Checked, Contents}
 
 -- a length for each index, and the lengths add up to the text
 unfoldable pub agree : (indices lengths text : List ℕ) → Bool
 agree is ns text = eqb (length is) (length ns) && eqb (sum ns) (length text)
 
 abbrev pub checked_as : Checked → Judged (Unit {0})
-checked_as Passed = accepted tt
-checked_as (NotPassed r) = refused (number_of r.reason) r.offset.0
+checked_as (Ok _) = accepted tt
+checked_as (Err r) = refused (number_of r.reason) r.offset.0
 
 unfoldable pub index_check : List ℕ → Judged (Unit {0})
 index_check is = unless (unsorted_at 0 0 is) NotAbove (accepted tt)
@@ -38,8 +35,8 @@ abbrev pub contents_length : (indices lengths : List ℕ) → ℕ
 contents_length is ns = length (shortest (length is)) + rows_length is ns
 
 abbrev pub contents_as : Contents → Judged ℕ
-contents_as (Length n) = accepted n
-contents_as (Refused r) = refused (number_of r.reason) r.offset.0
+contents_as (Ok n) = accepted n
+contents_as (Err r) = refused (number_of r.reason) r.offset.0
 
 unfoldable pub size_check : (indices lengths : List ℕ) → Judged ℕ
 size_check is ns = provided (ltb (contents_length is ns) limit32) SubsectionTooLarge (accepted (contents_length is ns))

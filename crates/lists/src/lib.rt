@@ -24,18 +24,10 @@ const ID_LENGTH: usize = 1;
 const TOO_LARGE: usize = 1 << 32;
 
 // What a check of the lists finds.
-#[derive(Clone, Copy)]
-enum Checked {
-    Passed,
-    Refused(Refusal),
-}
+type Checked = Result<(), Refusal>;
 
 // How long the subsection's contents are.
-#[derive(Clone, Copy)]
-enum Contents {
-    Length(u32),
-    Refused(Refusal),
-}
+type Contents = Result<u32, Refusal>;
 
 // A number of the lists, as a size.
 fn wide(n: u32) -> usize
@@ -81,7 +73,7 @@ fn check_indices(indices: &[u32]) -> Checked
     while k < indices.len() {
         let index = wide(indices[k]);
         if index < least {
-            return Checked::Refused(Refusal {
+            return Err(Refusal {
                 reason: Reason::NotAbove,
                 offset: Offset(k),
             });
@@ -89,7 +81,7 @@ fn check_indices(indices: &[u32]) -> Checked
         least = index + 1;
         k += 1;
     }
-    Checked::Passed
+    Ok(())
 }
 
 // Each name is valid UTF-8. The refusal points to where the name starts in the joined text.
@@ -103,7 +95,7 @@ fn check_text(lengths: &[u32], text: &[u8]) -> Checked
         let size = wide(lengths[k]);
         let end = start + size;
         if !is_text(text, start, end) {
-            return Checked::Refused(Refusal {
+            return Err(Refusal {
                 reason: Reason::NotText,
                 offset: Offset(start),
             });
@@ -111,7 +103,7 @@ fn check_text(lengths: &[u32], text: &[u8]) -> Checked
         start = end;
         k += 1;
     }
-    Checked::Passed
+    Ok(())
 }
 
 // How many bytes an index, a name's length and the name take.
@@ -128,7 +120,7 @@ fn measure(indices: &[u32], lengths: &[u32]) -> Contents
     requires { length indices.now ≡ length lengths.now }
     ensures { contents_as result ≡ size_check indices.now lengths.now }
 {
-    let too_large = Contents::Refused(Refusal {
+    let too_large = Err(Refusal {
         reason: Reason::SubsectionTooLarge,
         offset: Offset(0),
     });
@@ -147,28 +139,23 @@ fn measure(indices: &[u32], lengths: &[u32]) -> Contents
         }
         k += 1;
     }
-    Contents::Length(total as u32)
+    Ok(total as u32)
 }
 
 // Every check in its order, then how long the contents are.
+#[tactic(auto, using(crate::proofs::Verdicts::verdicts))]
 fn judge(indices: &[u32], lengths: &[u32], text: &[u8]) -> Contents
     ensures { contents_as result ≡ lists_judged indices.now lengths.now text.now }
 {
     if !all_agree(indices, lengths, text) {
-        return Contents::Refused(Refusal {
+        return Err(Refusal {
             reason: Reason::ListsDisagree,
             offset: Offset(0),
         });
     }
-    let order = check_indices(indices);
-    let names = check_text(lengths, text);
-    match order {
-        Checked::Refused(r) => Contents::Refused(r),
-        Checked::Passed => match names {
-            Checked::Refused(r) => Contents::Refused(r),
-            Checked::Passed => measure(indices, lengths),
-        },
-    }
+    check_indices(indices)?;
+    check_text(lengths, text)?;
+    measure(indices, lengths)
 }
 
 // An index, a name's length and the name.
@@ -219,26 +206,24 @@ fn write(out: &mut [u8], indices: &[u32], lengths: &[u32], text: &[u8], size: u3
     ensures { Writes (accepted (payload indices.now lengths.now text.now)) out.old out.new result }
 {
     if indices.len() == 0 {
-        return Written::Length(0);
+        return Ok(0);
     }
     let before = ID_LENGTH + number_length(size);
     let needed = before + wide(size);
     if out.len() < needed {
-        return Written::Refused(Refusal {
+        return Err(Refusal {
             reason: Reason::OutputTooShort,
             offset: Offset(needed),
         });
     }
     let end = put_subsection(out, indices, lengths, text, size);
-    Written::Length(end)
+    Ok(end)
 }
 
 // Writes one subsection of function names in canonical form. Nothing is stored before all is known to fit.
 pub fn function_names(indices: &[u32], lengths: &[u32], text: &[u8], out: &mut [u8]) -> Written
     ensures { ListsFunctionNames indices.now lengths.now text.now out.old out.new result }
 {
-    match judge(indices, lengths, text) {
-        Contents::Refused(r) => Written::Refused(r),
-        Contents::Length(size) => write(out, indices, lengths, text, size),
-    }
+    let size = judge(indices, lengths, text)?;
+    write(out, indices, lengths, text, size)
 }

@@ -1,4 +1,5 @@
 -- The loops that look up and pass by: what the rows to come have at the key is what all have.
+use Rattle.std.specs.Prelude.{Ok, Some, None}
 use Prim.Native.Nat.{ℕ, suc, ◌-◌, ◌≤◌, ◌<◌}
 use mathlib.Core.List.{List}
 use mathlib.Core.Option.{none, some}
@@ -6,11 +7,9 @@ use mathlib.Core.Path.{◌≡◌, refl, sym, ◌∙◌}
 use native.Mathlib.Omega.{arith}
 use borrow.Author.Rules.{rules}
 use borrow.Author.Tests.{eq-eqb, ne_eqb}
-use denote.Enum.Declared.{tag_of}
 use lib.Seq.{length-slice}
 use Rattle.format.specs.Reading.{Reader, accepted}
 use Rattle.format.specs.Questions.{answered, as_place}
-use Rattle.format.specs.declared.Answer.TheVariants.{None, Found}
 use Rattle.format.specs.Numbers.{number}
 use Rattle.format.specs.Parts.{sized}
 use Rattle.format.specs.Tables.{Table, row, lookup, rows, table}
@@ -22,15 +21,10 @@ use Rattle.reading.proofs.Standing.{one_value}
 use Rattle.tables.specs.Stepping.{behind_at, Splits, RowSteps, GroupSteps}
 use Rattle.tables.specs.Finding.{within, HeldInside, HeldOrdered, answer_of, Finds, Skips}
 use Rattle.tables.specs.Steps.{held_of}
-use Rattle.tables.specs.declared.Held.{Held}
-use Rattle.tables.specs.declared.Held.TheVariants.{Nothing, Part as APart}
+use Rattle.tables.specs.Returned.{Held}
 use Rattle.tables.specs.declared.stepping.Rows.{Rows}
-use Rattle.tables.specs.declared.stepping.RowStep.{RowStep}
-use Rattle.tables.specs.declared.stepping.RowStep.TheVariants.{Row}
-use Rattle.tables.specs.declared.stepping.GroupStep.{GroupStep}
-use Rattle.tables.specs.declared.stepping.GroupStep.TheVariants.{Group}
-use Rattle.tables.specs.contracts.stepping.RowStep as row_type
-use Rattle.tables.specs.contracts.stepping.GroupStep as group_type
+use Rattle.tables.specs.Returned.{RowStep}
+use Rattle.tables.specs.Returned.{GroupStep}
 use Rattle.tables.proofs.Rows.{rows_above}
 use Rattle.tables.proofs.Accepted.{known_count, table_rows, rows_table}
 use Rattle.tables.proofs.Along.{Along, setting_out, still_known, ended, onward}
@@ -38,11 +32,11 @@ use Rattle.tables.proofs.StepLaws.{no_row, a_row, row_left, row_fewer, no_group,
 
 -- What is held, as an answer
 module _ {held : Held} where
-  pub none_held : held ≡ Nothing → None ≡ answer_of held
+  pub none_held : held ≡ None → (Ok None) ≡ answer_of held
   none_held e = rw e
 
-  module _ {part : Cursor} (e : held ≡ APart part) where
-    pub part_held : Found (record { offset = record { 0 = part.at }; length = part.end - part.at }) ≡ answer_of held
+  module _ {part : Cursor} (e : held ≡ Some part) where
+    pub part_held : Ok (Some (record { offset = record { 0 = part.at }; length = part.end - part.at })) ≡ answer_of held
     part_held = rw e
 
     pub part_ordered : HeldOrdered held → part.at ≤ part.end
@@ -51,13 +45,13 @@ module _ {held : Held} where
 pub ruleset held_answers = (none_held, part_held, part_ordered, rules)
 
 pub held_ordered_lem : (s : List ℕ) (held : Held) → HeldInside s held → HeldOrdered held
-held_ordered_lem s Nothing i = tt
-held_ordered_lem s (APart part) i = i.ahead
+held_ordered_lem s None i = tt
+held_ordered_lem s (Some part) i = i.ahead
 
 pub held_means : (s : List ℕ) (held : Held) → HeldInside s held → answered (answer_of held) ≡ as_place (accepted (held_of s held))
 unfolding as_place
-held_means s Nothing i = refl
-held_means s (APart part) i = rw (length-slice part.at part.end s i.within)
+held_means s None i = refl
+held_means s (Some part) i = rw (length-slice part.at part.end s i.within)
 
 -- whenever the loop is at its beginning
 pub record Seeking {A : Type 0} (read : Reader A) (key : ℕ) (s : List ℕ) (begun left : Rows) : Type 0 where
@@ -105,17 +99,17 @@ module _ {A : Type 0} (read : Reader A) {key : ℕ} {s : List ℕ} {begun left :
 -- Rows with parts
 module _ {key : ℕ} {s : List ℕ} {begun left : Rows} {x : RowStep} (t : Seeking sized key s begun left) (r : RowSteps s left x) where
   module _ {c : Cursor} (count : Stands number s c begun.more begun.next) where
-    pub row_none : tag_of row_type.the_type x ≡ 0 → Finds (table sized) (lookup key) s c Nothing
-    row_none h = record { value = t.along.all; next = t.along.last; stands = whole_table sized count t.along; found = sym (none_left sized t (no_row x r h)); inside = tt }
+    pub row_none : x ≡ None → Finds (table sized) (lookup key) s c None
+    row_none h = record { value = t.along.all; next = t.along.last; stands = whole_table sized count t.along; found = sym (none_left sized t (no_row r h)); inside = tt }
 
-    module _ {k : ℕ} {part next : Cursor} (e : x ≡ Row k part next) where
-      pub row_hit : key ≡ k → Finds (table sized) (lookup key) s c (APart part)
+    module _ {k : ℕ} {part next : Cursor} (e : x ≡ Some (k, part, next)) where
+      pub row_hit : key ≡ k → Finds (table sized) (lookup key) s c (Some part)
       row_hit q = let p = a_row r e in record { value = t.along.all; next = t.along.last; stands = whole_table sized count t.along; found = sym (hit sized t p.splits q); inside = p.in_part }
 
-      pub row_past : key ≤ k → (key ≡ k → ⊥) → Finds (table sized) (lookup key) s c Nothing
+      pub row_past : key ≤ k → (key ≡ k → ⊥) → Finds (table sized) (lookup key) s c None
       row_past h n = let p = a_row r e in record { value = t.along.all; next = t.along.last; stands = whole_table sized count t.along; found = sym (past sized t p.splits h n); inside = tt }
 
-  module _ {k : ℕ} {part next : Cursor} {after : Rows} (e : x ≡ Row k part next) where
+  module _ {k : ℕ} {part next : Cursor} {after : Rows} (e : x ≡ Some (k, part, next)) where
     pub row_on : k < key → after ≡ behind_at left next → Seeking sized key s begun after
     row_on h is = rw is (seeks_on sized t (a_row r e).splits h)
 
@@ -123,10 +117,10 @@ pub ruleset row_seeking = (seeking_begins, count_known, rows_known, row_none, ro
 
 -- Past all rows
 module _ {s : List ℕ} {begun left : Rows} {x : RowStep} (a : Along sized s begun left) (r : RowSteps s left x) where
-  pub skipped : {c : Cursor} → Stands number s c begun.more begun.next → tag_of row_type.the_type x ≡ 0 → Skips s c left.next
-  skipped count h = record { value = a.all; stands = rows_table sized count (ended a (no_row x r h)).stands }
+  pub skipped : {c : Cursor} → Stands number s c begun.more begun.next → x ≡ None → Skips s c left.next
+  skipped count h = record { value = a.all; stands = rows_table sized count (ended a (no_row r h)).stands }
 
-  pub skips_on : {k : ℕ} {part next : Cursor} {after : Rows} → x ≡ Row k part next → after ≡ behind_at left next → Along sized s begun after
+  pub skips_on : {k : ℕ} {part next : Cursor} {after : Rows} → x ≡ Some (k, part, next) → after ≡ behind_at left next → Along sized s begun after
   skips_on e is = rw is (onward a (a_row r e).splits).along
 
 pub ruleset skipping = (along_begins, count_known, still_known, skipped, skips_on, row_left, row_fewer, rules)
@@ -137,11 +131,11 @@ module _ {key : ℕ} (inner : ℕ) {s : List ℕ} {c : Cursor} {begun left : Row
     group_answers : {held : Held} → held_of s held ≡ some_then (lookup key t.along.all) (lookup inner) → HeldInside s held → Finds (table (table sized)) (within key inner) s c held
     group_answers e i = record { value = t.along.all; next = t.along.last; stands = whole_table (table sized) count t.along; found = e; inside = i }
 
-    pub group_none : tag_of group_type.the_type x ≡ 0 → Finds (table (table sized)) (within key inner) s c Nothing
-    group_none h = group_answers (rw (none_left (table sized) t (no_group x r h))) tt
+    pub group_none : x ≡ None → Finds (table (table sized)) (within key inner) s c None
+    group_none h = group_answers (rw (none_left (table sized) t (no_group r h))) tt
 
-    module _ {k : ℕ} {place : Cursor} (e : x ≡ Group k place) where
-      pub group_past : key ≤ k → (key ≡ k → ⊥) → Finds (table (table sized)) (within key inner) s c Nothing
+    module _ {k : ℕ} {place : Cursor} (e : x ≡ Some (k, place)) where
+      pub group_past : key ≤ k → (key ≡ k → ⊥) → Finds (table (table sized)) (within key inner) s c None
       group_past h n = group_answers (rw (past (table sized) t (a_group r e).splits h n)) tt
 
       pub group_hit : {held : Held} → key ≡ k → Finds (table sized) (lookup inner) s place held → Finds (table (table sized)) (within key inner) s c held
@@ -151,7 +145,7 @@ module _ {key : ℕ} (inner : ℕ) {s : List ℕ} {c : Cursor} {begun left : Row
           group_answers (rw (hit (table sized) t g.splits q, ← same) f.found) f.inside
 
 module _ {key : ℕ} {s : List ℕ} {begun left : Rows} {x : GroupStep} {k : ℕ} {place next : Cursor} {after : Rows} where
-  pub group_on : Seeking (table sized) key s begun left → GroupSteps s left x → x ≡ Group k place → k < key → Skips s place next → after ≡ behind_at left next → Seeking (table sized) key s begun after
+  pub group_on : Seeking (table sized) key s begun left → GroupSteps s left x → x ≡ Some (k, place) → k < key → Skips s place next → after ≡ behind_at left next → Seeking (table sized) key s begun after
   group_on t r e h w is = rw is (seeks_on (table sized) t (group_passed r e w.stands) h)
 
 pub ruleset group_seeking = (seeking_begins, count_known, rows_known, group_none, group_past, group_hit, group_known, group_left, group_fewer, group_on, rules)

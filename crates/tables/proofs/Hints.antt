@@ -1,4 +1,5 @@
 -- A hint's bytes: whether a part is one, and the hint in its fewest bytes, which is taken without its size being read as a number.
+use Rattle.std.specs.Prelude.{Ok}
 use Prim.Native.Nat.{ℕ, zero, suc, ◌+◌, ◌-◌, ◌≤◌, ◌<◌}
 use mathlib.Core.Bool.{Bool, true, false}
 use mathlib.Core.List.{List, [], ◌∷◌}
@@ -19,8 +20,7 @@ use Rattle.format.specs.Laws.Outcomes.{by_test, false_true, on_both}
 use Rattle.format.proofs.Laws.Padding.{as_few_lem}
 use Rattle.reading.specs.Cursors.{Inside, left, PartReads}
 use Rattle.reading.specs.declared.Cursor.{Cursor}
-use Rattle.reading.specs.declared.PartRead.{PartRead}
-use Rattle.reading.specs.declared.PartRead.TheVariants.{Part as APart}
+use Rattle.reading.specs.Returned.{PartRead}
 use Rattle.tables.specs.Seeking.{reader_of}
 use Rattle.tables.specs.Steps.{is_short_hint, is_short}
 use Rattle.tables.specs.declared.Item.{Item}
@@ -89,7 +89,7 @@ pub ruleset short_steps = (hint_short, rules)
 
 -- the part of one byte behind the size, and what follows it
 abbrev behind_size : Cursor → PartRead
-behind_size c = APart (record { at = c.at + 1; end = c.at + 1 + 1 }) (record { at = c.at + 1 + 1; end = c.end }) true
+behind_size c = Ok ((record { at = c.at + 1; end = c.at + 1 + 1 }), (record { at = c.at + 1 + 1; end = c.end }), true)
 
 -- a part of one byte takes two
 two_long : (x : List ℕ) → length x ≡ 1 → length (write_part x) ≡ 2

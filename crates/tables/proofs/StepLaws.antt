@@ -1,10 +1,10 @@
 -- What a step does, and what callers may take from it.
+use Rattle.std.specs.Prelude.{Some, None}
 use Prim.Native.Nat.{ℕ, ◌-◌, ◌<◌}
 use mathlib.Core.List.{List}
 use mathlib.Core.Path.{◌≡◌}
 use native.Mathlib.Omega.{arith}
 use borrow.Author.Rules.{rules}
-use denote.Enum.Declared.{tag_of}
 use Rattle.format.specs.Numbers.{number}
 use Rattle.format.specs.Parts.{Part, sized}
 use Rattle.format.specs.Tables.{Table, rows, table}
@@ -15,17 +15,13 @@ use Rattle.reading.specs.declared.again.Piece.{Piece}
 use Rattle.reading.proofs.Standing.{one_value, one_end}
 use Rattle.tables.specs.Stepping.{behind_at, Splits, TakesRow, TakesGroup, RowSteps, GroupSteps}
 use Rattle.tables.specs.declared.stepping.Rows.{Rows}
-use Rattle.tables.specs.declared.stepping.RowStep.{RowStep}
-use Rattle.tables.specs.declared.stepping.RowStep.TheVariants.{End as NoRow, Row}
-use Rattle.tables.specs.declared.stepping.GroupStep.{GroupStep}
-use Rattle.tables.specs.declared.stepping.GroupStep.TheVariants.{End as NoGroup, Group}
-use Rattle.tables.specs.contracts.stepping.RowStep as row_type
-use Rattle.tables.specs.contracts.stepping.GroupStep as group_type
+use Rattle.tables.specs.Returned.{RowStep}
+use Rattle.tables.specs.Returned.{GroupStep}
 use Rattle.tables.proofs.Accepted.{table_passable, known_count, table_rows}
 use Rattle.tables.proofs.Along.{index_known, value_known, splits}
 
 module _ {s : List ℕ} {left : Rows} where
-  pub row_ends : left.more ≡ 0 → RowSteps s left NoRow
+  pub row_ends : left.more ≡ 0 → RowSteps s left None
   row_ends h = record { steps = h }
 
   module _ (w : Known (rows sized left.more 0) s left.next) (h : left.more ≡ 0 → ⊥) where
@@ -36,17 +32,17 @@ module _ {s : List ℕ} {left : Rows} where
       pub row_value : Known sized s d
       row_value = value_known sized left w h i sized_passes
 
-      pub row_taken : {p : Piece} → TakesPart s d p → RowSteps s left (Row k p.part p.next)
+      pub row_taken : {p : Piece} → TakesPart s d p → RowSteps s left (Some (k, p.part, p.next))
       row_taken p = record { steps = record { place = d; splits = splits sized left w h i p.stands; in_part = p.in_part } }
 
-  pub group_ends : left.more ≡ 0 → GroupSteps s left NoGroup
+  pub group_ends : left.more ≡ 0 → GroupSteps s left None
   group_ends h = record { steps = h }
 
   module _ (w : Known (rows (table sized) left.more 0) s left.next) (h : left.more ≡ 0 → ⊥) where
     pub group_index : Known number s left.next
     group_index = index_known (table sized) left w h
 
-    pub group_taken : {k : ℕ} {d : Cursor} → Stands number s left.next k d → GroupSteps s left (Group k d)
+    pub group_taken : {k : ℕ} {d : Cursor} → Stands number s left.next k d → GroupSteps s left (Some (k, d))
     group_taken i =
         let g = value_known (table sized) left w h i (table_passable sized_passes) in
         record { steps = record { value = g.value; next = g.next; splits = splits (table sized) left w h i g.stands } }
@@ -55,23 +51,21 @@ pub ruleset row_stepping = (row_ends, row_index, row_value, row_taken, rules)
 
 pub ruleset group_stepping = (group_ends, group_index, group_taken, rules)
 
--- What callers take from it: an arm of a match that binds nothing gives the tag alone
+-- What callers take from it
 module _ {s : List ℕ} {left : Rows} where
-  pub no_row : (x : RowStep) → RowSteps s left x → tag_of row_type.the_type x ≡ 0 → left.more ≡ 0
-  no_row NoRow r h = r.steps
-  no_row (Row k part next) r h = absurd (omega arith)
+  pub no_row : {x : RowStep} → RowSteps s left x → x ≡ None → left.more ≡ 0
+  no_row r e = (rw e at r).steps
 
-  pub a_row : {x : RowStep} {k : ℕ} {part next : Cursor} → RowSteps s left x → x ≡ Row k part next → TakesRow s left k part next
+  pub a_row : {x : RowStep} {k : ℕ} {part next : Cursor} → RowSteps s left x → x ≡ Some (k, part, next) → TakesRow s left k part next
   a_row r e = rw e at r.steps
 
-  pub no_group : (x : GroupStep) → GroupSteps s left x → tag_of group_type.the_type x ≡ 0 → left.more ≡ 0
-  no_group NoGroup r h = r.steps
-  no_group (Group k place) r h = absurd (omega arith)
+  pub no_group : {x : GroupStep} → GroupSteps s left x → x ≡ None → left.more ≡ 0
+  no_group r e = (rw e at r).steps
 
-  pub a_group : {x : GroupStep} {k : ℕ} {place : Cursor} → GroupSteps s left x → x ≡ Group k place → TakesGroup s left k place
+  pub a_group : {x : GroupStep} {k : ℕ} {place : Cursor} → GroupSteps s left x → x ≡ Some (k, place) → TakesGroup s left k place
   a_group r e = rw e at r.steps
 
-module _ {s : List ℕ} {left : Rows} {x : RowStep} {k : ℕ} {part next : Cursor} (r : RowSteps s left x) (e : x ≡ Row k part next) where
+module _ {s : List ℕ} {left : Rows} {x : RowStep} {k : ℕ} {part next : Cursor} (r : RowSteps s left x) (e : x ≡ Some (k, part, next)) where
   pub row_left : 0 < left.more
   row_left = (a_row r e).splits.some_left
 
@@ -79,7 +73,7 @@ module _ {s : List ℕ} {left : Rows} {x : RowStep} {k : ℕ} {part next : Curso
   row_fewer is = rw is (omega (arith, row_left))
 
 -- the table of a row: it stands at its place, so do its count and its rows, and the rows behind it are to come where it ends
-module _ {s : List ℕ} {left : Rows} {x : GroupStep} {k : ℕ} {place : Cursor} (r : GroupSteps s left x) (e : x ≡ Group k place) where
+module _ {s : List ℕ} {left : Rows} {x : GroupStep} {k : ℕ} {place : Cursor} (r : GroupSteps s left x) (e : x ≡ Some (k, place)) where
   pub group_known : Known (table sized) s place
   group_known = let g = a_group r e in record { value = g.value; next = g.next; stands = g.splits.value }
 

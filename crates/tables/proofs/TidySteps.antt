@@ -1,4 +1,5 @@
 -- Telling whether lists are canonical, step by step: an item, a row, the rows one after the other, and a list.
+use Rattle.std.specs.Prelude.{Ok, Err, Some, None}
 use Prim.Native.Nat.{ℕ, suc, ◌+◌, ◌-◌, ◌≤◌, ◌<◌}
 use mathlib.Core.Bool.{Bool, true, false}
 use mathlib.Core.List.{List, []}
@@ -8,7 +9,6 @@ use native.Mathlib.Numerals.{add-one}
 use native.Mathlib.Omega.{arith}
 use borrow.Author.Rules.{rules}
 use borrow.Author.Tests.{eqb-true, eqb-false}
-use denote.Enum.Declared.{tag_of}
 use lib.Dec.{leb, eqb}
 use lib.Seq.{slice_empty, slice-cons}
 use Rattle.format.specs.Reading.{got, stop, Reader}
@@ -23,44 +23,19 @@ use Rattle.format.proofs.Laws.Telling.{Shorter, part_shorter, rows_told_end, row
 use Rattle.format.specs.declared.Refusal.{Refusal}
 use Rattle.reading.specs.Cursors.{Inside, left, NumberReads, PartReads}
 use Rattle.reading.specs.declared.Cursor.{Cursor}
-use Rattle.reading.specs.contracts.NumberRead as number_type
-use Rattle.reading.specs.declared.NumberRead.{NumberRead}
-use Rattle.reading.specs.declared.NumberRead.TheVariants.{Value, Refused as NoNumber}
-use Rattle.reading.specs.contracts.PartRead as part_type
-use Rattle.reading.specs.declared.PartRead.{PartRead}
-use Rattle.reading.specs.declared.PartRead.TheVariants.{Part as APart, Refused as NoPart}
+use Rattle.reading.specs.Returned.{NumberRead}
+use Rattle.reading.specs.Returned.{PartRead}
 use Rattle.reading.proofs.Laws.{number_means, number_tells, number_end, number_inside}
 use Rattle.tables.specs.Seeking.{reader_of, is_item}
 use Rattle.tables.specs.Steps.{is_short, index_from, IndexReads}
 use Rattle.tables.specs.Telling.{Tells, is_filled, TellsRows, rows_at, RowTells}
 use Rattle.tables.specs.declared.Item.{Item}
 use Rattle.tables.specs.declared.Item.TheVariants.{Name, Data, Hint}
-use Rattle.tables.specs.contracts.telling.Tidy as tidy_type
-use Rattle.tables.specs.declared.telling.Tidy.{Tidy}
-use Rattle.tables.specs.declared.telling.Tidy.TheVariants.{Behind, Not}
-use Rattle.tables.specs.contracts.telling.TidyRow as row_type
-use Rattle.tables.specs.declared.telling.TidyRow.{TidyRow}
-use Rattle.tables.specs.declared.telling.TidyRow.TheVariants.{Row, Not as NoRow}
+use Rattle.tables.specs.Returned.{Tidy}
+use Rattle.tables.specs.Returned.{TidyRow}
 use Rattle.tables.proofs.Hints.{value_short}
 use Rattle.tables.proofs.Laws.{item_behind}
 use Rattle.tables.proofs.RowSteps.{value_refused, value_taken, value_not, part_inside, index_number, index_above, index_end, index_inside}
-
--- what a case without its values is
-no_number : (x : NumberRead) → tag_of number_type.the_type x ≡ 1 → (r : Refusal) × (x ≡ NoNumber r)
-no_number (Value v next t) h = absurd (omega arith)
-no_number (NoNumber r) h = (r, refl)
-
-pub no_part : (x : PartRead) → tag_of part_type.the_type x ≡ 1 → (r : Refusal) × (x ≡ NoPart r)
-no_part (APart part next t) h = absurd (omega arith)
-no_part (NoPart r) h = (r, refl)
-
-pub not_tidy : (x : Tidy) → tag_of tidy_type.the_type x ≡ 1 → x ≡ Not
-not_tidy (Behind next) h = absurd (omega arith)
-not_tidy Not h = refl
-
-no_row : (x : TidyRow) → tag_of row_type.the_type x ≡ 1 → x ≡ NoRow
-no_row (Row k next) h = absurd (omega arith)
-no_row NoRow h = refl
 
 -- The form of an item is never longer than the item
 pub items_shorter : (item : Item) → Shorter (reader_of item) part_form
@@ -70,34 +45,34 @@ items_shorter Hint = part_shorter hint_codec
 
 -- An item
 module _ (item : Item) {s : List ℕ} {c : Cursor} where
-  pub part_refused : {r : Refusal} → PartReads (reader_of item) s c (NoPart r) → Tells (reader_of item) part_form s c Not
+  pub part_refused : {r : Refusal} → PartReads (reader_of item) s c (Err r) → Tells (reader_of item) part_form s c None
   part_refused n = record { means = rw (← n.means); same_part = tt }
 
-  pub part_padded : {part next : Cursor} {t : Bool} → PartReads (reader_of item) s c (APart part next t) → t ≡ false → Tells (reader_of item) part_form s c Not
+  pub part_padded : {part next : Cursor} {t : Bool} → PartReads (reader_of item) s c (Ok (part, next, t)) → t ≡ false → Tells (reader_of item) part_form s c None
   unfolding part_form
   part_padded n e = record { means = rw (← n.means, ← n.tells, e); same_part = tt }
 
-  pub part_tidy : {part next : Cursor} {t : Bool} → Inside s c → PartReads (reader_of item) s c (APart part next t) → t ≡ true → Tells (reader_of item) part_form s c (Behind next)
+  pub part_tidy : {part next : Cursor} {t : Bool} → Inside s c → PartReads (reader_of item) s c (Ok (part, next, t)) → t ≡ true → Tells (reader_of item) part_form s c (Some next)
   unfolding part_form
   part_tidy i n e =
       let b = item_behind item i n refl in
       record { means = rw (← n.means, ← n.tells, e); same_part = (omega (arith, b.in_rest.ahead, b.same_end), b.same_end) }
 
-  pub item_short : {b : Bool} → Inside s c → b ≡ is_short item (left s c) → b ≡ true → Tells (reader_of item) part_form s c (Behind (record { at = c.at + 2; end = c.end }))
+  pub item_short : {b : Bool} → Inside s c → b ≡ is_short item (left s c) → b ≡ true → Tells (reader_of item) part_form s c (Some (record { at = c.at + 2; end = c.end }))
   item_short i q t = let d : c.at + 1 + 1 ≡ c.at + 2 = omega arith in rw d at (part_tidy i (value_short i item q t) refl)
 
   module _ {x : PartRead} (n : PartReads sized s c x) where
-    pub item_refused : tag_of part_type.the_type x ≡ 1 → Tells (reader_of item) part_form s c Not
-    item_refused h = let (r, e) = no_part x h in part_refused (value_refused n item e)
+    pub item_refused : {r : Refusal} → x ≡ Err r → Tells (reader_of item) part_form s c None
+    item_refused e = part_refused (value_refused n item e)
 
-    module _ {part next : Cursor} {t : Bool} (e : x ≡ APart part next t) where
-      pub item_other : {b : Bool} → b ≡ is_item item (left s part) → b ≡ false → Tells (reader_of item) part_form s c Not
+    module _ {part next : Cursor} {t : Bool} (e : x ≡ Ok (part, next, t)) where
+      pub item_other : {b : Bool} → b ≡ is_item item (left s part) → b ≡ false → Tells (reader_of item) part_form s c None
       item_other q f = part_refused (value_not n e item q f refl)
 
-      pub item_padded : t ≡ false → Tells (reader_of item) part_form s c Not
+      pub item_padded : t ≡ false → Tells (reader_of item) part_form s c None
       item_padded f = by_test (is_item item (left s part)) (λ g. part_padded (value_taken n e item (sym g) refl) f) (λ g. item_other (sym g) refl)
 
-      pub item_tidy : {b : Bool} → Inside s c → t ≡ true → b ≡ is_item item (left s part) → b ≡ true → Tells (reader_of item) part_form s c (Behind next)
+      pub item_tidy : {b : Bool} → Inside s c → t ≡ true → b ≡ is_item item (left s part) → b ≡ true → Tells (reader_of item) part_form s c (Some next)
       item_tidy i f q g = part_tidy i (value_taken n e item q g) f
 
 pub ruleset tidy_items = (item_short, item_refused, item_padded, item_other, item_tidy, part_inside, rules)
@@ -112,47 +87,47 @@ module _ {A : Type 0} (read : Reader A) (form_of : A → Option (List ℕ)) wher
       (λ k o₁ r₁ e₁. by_test (leb least k) (λ t. absurd (not_got (sym (rw (e₁, t) at e)))) (λ t. rw (e₁, t)))
       (λ m at e₁. rw e₁)
 
-  pub row_no_number : {least : ℕ} {s : List ℕ} {c : Cursor} {x : NumberRead} → IndexReads least s c x → tag_of number_type.the_type x ≡ 1 → RowTells read form_of least s c NoRow
-  row_no_number {least} {s} {c} {x} n h = let (r, e) = no_number x h in record { means = λ m. stopped m least c.at (left s c) (sym (rw e at n.means)); same_part = tt }
+  pub row_no_number : {least : ℕ} {s : List ℕ} {c : Cursor} {x : NumberRead} → IndexReads least s c x → {r : Refusal} → x ≡ Err r → RowTells read form_of least s c None
+  row_no_number {least} {s} {c} {x} n e = record { means = λ m. stopped m least c.at (left s c) (sym (rw e at n.means)); same_part = tt }
 
-module _ {A : Type 0} {read : Reader A} {form_of : A → Option (List ℕ)} (short : Shorter read form_of) {least k : ℕ} {s : List ℕ} {c d : Cursor} {x : NumberRead} {t : Bool} (n : IndexReads least s c x) (e : x ≡ Value k d t) where
+module _ {A : Type 0} {read : Reader A} {form_of : A → Option (List ℕ)} (short : Shorter read form_of) {least k : ℕ} {s : List ℕ} {c d : Cursor} {x : NumberRead} {t : Bool} (n : IndexReads least s c x) (e : x ≡ Ok (k, d, t)) where
   is_number : number c.at (left s c) ≡ got k d.at (left s d)
   is_number = number_means (index_number n e) refl
 
   told_so : t ≡ as_few (shortest k) (left s d) (left s c)
   told_so = number_tells (index_number n e) refl
 
-  row_padded : t ≡ false → RowTells read form_of least s c NoRow
+  row_padded : t ≡ false → RowTells read form_of least s c None
   row_padded f = record { means = λ m. rows_told_padded short m least c.at (left s c) is_number (sym told_so ∙ f); same_part = tt }
 
-  row_tidy : {next : Cursor} → t ≡ true → Tells read form_of s d (Behind next) → RowTells read form_of least s c (Row k next)
+  row_tidy : {next : Cursor} → t ≡ true → Tells read form_of s d (Some next) → RowTells read form_of least s c (Some (k, next))
   row_tidy f v =
       let end = index_end n e in
       let far = v.same_part in
       record { means = λ m. rows_told_on short m least c.at (left s c) is_number (sym told_so ∙ f) (index_above n e) (sym v.means); same_part = (omega (arith, far.0), far.1 ∙ end) }
 
-  row_not : Tells read form_of s d Not → RowTells read form_of least s c NoRow
+  row_not : Tells read form_of s d None → RowTells read form_of least s c None
   row_not v = record { means = λ m. rows_told_no short m least c.at (left s c) is_number (sym v.means); same_part = tt }
 
 -- whose value is an item, or a list
-module _ (item : Item) {least k : ℕ} {s : List ℕ} {c d : Cursor} {x : NumberRead} {t : Bool} (n : IndexReads least s c x) (e : x ≡ Value k d t) where
-  pub item_row_padded : t ≡ false → RowTells (reader_of item) part_form least s c NoRow
+module _ (item : Item) {least k : ℕ} {s : List ℕ} {c d : Cursor} {x : NumberRead} {t : Bool} (n : IndexReads least s c x) (e : x ≡ Ok (k, d, t)) where
+  pub item_row_padded : t ≡ false → RowTells (reader_of item) part_form least s c None
   item_row_padded f = row_padded (items_shorter item) n e f
 
-  pub item_row : {y : Tidy} {next : Cursor} → t ≡ true → Tells (reader_of item) part_form s d y → y ≡ Behind next → RowTells (reader_of item) part_form least s c (Row k next)
+  pub item_row : {y : Tidy} {next : Cursor} → t ≡ true → Tells (reader_of item) part_form s d y → y ≡ Some next → RowTells (reader_of item) part_form least s c (Some (k, next))
   item_row f v q = row_tidy (items_shorter item) n e f (rw q at v)
 
-  pub item_row_not : {y : Tidy} → Tells (reader_of item) part_form s d y → tag_of tidy_type.the_type y ≡ 1 → RowTells (reader_of item) part_form least s c NoRow
-  item_row_not {y} v h = row_not (items_shorter item) n e (rw (not_tidy y h) at v)
+  pub item_row_not : {y : Tidy} → Tells (reader_of item) part_form s d y → y ≡ None → RowTells (reader_of item) part_form least s c None
+  item_row_not {y} v h = row_not (items_shorter item) n e (rw h at v)
 
-  pub list_row_padded : t ≡ false → RowTells (table (reader_of item)) (table_form part_form) least s c NoRow
+  pub list_row_padded : t ≡ false → RowTells (table (reader_of item)) (table_form part_form) least s c None
   list_row_padded f = row_padded (table_shorter (items_shorter item)) n e f
 
-  pub list_row : {y : Tidy} {next : Cursor} → t ≡ true → Tells (table (reader_of item)) (table_form part_form) s d y → y ≡ Behind next → RowTells (table (reader_of item)) (table_form part_form) least s c (Row k next)
+  pub list_row : {y : Tidy} {next : Cursor} → t ≡ true → Tells (table (reader_of item)) (table_form part_form) s d y → y ≡ Some next → RowTells (table (reader_of item)) (table_form part_form) least s c (Some (k, next))
   list_row f v q = row_tidy (table_shorter (items_shorter item)) n e f (rw q at v)
 
-  pub list_row_not : {y : Tidy} → Tells (table (reader_of item)) (table_form part_form) s d y → tag_of tidy_type.the_type y ≡ 1 → RowTells (table (reader_of item)) (table_form part_form) least s c NoRow
-  list_row_not {y} v h = row_not (table_shorter (items_shorter item)) n e (rw (not_tidy y h) at v)
+  pub list_row_not : {y : Tidy} → Tells (table (reader_of item)) (table_form part_form) s d y → y ≡ None → RowTells (table (reader_of item)) (table_form part_form) least s c None
+  list_row_not {y} v h = row_not (table_shorter (items_shorter item)) n e (rw h at v)
 
 pub ruleset tidy_rows_one = (row_no_number, item_row_padded, item_row, item_row_not, index_inside, rules)
 
@@ -172,10 +147,10 @@ module _ {A : Type 0} {read : Reader A} {form_of : A → Option (List ℕ)} {n :
     one_more : more ≡ suc (more - 1)
     one_more = omega arith
 
-    pub turn_not : tag_of row_type.the_type x ≡ 1 → TellsRows read form_of n s c Not
-    turn_not z = record { means = sym (t.same ∙ rw one_more (rw (no_row x z) at p.means (more - 1))); same_part = tt }
+    pub turn_not : x ≡ None → TellsRows read form_of n s c None
+    turn_not z = record { means = sym (t.same ∙ rw one_more (rw z at p.means (more - 1))); same_part = tt }
 
-    pub turn_row : {k : ℕ} {after : Cursor} → x ≡ Row k after → Turn read form_of n s c after (k + 1) (more - 1)
+    pub turn_row : {k : ℕ} {after : Cursor} → x ≡ Some (k, after) → Turn read form_of n s c after (k + 1) (more - 1)
     turn_row e =
         let far = rw e at p.same_part in
         record {
@@ -184,29 +159,29 @@ module _ {A : Type 0} {read : Reader A} {form_of : A → Option (List ℕ)} {n :
           same = t.same ∙ ap (λ m. rows_at read form_of m least s next) one_more ∙ rw add-one (rw e at p.means (more - 1));
         }
 
-pub turn_ends : {A : Type 0} {read : Reader A} {form_of : A → Option (List ℕ)} → Shorter read form_of → {n : ℕ} {s : List ℕ} {c next : Cursor} {least more : ℕ} → Turn read form_of n s c next least more → more ≤ 0 → TellsRows read form_of n s c (Behind next)
+pub turn_ends : {A : Type 0} {read : Reader A} {form_of : A → Option (List ℕ)} → Shorter read form_of → {n : ℕ} {s : List ℕ} {c next : Cursor} {least more : ℕ} → Turn read form_of n s c next least more → more ≤ 0 → TellsRows read form_of n s c (Some next)
 turn_ends short {s = s} {next = next} {least = least} {more = more} t h =
     let z : more ≡ 0 = omega arith in
     record { means = sym (t.same ∙ rw z (rows_told_end short least next.at (left s next))); same_part = (omega (arith, t.inside.ahead, t.same_end), t.same_end) }
 
-pub item_turn_ends : (item : Item) {n : ℕ} {s : List ℕ} {c next : Cursor} {least more : ℕ} → Turn (reader_of item) part_form n s c next least more → more ≤ 0 → TellsRows (reader_of item) part_form n s c (Behind next)
+pub item_turn_ends : (item : Item) {n : ℕ} {s : List ℕ} {c next : Cursor} {least more : ℕ} → Turn (reader_of item) part_form n s c next least more → more ≤ 0 → TellsRows (reader_of item) part_form n s c (Some next)
 item_turn_ends item t h = turn_ends (items_shorter item) t h
 
-pub list_turn_ends : (item : Item) {n : ℕ} {s : List ℕ} {c next : Cursor} {least more : ℕ} → Turn (table (reader_of item)) (table_form part_form) n s c next least more → more ≤ 0 → TellsRows (table (reader_of item)) (table_form part_form) n s c (Behind next)
+pub list_turn_ends : (item : Item) {n : ℕ} {s : List ℕ} {c next : Cursor} {least more : ℕ} → Turn (table (reader_of item)) (table_form part_form) n s c next least more → more ≤ 0 → TellsRows (table (reader_of item)) (table_form part_form) n s c (Some next)
 list_turn_ends item t h = turn_ends (table_shorter (items_shorter item)) t h
 
 pub ruleset tidy_turns = (turn_begins, turn_not, turn_row, item_turn_ends, list_turn_ends, rules)
 
 -- A list: how many rows it has, and the rows
 module _ {A : Type 0} {read : Reader A} {form_of : A → Option (List ℕ)} (short : Shorter read form_of) {s : List ℕ} {c : Cursor} {x : NumberRead} (n : NumberReads s c x) where
-  list_none : tag_of number_type.the_type x ≡ 1 → Tells (table read) (table_form form_of) s c Not
-  list_none h = let (r, e) = no_number x h in record { means = sym (table_told_none short c.at (left s c) (sym (rw e at n.means))); same_part = tt }
+  list_none : {r : Refusal} → x ≡ Err r → Tells (table read) (table_form form_of) s c None
+  list_none e = record { means = sym (table_told_none short c.at (left s c) (sym (rw e at n.means))); same_part = tt }
 
-  module _ {m : ℕ} {d : Cursor} {t : Bool} (e : x ≡ Value m d t) where
-    list_padded : t ≡ false → Tells (table read) (table_form form_of) s c Not
+  module _ {m : ℕ} {d : Cursor} {t : Bool} (e : x ≡ Ok (m, d, t)) where
+    list_padded : t ≡ false → Tells (table read) (table_form form_of) s c None
     list_padded f = record { means = sym (table_told_padded short c.at (left s c) (number_means n e) (sym (number_tells n e) ∙ f)); same_part = tt }
 
-    list_empty : m ≤ 0 → Tells (table read) (table_form form_of) s c Not
+    list_empty : m ≤ 0 → Tells (table read) (table_form form_of) s c None
     list_empty h = record { means = sym (table_told_empty short c.at (left s c) (number_means n e) (omega arith)); same_part = tt }
 
     list_rows : {y : Tidy} → t ≡ true → 0 < m → TellsRows read form_of m s d y → Tells (table read) (table_form form_of) s c y
@@ -214,26 +189,26 @@ module _ {A : Type 0} {read : Reader A} {form_of : A → Option (List ℕ)} (sho
 
 -- of items, and of lists
 module _ (item : Item) {s : List ℕ} {c : Cursor} {x : NumberRead} (n : NumberReads s c x) where
-  pub items_none : tag_of number_type.the_type x ≡ 1 → Tells (table (reader_of item)) (table_form part_form) s c Not
+  pub items_none : {r : Refusal} → x ≡ Err r → Tells (table (reader_of item)) (table_form part_form) s c None
   items_none h = list_none (items_shorter item) n h
 
-  pub lists_none : tag_of number_type.the_type x ≡ 1 → Tells (table (table (reader_of item))) (table_form (table_form part_form)) s c Not
+  pub lists_none : {r : Refusal} → x ≡ Err r → Tells (table (table (reader_of item))) (table_form (table_form part_form)) s c None
   lists_none h = list_none (table_shorter (items_shorter item)) n h
 
-  module _ {m : ℕ} {d : Cursor} {t : Bool} (e : x ≡ Value m d t) where
-    pub items_padded : t ≡ false → Tells (table (reader_of item)) (table_form part_form) s c Not
+  module _ {m : ℕ} {d : Cursor} {t : Bool} (e : x ≡ Ok (m, d, t)) where
+    pub items_padded : t ≡ false → Tells (table (reader_of item)) (table_form part_form) s c None
     items_padded f = list_padded (items_shorter item) n e f
 
-    pub items_empty : m ≤ 0 → Tells (table (reader_of item)) (table_form part_form) s c Not
+    pub items_empty : m ≤ 0 → Tells (table (reader_of item)) (table_form part_form) s c None
     items_empty h = list_empty (items_shorter item) n e h
 
     pub items_rows : {y : Tidy} → t ≡ true → 0 < m → TellsRows (reader_of item) part_form m s d y → Tells (table (reader_of item)) (table_form part_form) s c y
     items_rows f h r = list_rows (items_shorter item) n e f h r
 
-    pub lists_padded : t ≡ false → Tells (table (table (reader_of item))) (table_form (table_form part_form)) s c Not
+    pub lists_padded : t ≡ false → Tells (table (table (reader_of item))) (table_form (table_form part_form)) s c None
     lists_padded f = list_padded (table_shorter (items_shorter item)) n e f
 
-    pub lists_empty : m ≤ 0 → Tells (table (table (reader_of item))) (table_form (table_form part_form)) s c Not
+    pub lists_empty : m ≤ 0 → Tells (table (table (reader_of item))) (table_form (table_form part_form)) s c None
     lists_empty h = list_empty (table_shorter (items_shorter item)) n e h
 
     pub lists_rows : {y : Tidy} → t ≡ true → 0 < m → TellsRows (table (reader_of item)) (table_form part_form) m s d y → Tells (table (table (reader_of item))) (table_form (table_form part_form)) s c y
@@ -245,18 +220,18 @@ pub ruleset tidy_lists_list = (lists_none, lists_padded, lists_empty, lists_rows
 
 -- Nothing is left over behind it
 module _ (x : Tidy) where
-  pub filled_not : tag_of tidy_type.the_type x ≡ 1 → false ≡ is_filled x
-  filled_not h = rw (not_tidy x h)
+  pub filled_not : x ≡ None → false ≡ is_filled x
+  filled_not h = rw h
 
-  pub filled_is : {next : Cursor} → x ≡ Behind next → eqb next.at next.end ≡ is_filled x
+  pub filled_is : {next : Cursor} → x ≡ Some next → eqb next.at next.end ≡ is_filled x
   filled_is e = rw e
 
 pub ruleset fill_steps = (filled_not, filled_is, rules)
 
 module _ {A : Type 0} {read : Reader A} {form_of : A → Option (List ℕ)} {s : List ℕ} {part : Cursor} where
   pub at_end : Inside s part → (y : Tidy) → Tells read form_of s part y → is_filled y ≡ is_yes (told_end (told form_of (left s part) (read part.at (left s part))))
-  at_end i Not t = ap (λ x. is_yes (told_end x)) t.means
-  at_end i (Behind next) t =
+  at_end i None t = ap (λ x. is_yes (told_end x)) t.means
+  at_end i (Some next) t =
       let far = t.same_part in
       ends ∙ ap (λ x. is_yes (told_end x)) t.means
     where

@@ -1,18 +1,16 @@
 -- What a table that was accepted has where it is asked. Assumes nothing.
-use Rattle.std.specs.Prelude.{ℕ, ◌-◌, ◌≤◌, List, ◌≡◌}
+use Rattle.std.specs.Prelude.{ℕ, ◌-◌, ◌≤◌, List, ◌≡◌, Ok, Some, None}
 use Rattle.std.proofs.Math.Option.{Option}
 use Rattle.format.specs.Reading.{Reader}
 use Rattle.format.specs.Parts.{Part, sized}
 use Rattle.format.specs.Tables.{Table, lookup, table}
 use Rattle.format.specs.Options.{some_then}
-use Rattle.format.specs.declared.Answer.{Answer}
-use Rattle.format.specs.declared.Answer.TheVariants.{None, Found}
+use Rattle.format.specs.Returned.{Answer}
 use Rattle.reading.specs.Cursors.{Inside}
 use Rattle.reading.specs.Standing.{Stands}
 use Rattle.reading.specs.declared.Cursor.{Cursor}
 use Rattle.tables.specs.Steps.{held_of}
-use Rattle.tables.specs.declared.Held.{Held}
-use Rattle.tables.specs.declared.Held.TheVariants.{Nothing, Part as APart}
+use Rattle.tables.specs.Returned.{Held}
 
 -- what the table at `key` has at `inner`
 abbrev pub within : (key inner : ℕ) → Table (Table Part) → Option Part
@@ -20,17 +18,17 @@ within key inner t = some_then (lookup key t) (lookup inner)
 
 -- what is held lies in what was lent
 abbrev pub HeldInside : List ℕ → Held → Type 0
-HeldInside s Nothing = Unit {0}
-HeldInside s (APart part) = Inside s part
+HeldInside s None = Unit {0}
+HeldInside s (Some part) = Inside s part
 
 -- what is held ends behind its beginning, and as an answer is a place
 abbrev pub HeldOrdered : Held → Type 0
-HeldOrdered Nothing = Unit {0}
-HeldOrdered (APart part) = part.at ≤ part.end
+HeldOrdered None = Unit {0}
+HeldOrdered (Some part) = part.at ≤ part.end
 
 abbrev pub answer_of : Held → Answer
-answer_of Nothing = None
-answer_of (APart part) = Found (record { offset = record { 0 = part.at }; length = part.end - part.at })
+answer_of None = (Ok None)
+answer_of (Some part) = Ok (Some (record { offset = record { 0 = part.at }; length = part.end - part.at }))
 
 -- what is held is the answer of what stands there
 pub record Finds {A : Type 0} (read : Reader A) (answer : A → Option Part) (s : List ℕ) (c : Cursor) (r : Held) : Type 0 where

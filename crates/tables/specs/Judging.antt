@@ -1,18 +1,15 @@
 -- What judging a map of names finds, where nothing is looked for. Assumes nothing.
-use Rattle.std.specs.Prelude.{ℕ, zero, suc, ◌≤◌, Bool, true, false, List, ◌≡◌}
+use Rattle.std.specs.Prelude.{ℕ, zero, suc, ◌≤◌, Bool, true, false, List, ◌≡◌, Ok, Err}
 use Rattle.format.specs.Reading.{◌>>=◌, Outcome, got, Reader, return}
 use Rattle.format.specs.Numbers.{number}
 use Rattle.format.specs.Parts.{name}
 use Rattle.format.specs.Tables.{table}
 use Rattle.reading.specs.Cursors.{left, refusal_of, number_outcome}
 use Rattle.reading.specs.declared.Cursor.{Cursor}
-use Rattle.reading.specs.declared.NumberRead.{NumberRead}
-use Rattle.reading.specs.declared.NumberRead.TheVariants.{Value, Refused as NoNumber}
+use Rattle.reading.specs.Returned.{NumberRead}
 use Rattle.tables.specs.Steps.{index_from}
-use Rattle.tables.specs.declared.judging.Judged.{Judged}
-use Rattle.tables.specs.declared.judging.Judged.TheVariants.{Behind, Refused}
-use Rattle.tables.specs.declared.judging.JudgedRow.{JudgedRow}
-use Rattle.tables.specs.declared.judging.JudgedRow.TheVariants.{Row, Refused as NoRow}
+use Rattle.tables.specs.Returned.{Judged}
+use Rattle.tables.specs.Returned.{JudgedRow}
 
 -- what is read is not kept
 abbrev pub passed : {A : Type 0} → Reader A → Reader (Unit {0})
@@ -26,13 +23,13 @@ name_map_read true = passed (table (table name))
 name_map_read false = passed (table name)
 
 abbrev pub judged_outcome : List ℕ → Judged → Outcome (Unit {0})
-judged_outcome s (Behind next) = got tt next.at (left s next)
-judged_outcome s (Refused r) = refusal_of r
+judged_outcome s (Ok next) = got tt next.at (left s next)
+judged_outcome s (Err r) = refusal_of r
 
 -- the next cursor has the same part around it, and is not behind that part's end
 abbrev pub JudgedEnd : ℕ → Judged → Type 0
-JudgedEnd end (Behind next) = (next.at ≤ end) × (next.end ≡ end)
-JudgedEnd end (Refused r) = Unit {0}
+JudgedEnd end (Ok next) = (next.at ≤ end) × (next.end ≡ end)
+JudgedEnd end (Err r) = Unit {0}
 
 pub record Judges (read : Reader (Unit {0})) (s : List ℕ) (c : Cursor) (r : Judged) : Type 0 where
   pub means : judged_outcome s r ≡ read c.at (left s c)
@@ -65,12 +62,12 @@ abbrev pub listed : Bool → ℕ → Reader ℕ
 listed nested = numbered (list_number nested) (table name)
 
 abbrev pub row_outcome : List ℕ → JudgedRow → Outcome ℕ
-row_outcome s (Row k next) = got k next.at (left s next)
-row_outcome s (NoRow r) = refusal_of r
+row_outcome s (Ok (k, next)) = got k next.at (left s next)
+row_outcome s (Err r) = refusal_of r
 
 abbrev pub RowEnd : ℕ → JudgedRow → Type 0
-RowEnd end (Row k next) = (next.at ≤ end) × (next.end ≡ end)
-RowEnd end (NoRow r) = Unit {0}
+RowEnd end (Ok (k, next)) = (next.at ≤ end) × (next.end ≡ end)
+RowEnd end (Err r) = Unit {0}
 
 pub record RowJudges (step : ℕ → Reader ℕ) (least : ℕ) (s : List ℕ) (c : Cursor) (r : JudgedRow) : Type 0 where
   pub means : row_outcome s r ≡ step least c.at (left s c)
@@ -78,8 +75,8 @@ pub record RowJudges (step : ℕ → Reader ℕ) (least : ℕ) (s : List ℕ) (c
 
 -- a number that is read, or stands for one
 abbrev pub CountEnd : ℕ → NumberRead → Type 0
-CountEnd end (Value k next shortest) = (next.at ≤ end) × (next.end ≡ end)
-CountEnd end (NoNumber r) = Unit {0}
+CountEnd end (Ok (k, next, shortest)) = (next.at ≤ end) × (next.end ≡ end)
+CountEnd end (Err r) = Unit {0}
 
 pub record Counts (read : Reader ℕ) (s : List ℕ) (c : Cursor) (r : NumberRead) : Type 0 where
   pub means : number_outcome s r ≡ read c.at (left s c)

@@ -4,25 +4,25 @@ use Rattle.format.specs.Numbers.{number}
 use Rattle.format.specs.Parts.{sized}
 use Rattle.format.specs.Tables.{lookup, table}
 use Rattle.format.specs.Forms.{part_form, table_form}
-use Rattle.format.specs.declared.Answer.{Answer}
+use Rattle.format.specs.Returned.{Answer}
 use Rattle.reading.specs.Cursors.{PartReads}
 use Rattle.reading.specs.Standing.{Stands}
 use Rattle.reading.specs.declared.Cursor.{Cursor}
-use Rattle.reading.specs.declared.PartRead.{PartRead}
+use Rattle.reading.specs.Returned.{PartRead}
 use Rattle.tables.specs.Judging.{name_map_read, Judges}
 use Rattle.tables.specs.Finding.{within, answer_of, Finds, Skips}
 use Rattle.tables.specs.Seeking.{reader_of, sought_within, Seeks}
 use Rattle.tables.specs.Stepping.{behind_at, RowSteps, GroupSteps}
 use Rattle.tables.specs.Telling.{is_filled, Tells}
-use Rattle.tables.specs.declared.Held.{Held}
+use Rattle.tables.specs.Returned.{Held}
 use Rattle.tables.specs.declared.Item.{Item}
-use Rattle.tables.specs.declared.Seek.{Seek}
+use Rattle.tables.specs.Returned.{Seek}
 use Rattle.tables.specs.declared.Wanted.{Wanted}
-use Rattle.tables.specs.declared.judging.Judged.{Judged}
-use Rattle.tables.specs.declared.stepping.GroupStep.{GroupStep}
-use Rattle.tables.specs.declared.stepping.RowStep.{RowStep}
+use Rattle.tables.specs.Returned.{Judged}
+use Rattle.tables.specs.Returned.{GroupStep}
+use Rattle.tables.specs.Returned.{RowStep}
 use Rattle.tables.specs.declared.stepping.Rows.{Rows}
-use Rattle.tables.specs.declared.telling.Tidy.{Tidy}
+use Rattle.tables.specs.Returned.{Tidy}
 
 -- tables
 abbrev pub TablesValue : (c : Cursor) (s : List ℕ) (item : Item) → PartRead → Type 0

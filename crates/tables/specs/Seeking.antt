@@ -1,5 +1,5 @@
 -- What a search of a table finds. The whole table is judged, also behind what is found. Assumes nothing.
-use Rattle.std.specs.Prelude.{ℕ, ◌≤◌, Bool, true, List, ◌≡◌}
+use Rattle.std.specs.Prelude.{ℕ, ◌≤◌, Bool, true, List, ◌≡◌, Ok, Err, Some, None}
 use Rattle.std.proofs.Math.Option.{Option, none, some}
 use Rattle.format.specs.Reading.{◌>>=◌, Outcome, got, Reader, return}
 use Rattle.format.specs.Parts.{Part, name}
@@ -14,8 +14,7 @@ use Rattle.reading.specs.declared.Cursor.{Cursor}
 use Rattle.tables.specs.declared.Item.{Item}
 use Rattle.tables.specs.declared.Item.TheVariants.{Name, Data, Hint}
 use Rattle.tables.specs.declared.Wanted.{Wanted}
-use Rattle.tables.specs.declared.Seek.{Seek}
-use Rattle.tables.specs.declared.Seek.TheVariants.{None, Found, Refused}
+use Rattle.tables.specs.Returned.{Seek}
 
 -- how an item is read
 abbrev pub reader_of : Item → Reader Part
@@ -52,21 +51,21 @@ sought_within value wanted inner = do
 
 -- what a search found
 abbrev pub seek_outcome : List ℕ → Seek → Outcome (Option Part)
-seek_outcome s (None next) = got none next.at (left s next)
-seek_outcome s (Found part next) = got (some (part_of s part)) next.at (left s next)
-seek_outcome s (Refused r) = refusal_of r
+seek_outcome s (Ok (None, next)) = got none next.at (left s next)
+seek_outcome s (Ok (Some part, next)) = got (some (part_of s part)) next.at (left s next)
+seek_outcome s (Err r) = refusal_of r
 
 -- the next cursor has the same part around it, and what was found lies in that part
 abbrev pub SeekEnd : ℕ → Seek → Type 0
-SeekEnd end (None next) = next.end ≡ end
-SeekEnd end (Found part next) = (part.at ≤ part.end) × (part.end ≤ end) × (next.end ≡ end)
-SeekEnd end (Refused r) = Unit {0}
+SeekEnd end (Ok (None, next)) = next.end ≡ end
+SeekEnd end (Ok (Some part, next)) = (part.at ≤ part.end) × (part.end ≤ end) × (next.end ≡ end)
+SeekEnd end (Err r) = Unit {0}
 
 -- the next cursor is not behind that part's end
 abbrev pub SeekAhead : ℕ → Seek → Type 0
-SeekAhead end (None next) = next.at ≤ end
-SeekAhead end (Found part next) = next.at ≤ end
-SeekAhead end (Refused r) = Unit {0}
+SeekAhead end (Ok (None, next)) = next.at ≤ end
+SeekAhead end (Ok (Some part, next)) = next.at ≤ end
+SeekAhead end (Err r) = Unit {0}
 
 pub record Seeks (read : Reader (Option Part)) (s : List ℕ) (c : Cursor) (r : Seek) : Type 0 where
   pub means : seek_outcome s r ≡ read c.at (left s c)

@@ -1,5 +1,5 @@
 -- The way through a table that was accepted, a row at a time. Assumes nothing.
-use Rattle.std.specs.Prelude.{ℕ, suc, ◌-◌, ◌<◌, List, ◌≡◌}
+use Rattle.std.specs.Prelude.{ℕ, suc, ◌-◌, ◌<◌, List, ◌≡◌, Some, None}
 use Rattle.format.specs.Reading.{Reader}
 use Rattle.format.specs.Numbers.{number}
 use Rattle.format.specs.Parts.{Part, sized}
@@ -8,10 +8,8 @@ use Rattle.reading.specs.Cursors.{Inside, part_of}
 use Rattle.reading.specs.Standing.{Stands}
 use Rattle.reading.specs.declared.Cursor.{Cursor}
 use Rattle.tables.specs.declared.stepping.Rows.{Rows}
-use Rattle.tables.specs.declared.stepping.RowStep.{RowStep}
-use Rattle.tables.specs.declared.stepping.RowStep.TheVariants.{End as NoRow, Row}
-use Rattle.tables.specs.declared.stepping.GroupStep.{GroupStep}
-use Rattle.tables.specs.declared.stepping.GroupStep.TheVariants.{End as NoGroup, Group}
+use Rattle.tables.specs.Returned.{RowStep}
+use Rattle.tables.specs.Returned.{GroupStep}
 
 -- the rows behind the next one, which ends at a cursor
 abbrev pub behind_at : Rows → Cursor → Rows
@@ -39,12 +37,12 @@ pub record TakesGroup (s : List ℕ) (left : Rows) (k : ℕ) (place : Cursor) : 
 
 -- a step ends where no row is to come, and nowhere else
 abbrev pub RowStepped : List ℕ → Rows → RowStep → Type 0
-RowStepped s left NoRow = left.more ≡ 0
-RowStepped s left (Row k part next) = TakesRow s left k part next
+RowStepped s left None = left.more ≡ 0
+RowStepped s left (Some (k, part, next)) = TakesRow s left k part next
 
 abbrev pub GroupStepped : List ℕ → Rows → GroupStep → Type 0
-GroupStepped s left NoGroup = left.more ≡ 0
-GroupStepped s left (Group k place) = TakesGroup s left k place
+GroupStepped s left None = left.more ≡ 0
+GroupStepped s left (Some (k, place)) = TakesGroup s left k place
 
 pub record RowSteps (s : List ℕ) (left : Rows) (r : RowStep) : Type 0 where
   pub steps : RowStepped s left r

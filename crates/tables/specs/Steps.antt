@@ -1,5 +1,5 @@
 -- What the steps of a search promise one another: a short hint, a row's number, a row, what is held after it, and the rows of a table. Assumes nothing.
-use Rattle.std.specs.Prelude.{ℕ, ◌≤◌, Bool, false, cond, ◌&&◌, List, [], ◌∷◌, ◌≡◌, leb, ltb, eqb}
+use Rattle.std.specs.Prelude.{ℕ, ◌≤◌, Bool, false, cond, ◌&&◌, List, [], ◌∷◌, ◌≡◌, leb, ltb, eqb, Ok, Err, Some, None}
 use Rattle.std.proofs.Math.Option.{Option, none, some}
 use Rattle.format.specs.Reading.{◌>>=◌, ◌>>◌, Outcome, got, Reader, return, here, checked}
 use Rattle.format.specs.Numbers.{number}
@@ -9,15 +9,11 @@ use Rattle.format.specs.Options.{some_then}
 use Rattle.format.specs.declared.Reason.TheVariants.{NotAbove}
 use Rattle.reading.specs.Cursors.{left, refusal_of, number_outcome, NumberEnd, NumberTold, part_of}
 use Rattle.reading.specs.declared.Cursor.{Cursor}
-use Rattle.reading.specs.declared.NumberRead.{NumberRead}
+use Rattle.reading.specs.Returned.{NumberRead}
 use Rattle.tables.specs.declared.Item.{Item}
 use Rattle.tables.specs.declared.Item.TheVariants.{Name, Data, Hint}
-use Rattle.tables.specs.declared.Seek.{Seek}
-use Rattle.tables.specs.declared.Seek.TheVariants.{None, Found}
-use Rattle.tables.specs.declared.Held.{Held}
-use Rattle.tables.specs.declared.Held.TheVariants.{Nothing, Part as APart}
-use Rattle.tables.specs.declared.RowRead.{RowRead}
-use Rattle.tables.specs.declared.RowRead.TheVariants.{Row, Refused}
+use Rattle.tables.specs.Returned.{Held}
+use Rattle.tables.specs.Returned.{RowRead}
 
 -- a hint in its fewest bytes: 1 for its size, and its data
 abbrev pub is_short_hint : List ℕ → Bool
@@ -62,21 +58,21 @@ module _ {A : Type 0} (value : Reader A) (answer : A → Option Part) where
     return (some_then (lookup key t) answer)
 
 abbrev pub held_of : List ℕ → Held → Option Part
-held_of s Nothing = none
-held_of s (APart part) = some (part_of s part)
+held_of s None = none
+held_of s (Some part) = some (part_of s part)
 
 -- what is held lies in the part with that end
 abbrev pub HeldEnd : ℕ → Held → Type 0
-HeldEnd end Nothing = Unit {0}
-HeldEnd end (APart part) = (part.at ≤ part.end) × (part.end ≤ end)
+HeldEnd end None = Unit {0}
+HeldEnd end (Some part) = (part.at ≤ part.end) × (part.end ≤ end)
 
 abbrev pub row_outcome : List ℕ → RowRead → Outcome Passed
-row_outcome s (Row k answer next) = got (record { number = k; answer = held_of s answer }) next.at (left s next)
-row_outcome s (Refused r) = refusal_of r
+row_outcome s (Ok (k, answer, next)) = got (record { number = k; answer = held_of s answer }) next.at (left s next)
+row_outcome s (Err r) = refusal_of r
 
 abbrev pub RowEnd : ℕ → RowRead → Type 0
-RowEnd end (Row k answer next) = HeldEnd end answer × (next.at ≤ end) × (next.end ≡ end)
-RowEnd end (Refused r) = Unit {0}
+RowEnd end (Ok (k, answer, next)) = HeldEnd end answer × (next.at ≤ end) × (next.end ≡ end)
+RowEnd end (Err r) = Unit {0}
 
 pub record RowReads {A : Type 0} (value : Reader A) (answer : A → Option Part) (least : ℕ) (s : List ℕ) (c : Cursor) (r : RowRead) : Type 0 where
   pub means : row_outcome s r ≡ passing value answer least c.at (left s c)
@@ -84,10 +80,5 @@ pub record RowReads {A : Type 0} (value : Reader A) (answer : A → Option Part)
 
 -- what is held once a row with number k was passed: the first answer of a row with the key
 abbrev pub kept_of : Held → (key k : ℕ) → Held → Held
-kept_of Nothing key k answer = cond (eqb key k) answer Nothing
-kept_of (APart part) key k answer = APart part
-
--- what a search found that held this behind its last row
-abbrev pub seek_of : Held → Cursor → Seek
-seek_of Nothing next = None next
-seek_of (APart part) next = Found part next
+kept_of None key k answer = cond (eqb key k) answer None
+kept_of (Some part) key k answer = Some part

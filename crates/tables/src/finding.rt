@@ -6,7 +6,7 @@ ghost use Rattle.tables.specs.Finding.{HeldOrdered};
 ghost use Rattle.tables.specs.Promises.{TablesAnswerOf, TablesFindRow, TablesBehindTable, TablesFindGroup};
 
 use crate::Held;
-use crate::stepping::{GroupStep, RowStep, behind, group_step, row_step, rows_here};
+use crate::stepping::{behind, group_step, row_step, rows_here};
 use format::{Answer, Offset, Place};
 use reading::Cursor;
 
@@ -16,13 +16,13 @@ pub fn answer_of(held: Held) -> Answer
     ensures { TablesAnswerOf held result }
 {
     match held {
-        Held::Nothing => Answer::None,
-        Held::Part(part) => {
+        None => Ok(None),
+        Some(part) => {
             let at = part.at;
-            Answer::Found(Place {
+            Ok(Some(Place {
                 offset: Offset(at),
                 length: part.end - at,
-            })
+            }))
         }
     }
 }
@@ -34,20 +34,14 @@ pub fn find_row(c: Cursor, s: &[u8], key: u32) -> Held
 {
     let mut left = rows_here(c, s);
     loop {
-        match row_step(left, s) {
-            RowStep::End => {
-                return Held::Nothing;
+        let (k, part, next) = row_step(left, s)?;
+        if key <= k {
+            if key == k {
+                return Some(part);
             }
-            RowStep::Row(k, part, next) => {
-                if key <= k {
-                    if key == k {
-                        return Held::Part(part);
-                    }
-                    return Held::Nothing;
-                }
-                left = behind(left, next);
-            }
+            return None;
         }
+        left = behind(left, next);
     }
 }
 
@@ -57,17 +51,11 @@ pub fn behind_table(c: Cursor, s: &[u8]) -> Cursor
     ensures { TablesBehindTable c s.now result }
 {
     let mut left = rows_here(c, s);
-    loop {
-        match row_step(left, s) {
-            RowStep::End => {
-                let next = left.next;
-                return next;
-            }
-            RowStep::Row(_, _, next) => {
-                left = behind(left, next);
-            }
-        }
+    while let Some((_, _, next)) = row_step(left, s) {
+        left = behind(left, next);
     }
+    let next = left.next;
+    next
 }
 
 // The part at `inner` in the table at `key` of the table of tables that stands here.
@@ -77,20 +65,14 @@ pub fn find_group(c: Cursor, s: &[u8], key: u32, inner: u32) -> Held
 {
     let mut left = rows_here(c, s);
     loop {
-        match group_step(left, s) {
-            GroupStep::End => {
-                return Held::Nothing;
+        let (k, place) = group_step(left, s)?;
+        if key <= k {
+            if key == k {
+                return find_row(place, s, inner);
             }
-            GroupStep::Group(k, place) => {
-                if key <= k {
-                    if key == k {
-                        return find_row(place, s, inner);
-                    }
-                    return Held::Nothing;
-                }
-                let next = behind_table(place, s);
-                left = behind(left, next);
-            }
+            return None;
         }
+        let next = behind_table(place, s);
+        left = behind(left, next);
     }
 }

@@ -9,21 +9,13 @@ ghost use Rattle.tables.specs.Promises.{TablesNameMap};
 use crate::index;
 use format::{Offset, Reason, Refusal};
 use reading::text::is_text;
-use reading::{Cursor, NumberRead, PartRead};
+use reading::{Cursor, NumberRead};
 
 // What judging finds: the cursor behind what was accepted, or the refusal.
-#[derive(Clone, Copy)]
-pub enum Judged {
-    Behind(Cursor),
-    Refused(Refusal),
-}
+pub type Judged = Result<Cursor, Refusal>;
 
 // The same of a row, with its number.
-#[derive(Clone, Copy)]
-enum JudgedRow {
-    Row(u32, Cursor),
-    Refused(Refusal),
-}
+type JudgedRow = Result<(u32, Cursor), Refusal>;
 
 // What stands for the number of a list that has none.
 const NO_NUMBER: u32 = 0;
@@ -36,22 +28,16 @@ fn row(c: Cursor, s: &[u8], least: u64) -> JudgedRow
     requires { Inside s.now c }
     ensures { RowJudges (numbered index_from name) least s.now c result }
 {
-    match index(c, s, least) {
-        NumberRead::Refused(r) => JudgedRow::Refused(r),
-        NumberRead::Value(k, d, _) => match d.sized(s) {
-            PartRead::Refused(r) => JudgedRow::Refused(r),
-            PartRead::Part(part, next, _) => {
-                let at = part.at;
-                if is_text(s, at, part.end) {
-                    return JudgedRow::Row(k, next);
-                }
-                JudgedRow::Refused(Refusal {
-                    reason: Reason::NotText,
-                    offset: Offset(at),
-                })
-            }
-        },
+    let (k, d, _) = index(c, s, least)?;
+    let (part, next, _) = d.sized(s)?;
+    let at = part.at;
+    if is_text(s, at, part.end) {
+        return Ok((k, next));
     }
+    Err(Refusal {
+        reason: Reason::NotText,
+        offset: Offset(at),
+    })
 }
 
 // So many rows with names.
@@ -61,20 +47,12 @@ fn rows(c: Cursor, s: &[u8], n: u32) -> Judged
 {
     let mut next = c;
     let mut least: u64 = 0;
-    let mut more = n;
-    while 0 < more {
-        match row(next, s, least) {
-            JudgedRow::Refused(r) => {
-                return Judged::Refused(r);
-            }
-            JudgedRow::Row(k, after) => {
-                next = after;
-                least = (k as u64) + 1;
-                more = more - 1;
-            }
-        }
+    for _ in 0..n {
+        let (k, after) = row(next, s, least)?;
+        next = after;
+        least = (k as u64) + 1;
     }
-    Judged::Behind(next)
+    Ok(next)
 }
 
 // A list of names.
@@ -82,10 +60,8 @@ fn names(c: Cursor, s: &[u8]) -> Judged
     requires { Inside s.now c }
     ensures { Judges (passed (table name)) s.now c result }
 {
-    match c.number(s) {
-        NumberRead::Refused(r) => Judged::Refused(r),
-        NumberRead::Value(n, d, _) => rows(d, s, n),
-    }
+    let (n, d, _) = c.number(s)?;
+    rows(d, s, n)
 }
 
 // The number before a list, which lists that are nested have.
@@ -96,7 +72,7 @@ fn list_number(c: Cursor, s: &[u8], nested: bool, least: u64) -> NumberRead
     if nested {
         return index(c, s, least);
     }
-    NumberRead::Value(NO_NUMBER, c, true)
+    Ok((NO_NUMBER, c, true))
 }
 
 // A list of names, with its number.
@@ -104,13 +80,9 @@ fn list(c: Cursor, s: &[u8], nested: bool, least: u64) -> JudgedRow
     requires { Inside s.now c }
     ensures { RowJudges (listed nested) least s.now c result }
 {
-    match list_number(c, s, nested, least) {
-        NumberRead::Refused(r) => JudgedRow::Refused(r),
-        NumberRead::Value(k, d, _) => match names(d, s) {
-            Judged::Refused(r) => JudgedRow::Refused(r),
-            Judged::Behind(next) => JudgedRow::Row(k, next),
-        },
-    }
+    let (k, d, _) = list_number(c, s, nested, least)?;
+    let next = names(d, s)?;
+    Ok((k, next))
 }
 
 // So many lists of names.
@@ -120,20 +92,12 @@ fn lists(c: Cursor, s: &[u8], nested: bool, n: u32) -> Judged
 {
     let mut next = c;
     let mut least: u64 = 0;
-    let mut more = n;
-    while 0 < more {
-        match list(next, s, nested, least) {
-            JudgedRow::Refused(r) => {
-                return Judged::Refused(r);
-            }
-            JudgedRow::Row(outer, after) => {
-                next = after;
-                least = (outer as u64) + 1;
-                more = more - 1;
-            }
-        }
+    for _ in 0..n {
+        let (outer, after) = list(next, s, nested, least)?;
+        next = after;
+        least = (outer as u64) + 1;
     }
-    Judged::Behind(next)
+    Ok(next)
 }
 
 // How many lists a map has: it is one, where they are not nested.
@@ -144,7 +108,7 @@ fn list_count(c: Cursor, s: &[u8], nested: bool) -> NumberRead
     if nested {
         return c.number(s);
     }
-    NumberRead::Value(ONE_LIST, c, true)
+    Ok((ONE_LIST, c, true))
 }
 
 // A map of names, or a nested one, which is a map of such maps.
@@ -152,8 +116,6 @@ pub fn name_map(c: Cursor, s: &[u8], nested: bool) -> Judged
     requires { Inside s.now c }
     ensures { TablesNameMap c s.now nested result }
 {
-    match list_count(c, s, nested) {
-        NumberRead::Refused(r) => Judged::Refused(r),
-        NumberRead::Value(n, d, _) => lists(d, s, nested, n),
-    }
+    let (n, d, _) = list_count(c, s, nested)?;
+    lists(d, s, nested, n)
 }

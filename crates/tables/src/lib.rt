@@ -9,7 +9,7 @@ ghost use Rattle.format.specs.Text.{utf8};
 ghost use Rattle.format.specs.Tables.{table};
 ghost use Rattle.reading.specs.Cursors.{Inside, left};
 ghost use Rattle.tables.specs.Seeking.{reader_of, is_item, not_item, wanted_in, sought, Seeks};
-ghost use Rattle.tables.specs.Steps.{is_short_hint, is_short, IndexReads, RowReads, kept_of, seek_of, sought_rows};
+ghost use Rattle.tables.specs.Steps.{is_short_hint, is_short, IndexReads, RowReads, kept_of, sought_rows};
 ghost use Rattle.tables.specs.Promises.{TablesValue, TablesTables};
 
 use format::{Offset, Reason, Refusal};
@@ -48,26 +48,13 @@ pub struct Wanted(pub u64);
 pub const NOTHING: Wanted = Wanted(0x1_0000_0000);
 
 // What a search finds: the cursor behind the table, and before it the part that was found.
-#[derive(Clone, Copy)]
-pub enum Seek {
-    None(Cursor),
-    Found(Cursor, Cursor),
-    Refused(Refusal),
-}
+pub type Seek = Result<(Held, Cursor), Refusal>;
 
 // The part that was found so far, or that one row or a whole list answers with.
-#[derive(Clone, Copy)]
-pub enum Held {
-    Nothing,
-    Part(Cursor),
-}
+pub type Held = Option<Cursor>;
 
 // What reading a row finds: its number, what its value answers, and the cursor behind it.
-#[derive(Clone, Copy)]
-enum RowRead {
-    Row(u32, Held, Cursor),
-    Refused(Refusal),
-}
+type RowRead = Result<(u32, Held, Cursor), Refusal>;
 
 // Whether a part is one byte that is 0 or 1.
 fn is_hint(s: &[u8], part: Cursor) -> bool
@@ -165,17 +152,13 @@ pub fn value(c: Cursor, s: &[u8], item: Item) -> PartRead
             at: behind,
             end: c.end,
         };
-        return PartRead::Part(part, next, true);
+        return Ok((part, next, true));
     }
-    match c.sized(s) {
-        PartRead::Refused(r) => PartRead::Refused(r),
-        PartRead::Part(part, next, shortest) => {
-            if is_item(s, part, item) {
-                return PartRead::Part(part, next, shortest);
-            }
-            PartRead::Refused(not_item(item, size, part.at))
-        }
+    let (part, next, shortest) = c.sized(s)?;
+    if is_item(s, part, item) {
+        return Ok((part, next, shortest));
     }
+    Err(not_item(item, size, part.at))
 }
 
 // A row's number, which is at least `least`.
@@ -184,18 +167,14 @@ fn index(c: Cursor, s: &[u8], least: u64) -> NumberRead
     ensures { IndexReads least s.now c result }
 {
     let first = c.at;
-    match c.number(s) {
-        NumberRead::Refused(r) => NumberRead::Refused(r),
-        NumberRead::Value(k, next, shortest) => {
-            if (k as u64) < least {
-                return NumberRead::Refused(Refusal {
-                    reason: Reason::NotAbove,
-                    offset: Offset(first),
-                });
-            }
-            NumberRead::Value(k, next, shortest)
-        }
+    let (k, next, shortest) = c.number(s)?;
+    if (k as u64) < least {
+        return Err(Refusal {
+            reason: Reason::NotAbove,
+            offset: Offset(first),
+        });
     }
+    Ok((k, next, shortest))
 }
 
 // A row whose value is an item, which answers with itself.
@@ -203,13 +182,9 @@ fn row(c: Cursor, s: &[u8], item: Item, least: u64) -> RowRead
     requires { Inside s.now c }
     ensures { RowReads (reader_of item) some least s.now c result }
 {
-    match index(c, s, least) {
-        NumberRead::Refused(r) => RowRead::Refused(r),
-        NumberRead::Value(k, d, _) => match value(d, s, item) {
-            PartRead::Refused(r) => RowRead::Refused(r),
-            PartRead::Part(part, next, _) => RowRead::Row(k, Held::Part(part), next),
-        },
-    }
+    let (k, d, _) = index(c, s, least)?;
+    let (part, next, _) = value(d, s, item)?;
+    Ok((k, Some(part), next))
 }
 
 // A row whose value is a table, which answers with what is wanted of it.
@@ -217,14 +192,9 @@ fn group(c: Cursor, s: &[u8], item: Item, inner: Wanted, least: u64) -> RowRead
     requires { Inside s.now c }
     ensures { RowReads (table (reader_of item)) (wanted_in inner) least s.now c result }
 {
-    match index(c, s, least) {
-        NumberRead::Refused(r) => RowRead::Refused(r),
-        NumberRead::Value(k, d, _) => match table(d, s, item, inner) {
-            Seek::Refused(r) => RowRead::Refused(r),
-            Seek::None(next) => RowRead::Row(k, Held::Nothing, next),
-            Seek::Found(part, next) => RowRead::Row(k, Held::Part(part), next),
-        },
-    }
+    let (k, d, _) = index(c, s, least)?;
+    let (answer, next) = table(d, s, item, inner)?;
+    Ok((k, answer, next))
 }
 
 // What is held once a row was passed: the first answer of a row with the key.
@@ -232,23 +202,13 @@ fn kept(held: Held, key: u64, k: u32, answer: Held) -> Held
     ensures { result ≡ kept_of held key k answer }
 {
     match held {
-        Held::Part(part) => Held::Part(part),
-        Held::Nothing => {
+        Some(part) => Some(part),
+        None => {
             if key == (k as u64) {
                 return answer;
             }
-            Held::Nothing
+            None
         }
-    }
-}
-
-// What a search that held this found, behind its last row.
-fn ended(held: Held, next: Cursor) -> Seek
-    ensures { result ≡ seek_of held next }
-{
-    match held {
-        Held::Nothing => Seek::None(next),
-        Held::Part(part) => Seek::Found(part, next),
     }
 }
 
@@ -259,22 +219,14 @@ fn table_rows(c: Cursor, s: &[u8], item: Item, key: u64, n: u32) -> Seek
 {
     let mut next = c;
     let mut least: u64 = 0;
-    let mut more = n;
-    let mut held = Held::Nothing;
-    while 0 < more {
-        match row(next, s, item, least) {
-            RowRead::Refused(r) => {
-                return Seek::Refused(r);
-            }
-            RowRead::Row(k, answer, after) => {
-                held = kept(held, key, k, answer);
-                next = after;
-                least = (k as u64) + 1;
-                more = more - 1;
-            }
-        }
+    let mut held = None;
+    for _ in 0..n {
+        let (k, answer, after) = row(next, s, item, least)?;
+        held = kept(held, key, k, answer);
+        next = after;
+        least = (k as u64) + 1;
     }
-    ended(held, next)
+    Ok((held, next))
 }
 
 // A list of (rising number, item): what is wanted of it.
@@ -282,10 +234,8 @@ fn table(c: Cursor, s: &[u8], item: Item, wanted: Wanted) -> Seek
     requires { Inside s.now c }
     ensures { Seeks (sought (reader_of item) wanted) s.now c result }
 {
-    match c.number(s) {
-        NumberRead::Refused(r) => Seek::Refused(r),
-        NumberRead::Value(n, d, _) => table_rows(d, s, item, wanted.0, n),
-    }
+    let (n, d, _) = c.number(s)?;
+    table_rows(d, s, item, wanted.0, n)
 }
 
 // So many rows with tables.
@@ -295,22 +245,14 @@ fn tables_rows(c: Cursor, s: &[u8], item: Item, key: u64, inner: Wanted, n: u32)
 {
     let mut next = c;
     let mut least: u64 = 0;
-    let mut more = n;
-    let mut held = Held::Nothing;
-    while 0 < more {
-        match group(next, s, item, inner, least) {
-            RowRead::Refused(r) => {
-                return Seek::Refused(r);
-            }
-            RowRead::Row(outer, answer, after) => {
-                held = kept(held, key, outer, answer);
-                next = after;
-                least = (outer as u64) + 1;
-                more = more - 1;
-            }
-        }
+    let mut held = None;
+    for _ in 0..n {
+        let (outer, answer, after) = group(next, s, item, inner, least)?;
+        held = kept(held, key, outer, answer);
+        next = after;
+        least = (outer as u64) + 1;
     }
-    ended(held, next)
+    Ok((held, next))
 }
 
 // A list of (rising number, table): what is wanted of the one that is wanted.
@@ -318,8 +260,6 @@ pub fn tables(c: Cursor, s: &[u8], item: Item, wanted: Wanted, inner: Wanted) ->
     requires { Inside s.now c }
     ensures { TablesTables c s.now item wanted inner result }
 {
-    match c.number(s) {
-        NumberRead::Refused(r) => Seek::Refused(r),
-        NumberRead::Value(n, d, _) => tables_rows(d, s, item, wanted.0, inner, n),
-    }
+    let (n, d, _) = c.number(s)?;
+    tables_rows(d, s, item, wanted.0, inner, n)
 }

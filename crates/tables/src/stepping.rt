@@ -17,18 +17,10 @@ pub struct Rows {
 }
 
 // What a step through rows with parts finds: the row's number, its part, and the cursor behind it.
-#[derive(Clone, Copy)]
-pub enum RowStep {
-    End,
-    Row(u32, Cursor, Cursor),
-}
+pub type RowStep = Option<(u32, Cursor, Cursor)>;
 
 // What a step through rows with tables finds: the row's number, and where its table stands. The cursor behind it is known once that was passed.
-#[derive(Clone, Copy)]
-pub enum GroupStep {
-    End,
-    Group(u32, Cursor),
-}
+pub type GroupStep = Option<(u32, Cursor)>;
 
 // The rows of the table that stands here: all of them are to come.
 pub fn rows_here(c: Cursor, s: &[u8]) -> Rows
@@ -60,13 +52,13 @@ pub fn row_step(left: Rows, s: &[u8]) -> RowStep
     ensures { TablesRowStep left s.now result }
 {
     if left.more == 0 {
-        return RowStep::End;
+        return None;
     }
     let index = number_here(left.next, s);
     let value = part_here(index.next, s);
     let part = value.part;
     let next = value.next;
-    RowStep::Row(index.value, part, next)
+    Some((index.value, part, next))
 }
 
 // The next of the rows with tables.
@@ -75,9 +67,9 @@ pub fn group_step(left: Rows, s: &[u8]) -> GroupStep
     ensures { TablesGroupStep left s.now result }
 {
     if left.more == 0 {
-        return GroupStep::End;
+        return None;
     }
     let index = number_here(left.next, s);
     let place = index.next;
-    GroupStep::Group(index.value, place)
+    Some((index.value, place))
 }

@@ -7,29 +7,21 @@ ghost use Rattle.tables.specs.Telling.{Tells, TellsRows, RowTells};
 ghost use Rattle.tables.specs.Promises.{TablesIsFilled, TablesTidyTable, TablesTidyTables};
 
 use crate::{Item, SHORT_HINT, index, is_item, is_short};
-use reading::{Cursor, NumberRead, PartRead};
+use reading::Cursor;
 
 // What telling finds: the cursor behind what is canonical, or that it is refused or not canonical.
-#[derive(Clone, Copy)]
-pub enum Tidy {
-    Behind(Cursor),
-    Not,
-}
+pub type Tidy = Option<Cursor>;
 
 // The same of a row, with its number.
-#[derive(Clone, Copy)]
-pub enum TidyRow {
-    Row(u32, Cursor),
-    Not,
-}
+pub type TidyRow = Option<(u32, Cursor)>;
 
 // Whether nothing is left over behind what is canonical.
 pub fn is_filled(read: Tidy) -> bool
     ensures { TablesIsFilled read result }
 {
     match read {
-        Tidy::Not => false,
-        Tidy::Behind(next) => next.at == next.end,
+        None => false,
+        Some(next) => next.at == next.end,
     }
 }
 
@@ -40,22 +32,20 @@ fn tidy_item(c: Cursor, s: &[u8], item: Item) -> Tidy
 {
     let at = c.at;
     if is_short(s, c, item) {
-        return Tidy::Behind(Cursor {
+        return Some(Cursor {
             at: at + SHORT_HINT,
             end: c.end,
         });
     }
-    match c.sized(s) {
-        PartRead::Refused(_) => Tidy::Not,
-        PartRead::Part(part, next, shortest) => {
-            if shortest {
-                if is_item(s, part, item) {
-                    return Tidy::Behind(next);
-                }
-            }
-            Tidy::Not
+    let Ok((part, next, shortest)) = c.sized(s) else {
+        return None;
+    };
+    if shortest {
+        if is_item(s, part, item) {
+            return Some(next);
         }
     }
+    None
 }
 
 // A row whose value is an item.
@@ -63,19 +53,14 @@ fn row(c: Cursor, s: &[u8], item: Item, least: u64) -> TidyRow
     requires { Inside s.now c }
     ensures { RowTells (reader_of item) part_form least s.now c result }
 {
-    match index(c, s, least) {
-        NumberRead::Refused(_) => TidyRow::Not,
-        NumberRead::Value(k, d, shortest) => {
-            if shortest {
-                match tidy_item(d, s, item) {
-                    Tidy::Not => TidyRow::Not,
-                    Tidy::Behind(next) => TidyRow::Row(k, next),
-                }
-            } else {
-                TidyRow::Not
-            }
-        }
+    let Ok((k, d, shortest)) = index(c, s, least) else {
+        return None;
+    };
+    if !shortest {
+        return None;
     }
+    let next = tidy_item(d, s, item)?;
+    Some((k, next))
 }
 
 // A row whose value is a list.
@@ -83,19 +68,14 @@ fn group(c: Cursor, s: &[u8], item: Item, least: u64) -> TidyRow
     requires { Inside s.now c }
     ensures { RowTells (table (reader_of item)) (table_form part_form) least s.now c result }
 {
-    match index(c, s, least) {
-        NumberRead::Refused(_) => TidyRow::Not,
-        NumberRead::Value(outer, d, shortest) => {
-            if shortest {
-                match tidy_table(d, s, item) {
-                    Tidy::Not => TidyRow::Not,
-                    Tidy::Behind(next) => TidyRow::Row(outer, next),
-                }
-            } else {
-                TidyRow::Not
-            }
-        }
+    let Ok((outer, d, shortest)) = index(c, s, least) else {
+        return None;
+    };
+    if !shortest {
+        return None;
     }
+    let next = tidy_table(d, s, item)?;
+    Some((outer, next))
 }
 
 // So many rows with items.
@@ -105,20 +85,12 @@ fn tidy_rows(c: Cursor, s: &[u8], item: Item, n: u32) -> Tidy
 {
     let mut next = c;
     let mut least: u64 = 0;
-    let mut more = n;
-    while 0 < more {
-        match row(next, s, item, least) {
-            TidyRow::Not => {
-                return Tidy::Not;
-            }
-            TidyRow::Row(k, after) => {
-                next = after;
-                least = (k as u64) + 1;
-                more = more - 1;
-            }
-        }
+    for _ in 0..n {
+        let (k, after) = row(next, s, item, least)?;
+        next = after;
+        least = (k as u64) + 1;
     }
-    Tidy::Behind(next)
+    Some(next)
 }
 
 // A list of (rising number, item).
@@ -126,17 +98,15 @@ pub fn tidy_table(c: Cursor, s: &[u8], item: Item) -> Tidy
     requires { Inside s.now c }
     ensures { TablesTidyTable c s.now item result }
 {
-    match c.number(s) {
-        NumberRead::Refused(_) => Tidy::Not,
-        NumberRead::Value(n, d, shortest) => {
-            if shortest {
-                if 0 < n {
-                    return tidy_rows(d, s, item, n);
-                }
-            }
-            Tidy::Not
+    let Ok((n, d, shortest)) = c.number(s) else {
+        return None;
+    };
+    if shortest {
+        if 0 < n {
+            return tidy_rows(d, s, item, n);
         }
     }
+    None
 }
 
 // So many rows with lists.
@@ -146,20 +116,12 @@ fn tidy_groups(c: Cursor, s: &[u8], item: Item, n: u32) -> Tidy
 {
     let mut next = c;
     let mut least: u64 = 0;
-    let mut more = n;
-    while 0 < more {
-        match group(next, s, item, least) {
-            TidyRow::Not => {
-                return Tidy::Not;
-            }
-            TidyRow::Row(outer, after) => {
-                next = after;
-                least = (outer as u64) + 1;
-                more = more - 1;
-            }
-        }
+    for _ in 0..n {
+        let (outer, after) = group(next, s, item, least)?;
+        next = after;
+        least = (outer as u64) + 1;
     }
-    Tidy::Behind(next)
+    Some(next)
 }
 
 // A list of (rising number, list).
@@ -167,15 +129,13 @@ pub fn tidy_tables(c: Cursor, s: &[u8], item: Item) -> Tidy
     requires { Inside s.now c }
     ensures { TablesTidyTables c s.now item result }
 {
-    match c.number(s) {
-        NumberRead::Refused(_) => Tidy::Not,
-        NumberRead::Value(groups, d, shortest) => {
-            if shortest {
-                if 0 < groups {
-                    return tidy_groups(d, s, item, groups);
-                }
-            }
-            Tidy::Not
+    let Ok((groups, d, shortest)) = c.number(s) else {
+        return None;
+    };
+    if shortest {
+        if 0 < groups {
+            return tidy_groups(d, s, item, groups);
         }
     }
+    None
 }

@@ -1,11 +1,8 @@
 use Rattle.copying.proofs.Measuring.{counting_groups}
 use Rattle.copying.proofs.groups_length.Goals as goal
 
-pub loop-next-init : goal.loop-next-init
-loop-next-init c = search counting_groups
-
-pub returns-in-End : goal.returns-in-End
-returns-in-End c = search counting_groups
+pub loop-index-init : goal.loop-index-init
+loop-index-init c = search counting_groups
 
 pub rows_here-entries-requires : goal.rows_here-entries-requires
 rows_here-entries-requires c = search counting_groups
@@ -22,5 +19,8 @@ overflow_add-length c = search counting_groups
 pub overflow_add-kept : goal.overflow_add-kept
 overflow_add-kept c = search counting_groups
 
-pub loop-next-preserved : goal.loop-next-preserved
-loop-next-preserved c = search counting_groups
+pub loop-index-preserved : goal.loop-index-preserved
+loop-index-preserved c = search counting_groups
+
+pub returns : goal.returns
+returns c = search counting_groups

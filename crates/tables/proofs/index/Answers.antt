@@ -4,8 +4,8 @@ use Rattle.tables.proofs.index.Goals as goal
 pub returns-then-k-least : goal.returns-then-k-least
 returns-then-k-least c = search index_steps
 
-pub returns-in-Refused : goal.returns-in-Refused
-returns-in-Refused c = search index_steps
+pub returns : goal.returns
+returns c = search (c.in_ok-k.was, index_steps)
 
-pub returns-else-k-least : goal.returns-else-k-least
-returns-else-k-least c = search index_steps
+pub returns-in_err-k : goal.returns-in_err-k
+returns-in_err-k c = search (c.in_err-k.was, index_steps)

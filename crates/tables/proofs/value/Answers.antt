@@ -8,10 +8,10 @@ pub is_item-requires : goal.is_item-requires
 is_item-requires c = search value_steps
 
 pub returns-then-is_item : goal.returns-then-is_item
-returns-then-is_item c = search value_steps
+returns-then-is_item c = search (c.in_ok-part.was, value_steps)
 
-pub returns-in-Refused : goal.returns-in-Refused
-returns-in-Refused c = search value_steps
+pub returns : goal.returns
+returns c = search (c.in_ok-part.was, value_steps)
 
-pub returns-else-is_item : goal.returns-else-is_item
-returns-else-is_item c = search value_steps
+pub returns-in_err-part : goal.returns-in_err-part
+returns-in_err-part c = search (c.in_err-part.was, value_steps)

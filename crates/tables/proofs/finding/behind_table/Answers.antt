@@ -7,8 +7,8 @@ rows_here-left-requires c = search skipping
 pub loop-next-init : goal.loop-next-init
 loop-next-init c = search skipping
 
-pub returns-in-End : goal.returns-in-End
-returns-in-End c = search skipping
-
 pub loop-next-preserved : goal.loop-next-preserved
 loop-next-preserved c = search skipping
+
+pub returns : goal.returns
+returns c = search skipping

@@ -7,14 +7,14 @@ rows_here-left-requires c = search row_seeking
 pub loop-k-init : goal.loop-k-init
 loop-k-init c = search row_seeking
 
-pub returns-in-End : goal.returns-in-End
-returns-in-End c = search row_seeking
-
-pub returns-then-key-k-2 : goal.returns-then-key-k-2
-returns-then-key-k-2 c = search row_seeking
+pub loop-k-preserved : goal.loop-k-preserved
+loop-k-preserved c = search (c.in_ok-k.was, row_seeking)
 
 pub returns-then-key-k : goal.returns-then-key-k
-returns-then-key-k c = search row_seeking
+returns-then-key-k c = search (c.in_ok-k.was, row_seeking)
 
-pub loop-k-preserved : goal.loop-k-preserved
-loop-k-preserved c = search row_seeking
+pub returns-then-key-k-2 : goal.returns-then-key-k-2
+returns-then-key-k-2 c = search (c.in_ok-k.was, row_seeking)
+
+pub returns-in_err-k : goal.returns-in_err-k
+returns-in_err-k c = rw c.from_residual.ensures (search (c.in_err-k.was, row_seeking))

@@ -1,11 +1,11 @@
 use Rattle.tables.proofs.JudgeSteps.{judged_list}
 use Rattle.tables.proofs.judging.list.Goals as goal
 
-pub returns-in-Refused : goal.returns-in-Refused
-returns-in-Refused c = search judged_list
+pub returns : goal.returns
+returns c = search (c.in_ok-k.was, c.in_ok-next.was, judged_list)
 
-pub returns-in-Refused-names : goal.returns-in-Refused-names
-returns-in-Refused-names c = search judged_list
+pub returns-in_err-k : goal.returns-in_err-k
+returns-in_err-k c = search (c.in_err-k.was, judged_list)
 
-pub returns-in-Behind : goal.returns-in-Behind
-returns-in-Behind c = search judged_list
+pub returns-in_err-next : goal.returns-in_err-next
+returns-in_err-next c = search (c.in_ok-k.was, c.in_err-next.was, judged_list)

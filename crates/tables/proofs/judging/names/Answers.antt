@@ -4,8 +4,8 @@ use Rattle.tables.proofs.judging.names.Goals as goal
 pub rows-requires : goal.rows-requires
 rows-requires c = search judged_names
 
-pub returns-in-Refused : goal.returns-in-Refused
-returns-in-Refused c = search judged_names
+pub returns : goal.returns
+returns c = search (c.in_ok-n.was, judged_names)
 
-pub returns-in-Value : goal.returns-in-Value
-returns-in-Value c = search judged_names
+pub returns-in_err-n : goal.returns-in_err-n
+returns-in_err-n c = search (c.in_err-n.was, judged_names)

@@ -8,13 +8,13 @@ pub is_text-requires : goal.is_text-requires
 is_text-requires c = search judged_row
 
 pub returns-then-is_text : goal.returns-then-is_text
-returns-then-is_text c = search judged_row
+returns-then-is_text c = search (c.in_ok-k.was, c.in_ok-part.was, judged_row)
 
-pub returns-in-Refused : goal.returns-in-Refused
-returns-in-Refused c = search judged_row
+pub returns : goal.returns
+returns c = search (c.in_ok-k.was, c.in_ok-part.was, judged_row)
 
-pub returns-in-Refused-sized : goal.returns-in-Refused-sized
-returns-in-Refused-sized c = search judged_row
+pub returns-in_err-k : goal.returns-in_err-k
+returns-in_err-k c = search (c.in_err-k.was, judged_row)
 
-pub returns-else-is_text : goal.returns-else-is_text
-returns-else-is_text c = search judged_row
+pub returns-in_err-part : goal.returns-in_err-part
+returns-in_err-part c = search (c.in_ok-k.was, c.in_err-part.was, judged_row)

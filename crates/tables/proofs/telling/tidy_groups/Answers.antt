@@ -1,8 +1,16 @@
+use native.Mathlib.Omega.{arith}
+use Prim.Native.Nat.{◌-◌}
 use Rattle.tables.proofs.TidySteps.{tidy_turns}
 use Rattle.tables.proofs.telling.tidy_groups.Goals as goal
 
-pub returns-in-Not : goal.returns-in-Not
-returns-in-Not c = search tidy_turns
+pub loop-init : goal.loop-init
+loop-init c = record { left = c.args.n; all = omega arith; holds = search tidy_turns }
 
 pub returns : goal.returns
-returns c = search tidy_turns
+returns c = let t = c.loop.invariant in search tidy_turns
+
+pub returns-in_err-outer : goal.returns-in_err-outer
+returns-in_err-outer c = let t = c.loop.invariant in search (c.in_err-outer.was, tidy_turns)
+
+pub loop-preserved : goal.loop-preserved
+loop-preserved c = let t = c.loop.invariant in record { left = t.left - 1; all = omega (arith, t.all, c.loop-test.true); holds = search tidy_turns }
