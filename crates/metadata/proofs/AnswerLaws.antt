@@ -1,11 +1,11 @@
 -- What a judgement says: of the payload, of the data where it is asked, and of a hint.
+use Rattle.std.specs.Prelude.{Ok, Err, Some, None}
 use Prim.Native.Nat.{ℕ, ◌<◌}
 use mathlib.Core.List.{List, [], ◌∷◌}
 use mathlib.Core.Option.{some}
 use mathlib.Core.Path.{◌≡◌, refl, sym, ap, ◌∙◌}
 use native.Mathlib.Omega.{arith}
 use borrow.Author.Rules.{rules}
-use denote.Enum.Declared.{tag_of}
 use lib.ListN.{length, get_or, take}
 use lib.Seq.{drop-cons}
 use Rattle.format.specs.Reading.{Reader, accepted, refused, verdict}
@@ -17,65 +17,56 @@ use Rattle.format.specs.Laws.Outcomes.{mapped, refused_exactly}
 use Rattle.format.proofs.Laws.Hints.{hint_is, found_hint}
 use Rattle.format.proofs.Laws.Places.{lies_inside, lies_there, PartIn, hint_located}
 use Rattle.format.proofs.Laws.Found.{item_lies}
-use Rattle.format.specs.declared.Answer.{Answer}
-use Rattle.format.specs.declared.Answer.TheVariants.{Refused as NotAnswered}
+use Rattle.format.specs.Returned.{Answer}
 use Rattle.format.specs.declared.CodeOffset.{CodeOffset}
 use Rattle.format.specs.declared.FunctionIndex.{FunctionIndex}
 use Rattle.format.specs.declared.Hint.{Hint}
 use Rattle.format.specs.declared.Hint.TheVariants.{Unlikely, Likely}
-use Rattle.format.specs.declared.HintAnswer.TheVariants.{None as NoHint, Found as AHint, Refused as NotHinted}
 use Rattle.format.specs.declared.Refusal.{Refusal}
 use Rattle.reading.proofs.Laws.{lies_left}
 use Rattle.reading.specs.Cursors.{Inside, left, part_of}
 use Rattle.reading.specs.declared.Cursor.{Cursor}
-use Rattle.format.specs.Verdicts.{verdict_of, refusal_in}
-use Rattle.format.specs.declared.Verdict.{Verdict}
-use Rattle.format.specs.declared.Verdict.TheVariants.{Accepted, Refused}
-use Rattle.format.proofs.Tags.{as_accepted, as_refused}
-use Rattle.format.specs.contracts.Verdict as verdict_type
+use Rattle.format.specs.Verdicts.{verdict_of}
 use Rattle.tables.specs.Finding.{HeldOrdered, answer_of}
 use Rattle.tables.specs.Steps.{held_of}
 use Rattle.tables.specs.declared.Wanted.{Wanted}
 use Rattle.tables.proofs.FindLaws.{held_ordered_lem, held_means}
-use Rattle.metadata.specs.Asking.{asks_to, wanted_of, JudgesFor}
-use Rattle.tables.specs.declared.Held.{Held}
-use Rattle.tables.specs.declared.Held.TheVariants.{Nothing, Part as Data}
-use Rattle.metadata.specs.declared.Judgement.{Judgement}
+use Rattle.metadata.specs.Asking.{wanted_of, JudgesFor}
+use Rattle.tables.specs.Returned.{Held}
 
 -- what a judgement says of the payload, whatever is wanted
-verdict_says : (value : Reader Part) (function offset : Wanted) (s : List ℕ) (c : Cursor) (held : Held) (v : Verdict) → asks_to s held v ≡ wanted_of value function offset c.at (left s c) → verdict_of v ≡ verdict (judge_metadata value c.at (left s c))
-unfolding wanted_of
-verdict_says value function offset s c held Accepted e = mapped _ (judge_metadata value c.at (left s c)) (sym e) λ t e₁ _. rw e₁
-verdict_says value function offset s c held (Refused r) e = sym ((refused_exactly (λ _. tt) (judge_metadata value c.at (left s c))).1 ((refused_exactly _ (judge_metadata value c.at (left s c))).0 (sym e)))
+module _ {value : Reader Part} {function offset : Wanted} {s : List ℕ} {c : Cursor} where
+  pub judgement_refused : {r : Refusal} → JudgesFor value function offset s c (Err r) → verdict_of (Err r) ≡ verdict (judge_metadata value c.at (left s c))
+  unfolding wanted_of
+  judgement_refused q = sym ((refused_exactly (λ _. tt) (judge_metadata value c.at (left s c))).1 ((refused_exactly _ (judge_metadata value c.at (left s c))).0 (sym q.says)))
 
-pub judgement_says : {value : Reader Part} {function offset : Wanted} {s : List ℕ} {c : Cursor} {j : Judgement} → JudgesFor value function offset s c j → verdict_of j.verdict ≡ verdict (judge_metadata value c.at (left s c))
-judgement_says {value} {function} {offset} {s} {c} {j} q = verdict_says value function offset s c j.held j.verdict q.says
+  pub judgement_accepted : {held : Held} → JudgesFor value function offset s c (Ok held) → verdict_of (Ok tt) ≡ verdict (judge_metadata value c.at (left s c))
+  unfolding wanted_of
+  judgement_accepted q = mapped _ (judge_metadata value c.at (left s c)) (sym q.says) λ t e _. rw e
 
-pub ruleset judgements = (judgement_says, rules)
+pub ruleset judgements = (judgement_refused, judgement_accepted, rules)
 
 -- and of the place that is asked for
-module _ {value : Reader Part} {f : FunctionIndex} {at : CodeOffset} {s : List ℕ} {c : Cursor} {j : Judgement} (q : JudgesFor value (record { 0 = f.0 }) (record { 0 = at.0 }) s c j) where
-  asks : asks_to s j.held j.verdict ≡ ask_metadata value f at c.at (left s c)
-  unfolding wanted_of ask_metadata item_at
-  asks = q.says
-
-  module _ (h : tag_of verdict_type.the_type j.verdict ≡ 1) {r : Refusal} (is : r ≡ refusal_in j.verdict) where
+module _ {value : Reader Part} {f : FunctionIndex} {at : CodeOffset} {s : List ℕ} {c : Cursor} where
+  module _ {r : Refusal} (q : JudgesFor value (record { 0 = f.0 }) (record { 0 = at.0 }) s c (Err r)) where
     refused_so : ask_metadata value f at c.at (left s c) ≡ refused (number_of r.reason) r.offset.0
-    refused_so = let told = rw (as_refused j.verdict h) at asks in rw is (sym told)
+    unfolding wanted_of ask_metadata item_at
+    refused_so = sym q.says
 
-    pub find_refused : answered (NotAnswered r) ≡ as_place (ask_metadata value f at c.at (left s c))
+    pub find_refused : answered (Err r) ≡ as_place (ask_metadata value f at c.at (left s c))
     unfolding as_place
     find_refused = rw refused_so
 
-  module _ (h : tag_of verdict_type.the_type j.verdict ≡ 0) where
-    holds : ask_metadata value f at c.at (left s c) ≡ accepted (held_of s j.held)
-    holds = sym (rw (as_accepted j.verdict h) at asks)
+  module _ {held : Held} (q : JudgesFor value (record { 0 = f.0 }) (record { 0 = at.0 }) s c (Ok held)) where
+    holds : ask_metadata value f at c.at (left s c) ≡ accepted (held_of s held)
+    unfolding wanted_of ask_metadata item_at
+    holds = sym q.says
 
-    pub find_ordered : HeldOrdered j.held
-    find_ordered = held_ordered_lem s j.held q.inside
+    pub find_ordered : HeldOrdered held
+    find_ordered = held_ordered_lem s held q.inside
 
-    pub find_held : {y : Answer} → y ≡ answer_of j.held → answered y ≡ as_place (ask_metadata value f at c.at (left s c))
-    find_held is = rw (is, holds) (held_means s j.held q.inside)
+    pub find_held : {y : Answer} → y ≡ answer_of held → answered y ≡ as_place (ask_metadata value f at c.at (left s c))
+    find_held is = rw (is, holds) (held_means s held q.inside)
 
 pub ruleset finds = (find_refused, find_ordered, find_held, rules)
 
@@ -107,17 +98,17 @@ unfolding ask_hint hint_in
 hint_told f at o bs {x} {h} e q = rw e (ap accepted (rw q (hint_is h)))
 
 -- a hint's judgement, and the data byte of a hint that was found
-module _ {f : FunctionIndex} {at : CodeOffset} {s : List ℕ} {c : Cursor} {j : Judgement} (i : Inside s c) (q : JudgesFor hint_item (record { 0 = f.0 }) (record { 0 = at.0 }) s c j) where
-  pub hint_refused : tag_of verdict_type.the_type j.verdict ≡ 1 → {r : Refusal} → r ≡ refusal_in j.verdict → hint_answered (NotHinted r) ≡ ask_hint f at c.at (left s c)
+module _ {f : FunctionIndex} {at : CodeOffset} {s : List ℕ} {c : Cursor} where
+  pub hint_refused : {r : Refusal} → JudgesFor hint_item (record { 0 = f.0 }) (record { 0 = at.0 }) s c (Err r) → hint_answered (Err r) ≡ ask_hint f at c.at (left s c)
   unfolding ask_hint
-  hint_refused h is = sym ((refused_exactly hint_in (ask_metadata hint_item f at c.at (left s c))).1 (refused_so q h is))
+  hint_refused q = sym ((refused_exactly hint_in (ask_metadata hint_item f at c.at (left s c))).1 (refused_so q))
 
-  module _ (e : tag_of verdict_type.the_type j.verdict ≡ 0) where
-    pub hint_none : j.held ≡ Nothing → hint_answered NoHint ≡ ask_hint f at c.at (left s c)
+  module _ (i : Inside s c) {held : Held} (q : JudgesFor hint_item (record { 0 = f.0 }) (record { 0 = at.0 }) s c (Ok held)) where
+    pub hint_none : held ≡ None → hint_answered (Ok None) ≡ ask_hint f at c.at (left s c)
     unfolding ask_hint hint_in
-    hint_none h = rw (holds q e, h)
+    hint_none h = rw (holds q, h)
 
-    module _ {data' : Cursor} (is : j.held ≡ Data data') where
+    module _ {data' : Cursor} (is : held ≡ Some data') where
       -- one byte, which says which hint
       record HintThere : Type 0 where
         hint : Hint
@@ -127,7 +118,7 @@ module _ {f : FunctionIndex} {at : CodeOffset} {s : List ℕ} {c : Cursor} {j : 
 
       hint_there : HintThere
       hint_there =
-          let there : ask_metadata hint_item f at c.at (left s c) ≡ accepted (some (part_of s data')) = rw is at (holds q e) in
+          let there : ask_metadata hint_item f at c.at (left s c) ≡ accepted (some (part_of s data')) = rw is at (holds q) in
           let (h, holds) = found_hint f at c.at (left s c) there in
           let byte = byte_is s (part_of s data') h (item_lies hint_located f at s c.at (left s c) (lies_left i) there) holds in
           record { hint = h; told = hint_told f at c.at (left s c) there holds; inside = byte.0; byte = byte.1 }
@@ -135,10 +126,10 @@ module _ {f : FunctionIndex} {at : CodeOffset} {s : List ℕ} {c : Cursor} {j : 
       pub byte_inside : data'.at < length s
       byte_inside = hint_there.inside
 
-      pub hint_likely : get_or s data'.at 0 ≡ 1 → hint_answered (AHint Likely) ≡ ask_hint f at c.at (left s c)
+      pub hint_likely : get_or s data'.at 0 ≡ 1 → hint_answered (Ok (Some Likely)) ≡ ask_hint f at c.at (left s c)
       hint_likely b = let t = hint_there in ap (λ h. accepted (some h)) (is_likely t.hint t.byte b) ∙ sym t.told
 
-      pub hint_unlikely : (get_or s data'.at 0 ≡ 1 → ⊥) → hint_answered (AHint Unlikely) ≡ ask_hint f at c.at (left s c)
+      pub hint_unlikely : (get_or s data'.at 0 ≡ 1 → ⊥) → hint_answered (Ok (Some Unlikely)) ≡ ask_hint f at c.at (left s c)
       hint_unlikely b = let t = hint_there in ap (λ h. accepted (some h)) (is_unlikely t.hint t.byte b) ∙ sym t.told
 
 pub ruleset hints = (hint_refused, hint_none, byte_inside, hint_likely, hint_unlikely, rules)

@@ -1,4 +1,5 @@
 -- What a search of both lists says of the payload that they must fill: its judgement.
+use Rattle.std.specs.Prelude.{Ok, Err, Some, None}
 use Prim.Native.Nat.{ℕ, ◌≤◌, ◌<◌}
 use mathlib.Core.List.{List, [], ◌∷◌}
 use mathlib.Core.Option.{Option}
@@ -19,15 +20,11 @@ use Rattle.reading.specs.declared.Cursor.{Cursor}
 use Rattle.tables.specs.Finding.{HeldInside}
 use Rattle.tables.specs.Seeking.{sought_within, Seeks}
 use Rattle.tables.specs.declared.Wanted.{Wanted}
-use Rattle.tables.specs.declared.Seek.{Seek}
-use Rattle.tables.specs.declared.Seek.TheVariants.{None as NoPart, Found as SeekPart, Refused as NoSeek}
+use Rattle.tables.specs.Returned.{Seek}
 use Rattle.tables.proofs.Laws.{refused_means, none_means, none_inside, found_means, found_inside, found_part}
 use Rattle.tables.specs.Steps.{held_of}
-use Rattle.metadata.specs.Asking.{refused_by, filled_with, wanted_of, JudgesFor}
-use Rattle.tables.specs.declared.Held.{Held}
-use Rattle.tables.specs.declared.Held.TheVariants.{Nothing, Part as APart}
-use Rattle.metadata.specs.declared.Judgement.{Judgement}
-use Rattle.format.specs.declared.Verdict.TheVariants.{Accepted}
+use Rattle.metadata.specs.Asking.{Judgement, filled_with, wanted_of, JudgesFor}
+use Rattle.tables.specs.Returned.{Held}
 
 -- by what the search came to
 module _ (value : Reader Part) (f at : Wanted) (o : ℕ) (bs : List ℕ) where
@@ -45,18 +42,18 @@ module _ (value : Reader Part) (f at : Wanted) (o : ℕ) (bs : List ℕ) where
 
 -- nothing behind the lists, or something
 module _ (held : Held) {next : Cursor} where
-  pub fills : next.end ≤ next.at → record { verdict = Accepted; held = held } ≡ filled_with held next
+  pub fills : next.end ≤ next.at → Ok held ≡ filled_with held next
   fills h = rw (le-ltb next.at next.end h)
 
-  pub leaves_over : {j : Judgement} → j ≡ refused_by (record { reason = LeftOver; offset = record { 0 = next.at } }) → next.at < next.end → j ≡ filled_with held next
+  pub leaves_over : {j : Judgement} → j ≡ Err (record { reason = LeftOver; offset = record { 0 = next.at } }) → next.at < next.end → j ≡ filled_with held next
   leaves_over e h = rw (lt-ltb next.at next.end h) e
 
 pub ruleset fillings = (fills, leaves_over, rules)
 
 -- what the judgement comes to
 module _ {s : List ℕ} {c : Cursor} (value : Reader Part) (f at : Wanted) {x : Seek} (i : Inside s c) (k : Seeks (sought_within value f at) s c x) where
-  pub judged_refused : {r : Refusal} {y : Judgement} → x ≡ NoSeek r → y ≡ refused_by r → JudgesFor value f at s c y
-  judged_refused e is = rw is (record { says = sym (sought_stops value f at c.at (left s c) (refused_means k e)); inside = tt })
+  pub judged_refused : {r : Refusal} → x ≡ Err r → JudgesFor value f at s c (Err r)
+  judged_refused e = record { says = sym (sought_stops value f at c.at (left s c) (refused_means k e)); inside = tt }
 
   by_filling : {y : Judgement} (held : Held) {next : Cursor} → HeldInside s held → Inside s next → sought_within value f at c.at (left s c) ≡ got (held_of s held) next.at (left s next) → y ≡ filled_with held next → JudgesFor value f at s c y
   by_filling held {next} there j means is =
@@ -64,10 +61,8 @@ module _ {s : List ℕ} {c : Cursor} (value : Reader Part) (f at : Wanted) {x : 
       (λ t. let over = something_left j (ltb-true next.at next.end t) in rw (is, t) (record { says = sym (sought_leaves value f at c.at (left s c) (rw over at means)); inside = tt }))
       (λ t. let none = nothing_left j (ltb-false next.at next.end t) in rw (is, t) (record { says = sym (sought_fills value f at c.at (left s c) (rw none at means)); inside = there }))
 
-  pub judged_none : {y : Judgement} {next : Cursor} → x ≡ NoPart next → y ≡ filled_with Nothing next → JudgesFor value f at s c y
-  judged_none e is = by_filling Nothing tt (none_inside i k e) (none_means k e) is
+  pub judged_found : {y : Judgement} (held : Held) {next : Cursor} → x ≡ Ok (held, next) → y ≡ filled_with held next → JudgesFor value f at s c y
+  judged_found None e is = by_filling None tt (none_inside i k e) (none_means k e) is
+  judged_found (Some part) e is = by_filling (Some part) (found_part i k e) (found_inside i k e) (found_means k e) is
 
-  pub judged_found : {y : Judgement} {part next : Cursor} → x ≡ SeekPart part next → y ≡ filled_with (APart part) next → JudgesFor value f at s c y
-  judged_found {part = part} e is = by_filling (APart part) (found_part i k e) (found_inside i k e) (found_means k e) is
-
-pub ruleset judgings = (judged_refused, judged_none, judged_found, rules)
+pub ruleset judgings = (judged_refused, judged_found, rules)

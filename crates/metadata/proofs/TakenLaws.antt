@@ -10,7 +10,7 @@ use Rattle.format.specs.Questions.{as_place, as_bytes, start_of, answered}
 use Rattle.format.specs.Metadata.{any_item, ask_metadata}
 use Rattle.format.proofs.Laws.Places.{PartIn, lies_all, any_located}
 use Rattle.format.proofs.Laws.Found.{item_lies}
-use Rattle.format.specs.declared.Answer.{Answer}
+use Rattle.format.specs.Returned.{Answer}
 use Rattle.format.specs.declared.CodeOffset.{CodeOffset}
 use Rattle.format.specs.declared.FunctionIndex.{FunctionIndex}
 use Rattle.reading.specs.Taken.{Takes}

@@ -20,7 +20,7 @@ use Rattle.tables.specs.Seeking.{reader_of}
 use Rattle.tables.specs.Telling.{is_filled, Tells}
 use Rattle.tables.specs.declared.Item.{Item}
 use Rattle.tables.specs.declared.Item.TheVariants.{Name, Data, Hint}
-use Rattle.tables.specs.declared.telling.Tidy.{Tidy}
+use Rattle.tables.specs.Returned.{Tidy}
 use Rattle.tables.proofs.TidySteps.{at_end}
 
 -- one byte

@@ -7,15 +7,15 @@ use Rattle.format.specs.Reading.{Reader, verdict}
 use Rattle.format.specs.Parts.{Part}
 use Rattle.format.specs.Questions.{answered, as_place}
 use Rattle.format.specs.Metadata.{judge_metadata, ask_metadata, ask_hint, hint_answered}
-use Rattle.format.specs.declared.Answer.{Answer}
+use Rattle.format.specs.Returned.{Answer}
 use Rattle.format.specs.declared.CodeOffset.{CodeOffset}
 use Rattle.format.specs.declared.FunctionIndex.{FunctionIndex}
-use Rattle.format.specs.declared.HintAnswer.{HintAnswer}
+use Rattle.format.specs.Returned.{HintAnswer}
 use Rattle.reading.proofs.Laws.{left_all, over_inside}
 use Rattle.reading.specs.Cursors.{over_all, left}
 use Rattle.reading.specs.declared.Cursor.{Cursor}
 use Rattle.format.specs.Verdicts.{verdict_of}
-use Rattle.format.specs.declared.Verdict.{Verdict}
+use Rattle.format.specs.Returned.{Verdict}
 
 module _ (p : List ℕ) {c : Cursor} (over : c ≡ over_all p) where
   module _ (value : Reader Part) where

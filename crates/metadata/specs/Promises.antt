@@ -3,13 +3,13 @@ use Rattle.std.specs.Prelude.{ℕ, ◌+◌, Bool, List, ◌≡◌}
 use Rattle.format.specs.Metadata.{any_item, hint_item, judge_metadata, ask_metadata, ask_hint, hint_answered}
 use Rattle.format.specs.Questions.{as_place, as_bytes, start_of, answered}
 use Rattle.format.specs.Reading.{verdict}
-use Rattle.format.specs.declared.Answer.{Answer}
+use Rattle.format.specs.Returned.{Answer}
 use Rattle.format.specs.declared.CodeOffset.{CodeOffset}
 use Rattle.format.specs.declared.FunctionIndex.{FunctionIndex}
-use Rattle.format.specs.declared.HintAnswer.{HintAnswer}
+use Rattle.format.specs.Returned.{HintAnswer}
 use Rattle.format.specs.Telling.{items_are_canonical}
 use Rattle.format.specs.Verdicts.{verdict_of}
-use Rattle.format.specs.declared.Verdict.{Verdict}
+use Rattle.format.specs.Returned.{Verdict}
 use Rattle.reading.specs.Cursors.{left}
 use Rattle.reading.specs.declared.Cursor.{Cursor}
 use Rattle.tables.specs.Seeking.{reader_of}

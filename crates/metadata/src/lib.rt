@@ -2,56 +2,38 @@
 #![tactic(auto)]
 
 ghost use Rattle.std.specs.Prelude.{◌≡◌};
-ghost use Rattle.metadata.specs.Asking.{refused_by, filled_with, JudgesFor};
+ghost use Rattle.metadata.specs.Asking.{filled_with, JudgesFor};
 ghost use Rattle.reading.specs.Cursors.{Inside};
 ghost use Rattle.tables.specs.Seeking.{reader_of};
 ghost use Rattle.metadata.specs.Promises.{MetadataFindIn, MetadataJudgeIn, MetadataHintIn, MetadataJudge, MetadataJudgeHints, MetadataFind, MetadataFindBytes, MetadataHint};
 
 use format::{
     Answer, CodeOffset, FunctionIndex, Hint, HintAnswer, Offset, Reason, Refusal, Verdict,
-    refusal_of,
 };
 use reading::Cursor;
 use reading::taking::taken;
 use tables::finding::answer_of;
-use tables::{Held, Item, NOTHING, Seek, Wanted};
+use tables::{Held, Item, NOTHING, Wanted};
 
 pub mod telling;
 
 // The data byte of a branch that is likely taken.
 const LIKELY: u8 = 1;
 
-// The verdict on a payload, and what it has where it is asked: nothing, where it is refused.
-#[derive(Clone, Copy)]
-struct Judgement {
-    verdict: Verdict,
-    held: Held,
-}
-
-// A payload that is refused.
-fn refused(r: Refusal) -> Judgement
-    ensures { result ≡ refused_by r }
-{
-    Judgement {
-        verdict: Verdict::Refused(r),
-        held: Held::Nothing,
-    }
-}
+// What judging a payload comes to: what it has where it is asked, or the refusal.
+type Judgement = Result<Held, Refusal>;
 
 // The lists fill the payload: what was held is what it has.
 fn filled(held: Held, next: Cursor) -> Judgement
     ensures { result ≡ filled_with held next }
 {
     if next.at < next.end {
-        return refused(Refusal {
+        return Err(Refusal {
             reason: Reason::LeftOver,
             offset: Offset(next.at),
         });
     }
-    Judgement {
-        verdict: Verdict::Accepted,
-        held,
-    }
+    Ok(held)
 }
 
 // Judges a payload that lies in `s` where the cursor says, and holds on to what is wanted of it: one pass does both.
@@ -59,11 +41,8 @@ fn judge_for(s: &[u8], c: Cursor, item: Item, function: Wanted, offset: Wanted) 
     requires { Inside s.now c }
     ensures { JudgesFor (reader_of item) function offset s.now c result }
 {
-    match tables::tables(c, s, item, function, offset) {
-        Seek::Refused(r) => refused(r),
-        Seek::None(next) => filled(Held::Nothing, next),
-        Seek::Found(part, next) => filled(Held::Part(part), next),
-    }
+    let (held, next) = tables::tables(c, s, item, function, offset)?;
+    filled(held, next)
 }
 
 // The data at an offset of a function, in a payload that lies in `s` where the cursor says.
@@ -71,12 +50,7 @@ pub fn find_in(s: &[u8], c: Cursor, item: Item, f: FunctionIndex, at: CodeOffset
     requires { Inside s.now c }
     ensures { MetadataFindIn s.now c item f at result }
 {
-    let judgement = judge_for(s, c, item, Wanted(f.0 as u64), Wanted(at.0 as u64));
-    let verdict = judgement.verdict;
-    let Verdict::Accepted = verdict else {
-        return Answer::Refused(refusal_of(verdict));
-    };
-    let held = judgement.held;
+    let held = judge_for(s, c, item, Wanted(f.0 as u64), Wanted(at.0 as u64))?;
     answer_of(held)
 }
 
@@ -85,8 +59,8 @@ pub fn judge_in(s: &[u8], c: Cursor, item: Item) -> Verdict
     requires { Inside s.now c }
     ensures { MetadataJudgeIn s.now c item result }
 {
-    let judgement = judge_for(s, c, item, NOTHING, NOTHING);
-    judgement.verdict
+    judge_for(s, c, item, NOTHING, NOTHING)?;
+    Ok(())
 }
 
 // The hint at an offset of a function, in a payload that lies in `s` where the cursor says.
@@ -94,20 +68,15 @@ pub fn hint_in(s: &[u8], c: Cursor, f: FunctionIndex, at: CodeOffset) -> HintAns
     requires { Inside s.now c }
     ensures { MetadataHintIn s.now c f at result }
 {
-    let judgement = judge_for(s, c, Item::Hint, Wanted(f.0 as u64), Wanted(at.0 as u64));
-    let verdict = judgement.verdict;
-    let Verdict::Accepted = verdict else {
-        return HintAnswer::Refused(refusal_of(verdict));
-    };
-    let held = judgement.held;
+    let held = judge_for(s, c, Item::Hint, Wanted(f.0 as u64), Wanted(at.0 as u64))?;
     match held {
-        Held::Nothing => HintAnswer::None,
-        Held::Part(data) => {
+        None => Ok(None),
+        Some(data) => {
             let byte = data.at;
             if s[byte] == LIKELY {
-                return HintAnswer::Found(Hint::Likely);
+                return Ok(Some(Hint::Likely));
             }
-            HintAnswer::Found(Hint::Unlikely)
+            Ok(Some(Hint::Unlikely))
         }
     }
 }

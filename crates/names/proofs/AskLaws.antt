@@ -1,4 +1,5 @@
 -- The questions: what the contents at a place answer is the answer.
+use Rattle.std.specs.Prelude.{Ok, Err, Some, None}
 use Prim.Native.Nat.{ℕ, ◌≤◌}
 use mathlib.Core.List.{List}
 use mathlib.Core.Logic.{◌⊎◌, ⊎_elim}
@@ -16,12 +17,11 @@ use Rattle.format.specs.Questions.{answer_in, answer, asked, ask_at, ask, as_pla
 use Rattle.format.specs.declared.Question.{Question}
 use Rattle.format.specs.declared.Query.{Query}
 use Rattle.format.specs.declared.Query.TheVariants.{ItsName, ItsContents, NameOf, NameWithin}
-use Rattle.format.specs.Verdicts.{verdict_of, refusal_in}
+use Rattle.format.specs.Verdicts.{verdict_of}
 use Rattle.format.specs.Laws.Outcomes.{not_accepted, accepted_is, mapped}
-use Rattle.format.specs.declared.Answer.{Answer}
-use Rattle.format.specs.declared.Answer.TheVariants.{None as NoAnswer, Refused as NotAnswered}
+use Rattle.format.specs.Returned.{Answer}
 use Rattle.format.specs.declared.Refusal.{Refusal}
-use Rattle.format.specs.declared.Verdict.{Verdict}
+use Rattle.format.specs.Returned.{Verdict}
 use Rattle.reading.proofs.Laws.{left_all, over_inside}
 use Rattle.reading.specs.Cursors.{Inside, left, over_all}
 use Rattle.reading.specs.declared.Cursor.{Cursor}
@@ -29,32 +29,25 @@ use Rattle.names.specs.Contents.{kind_meant, asks_in, place_at}
 use Rattle.names.specs.Places.{sub_of, SubInside, KnownNames, KnownFrames, KnownAt, Stands, Finds, AsksAt}
 use Rattle.names.specs.declared.kinds.Kind.{Kind}
 use Rattle.names.specs.declared.kinds.Kind.TheVariants.{OneName, NameMap, IndirectMap, Kept}
-use Rattle.tables.specs.declared.Held.{Held}
-use Rattle.tables.specs.declared.Held.TheVariants.{Nothing as Absent, Part as At}
+use Rattle.tables.specs.Returned.{Held}
 use Rattle.format.proofs.Tags.{judged_refused, judged_accepted}
-use Rattle.format.specs.contracts.Verdict as verdict_type
 use Rattle.format.specs.contracts.Query as query_type
 use Rattle.names.specs.contracts.kinds.Kind as kind_type
-use Rattle.tables.specs.contracts.Held as held_type
 use Rattle.names.proofs.ContentLaws.{one_known, one_asked, map_known, map_asked, indirect_known, indirect_asked, found_ordered}
 use Rattle.names.proofs.FrameLaws.{frames_accepted, asked_lies}
 
 -- The contents at a place
-pub as_absent : (x : Held) → tag_of held_type.the_type x ≡ 0 → x ≡ Absent
-as_absent Absent h = refl
-as_absent (At d) h = absurd (omega arith)
-
 module _ {s : List ℕ} {place : Held} where
-  pub nothing_asked : {kind : AnyKind} {q : Query} → tag_of held_type.the_type place ≡ 0 → AsksAt kind q s place NoAnswer
+  pub nothing_asked : {kind : AnyKind} {q : Query} → place ≡ None → AsksAt kind q s place (Ok None)
   unfolding as_place
-  nothing_asked h = record { says = rw (as_absent place h) }
+  nothing_asked e = record { says = rw e }
 
-  module _ {part : Cursor} (e : place ≡ At part) where
+  module _ {part : Cursor} (e : place ≡ Some part) where
     pub kept_asked : SubInside s place → AsksAt kept ItsContents s place (place_at part)
     unfolding contents remaining as_place
     kept_asked i = let h : Inside s part = rw e at i in record { says = rw (e, length-slice part.at part.end s h.within) }
 
-pub place_ahead : (s : List ℕ) {place : Held} {part : Cursor} → place ≡ At part → SubInside s place → part.at ≤ part.end
+pub place_ahead : (s : List ℕ) {place : Held} {part : Cursor} → place ≡ Some part → SubInside s place → part.at ≤ part.end
 place_ahead s {part = part} e i = let h : Inside s part = rw e at i in h.ahead
 
 pub ruleset place_steps = (nothing_asked, place_ahead, kept_asked, rules)
@@ -78,9 +71,9 @@ module _ {kind_of : ℕ → AnyKind} {s : List ℕ} {c : Cursor} (a : KnownNames
     lies = finds.stands names_framed.known.value names_framed.known.judged
 
     known_stands : (place : Held) → Stands s place (lookup id names_framed.known.value) → KnownAt (kind_of id) s place
-    known_stands Absent st = record { inside = tt; known = tt }
-    known_stands (At d) st =
-        let there : asks_in (kind_of id) ItsName (sub_of s (At d)) ≡ accepted (answer id ItsName a.known.value) = ap (asks_in (kind_of id) ItsName) st.is ∙ sym (under id ItsName) ∙ told id ItsName in
+    known_stands None st = record { inside = tt; known = tt }
+    known_stands (Some d) st =
+        let there : asks_in (kind_of id) ItsName (sub_of s (Some d)) ≡ accepted (answer id ItsName a.known.value) = ap (asks_in (kind_of id) ItsName) st.is ∙ sym (under id ItsName) ∙ told id ItsName in
         record { inside = st.inside; known = mapped (answer_in ItsName) (judge (contents (kind_of id) d.at (left _ d))) there λ v e q. record { value = v; judged = e } }
 
     module _ (k : Kind) (is : kind_meant k ≡ kind_of id) where
@@ -201,23 +194,23 @@ as_kept Kept h = refl
 
 module _ {kind_of : ℕ → AnyKind} {s : List ℕ} {c : Cursor} (a : KnownNames kind_of s c) (q : Question) {x : Query} {id : ℕ} (k : Kind) (asks : x ≡ query_of q) (of : id ≡ id_of q) (is : kind_meant k ≡ kind_of id) where
   -- no such answer
-  none_said : (tag_of kind_type.the_type k ≡ tag_of query_type.the_type x → ⊥) → answered NoAnswer ≡ as_place (ask_at kind_of q c.at (left s c))
+  none_said : (tag_of kind_type.the_type k ≡ tag_of query_type.the_type x → ⊥) → answered (Ok None) ≡ as_place (ask_at kind_of q c.at (left s c))
   unfolding ask_at as_place
   none_said n =
       let other : kind_for x ≡ kind_of id → ⊥ = λ e. n (kind_number k ∙ ap number (is ∙ sym e) ∙ sym (query_number x)) in
       let nothing = silent_in (kind_of id) x (lookup id (names_framed a).known.value) other (sym (under a id x) ∙ told a id x) in
       rw (← asks, ← of, told a id x, ← nothing)
 
-  pub name_none : tag_of query_type.the_type x ≡ 0 → (k ≡ OneName → ⊥) → answered NoAnswer ≡ as_place (ask_at kind_of q c.at (left s c))
+  pub name_none : tag_of query_type.the_type x ≡ 0 → (k ≡ OneName → ⊥) → answered (Ok None) ≡ as_place (ask_at kind_of q c.at (left s c))
   name_none h n = none_said (λ e. n (as_one_name k (e ∙ h)))
 
-  pub map_none : {key : ℕ} → x ≡ NameOf key → (k ≡ NameMap → ⊥) → answered NoAnswer ≡ as_place (ask_at kind_of q c.at (left s c))
+  pub map_none : {key : ℕ} → x ≡ NameOf key → (k ≡ NameMap → ⊥) → answered (Ok None) ≡ as_place (ask_at kind_of q c.at (left s c))
   map_none q n = none_said (λ e. n (as_name_map k (e ∙ rw q)))
 
-  pub indirect_none : {key inner : ℕ} → x ≡ NameWithin key inner → (k ≡ IndirectMap → ⊥) → answered NoAnswer ≡ as_place (ask_at kind_of q c.at (left s c))
+  pub indirect_none : {key inner : ℕ} → x ≡ NameWithin key inner → (k ≡ IndirectMap → ⊥) → answered (Ok None) ≡ as_place (ask_at kind_of q c.at (left s c))
   indirect_none q n = none_said (λ e. n (as_indirect_map k (e ∙ rw q)))
 
-  pub kept_none : tag_of query_type.the_type x ≡ 3 → (k ≡ Kept → ⊥) → answered NoAnswer ≡ as_place (ask_at kind_of q c.at (left s c))
+  pub kept_none : tag_of query_type.the_type x ≡ 3 → (k ≡ Kept → ⊥) → answered (Ok None) ≡ as_place (ask_at kind_of q c.at (left s c))
   kept_none h n = none_said (λ e. n (as_kept k (e ∙ h)))
 
   -- what stands under the id
@@ -254,17 +247,17 @@ pub ruleset answering = (names_framed, name_none, map_none, indirect_none, kept_
 
 -- A payload that is not accepted, and one that is
 module _ (kind_of : ℕ → AnyKind) (s : List ℕ) (c : Cursor) (v : Verdict) (says : verdict_of v ≡ verdict (judge_names kind_of c.at (left s c))) where
-  pub question_refused : (q : Question) (r : Refusal) → tag_of verdict_type.the_type v ≡ 1 → r ≡ refusal_in v → answered (NotAnswered r) ≡ as_place (ask_at kind_of q c.at (left s c))
+  pub question_refused : (q : Question) (r : Refusal) → v ≡ Err r → answered (Err r) ≡ as_place (ask_at kind_of q c.at (left s c))
   unfolding ask_at asked as_place
-  question_refused q r h is = rw (is, judged_refused v (judge_names kind_of c.at (left s c)) says h)
+  question_refused q r e = rw (judged_refused v (judge_names kind_of c.at (left s c)) says e)
 
-  pub accepts : Inside s c → tag_of verdict_type.the_type v ≡ 0 → KnownNames kind_of s c
+  pub accepts : Inside s c → v ≡ Ok tt → KnownNames kind_of s c
   accepts i h = let (t, e) = judged_accepted v (judge_names kind_of c.at (left s c)) says h in record { inside = i; known = record { value = t; judged = e } }
 
 pub ruleset questions = (question_refused, accepts, rules)
 
 -- for callers that look for a subsection once all that was lent is accepted
-pub all_framed : (kind_of : ℕ → AnyKind) (p : List ℕ) (v : Verdict) {c : Cursor} → verdict_of v ≡ verdict (judge_names kind_of 0 p) → tag_of verdict_type.the_type v ≡ 0 → c ≡ over_all p → KnownFrames p c
+pub all_framed : (kind_of : ℕ → AnyKind) (p : List ℕ) (v : Verdict) {c : Cursor} → verdict_of v ≡ verdict (judge_names kind_of 0 p) → v ≡ Ok tt → c ≡ over_all p → KnownFrames p c
 all_framed kind_of p v {c} says h over = names_framed (accepts kind_of p c v (rw (over, left_all p) says) (over_inside over) h)
 
 -- asked of all that was lent

@@ -1,4 +1,5 @@
 -- A subsection's contents: its kind by its id, and what a search over them answers.
+use Rattle.std.specs.Prelude.{Ok, Err, Some, None}
 use Prim.Native.Nat.{ℕ, ◌≤◌, ◌<◌}
 use mathlib.Core.Bool.{Bool, true, false}
 use mathlib.Core.List.{List, [], ◌∷◌}
@@ -23,28 +24,24 @@ use Rattle.format.specs.Laws.Laxer.{Laxer, name_laxer, table_laxer, filled_laxer
 use Rattle.format.proofs.Laws.Passing.{sized_passes}
 use Rattle.format.specs.declared.Edition.{Edition}
 use Rattle.format.specs.declared.Edition.TheVariants.{First, Wider}
-use Rattle.format.specs.declared.Answer.{Answer}
-use Rattle.format.specs.declared.Answer.TheVariants.{None as NoAnswer, Refused as NotAnswered}
+use Rattle.format.specs.Returned.{Answer}
 use Rattle.format.specs.declared.Refusal.{Refusal}
 use Rattle.format.specs.declared.Reason.TheVariants.{LeftOver}
 use Rattle.reading.specs.Cursors.{Inside, left, part_of, PartReads}
 use Rattle.reading.specs.declared.Cursor.{Cursor}
 use Rattle.reading.specs.declared.again.Piece.{Piece}
-use Rattle.reading.specs.declared.PartRead.{PartRead}
-use Rattle.reading.specs.declared.PartRead.TheVariants.{Part as APart, Refused as NoPart}
+use Rattle.reading.specs.Returned.{PartRead}
 use Rattle.reading.proofs.Laws.{name_means, name_behind}
 use Rattle.reading.specs.Standing.{Stands, Known, TakesPart}
 use Rattle.reading.proofs.Standing.{Passable, stand, one_value}
 use Rattle.tables.specs.Finding.{within, HeldOrdered, answer_of, Finds}
-use Rattle.tables.specs.declared.Held.{Held}
+use Rattle.tables.specs.Returned.{Held}
 use Rattle.tables.proofs.Accepted.{table_passable}
 use Rattle.tables.proofs.FindLaws.{held_ordered_lem, held_means}
 use Rattle.tables.specs.Judging.{name_map_read, Judges}
-use Rattle.tables.specs.declared.judging.Judged.{Judged}
-use Rattle.tables.specs.declared.judging.Judged.TheVariants.{Behind, Refused}
+use Rattle.tables.specs.Returned.{Judged}
 use Rattle.names.specs.Contents.{kind_meant, map_kind, is_nested, Asks, Rules, place_at, filled_by}
 use Rattle.names.specs.Places.{KnownAt, AsksAt}
-use Rattle.tables.specs.declared.Held.TheVariants.{Part as At}
 use Rattle.names.specs.declared.kinds.Kind.{Kind}
 use Rattle.names.specs.declared.kinds.Kind.TheVariants.{OneName, NameMap, IndirectMap, Kept}
 use Rattle.format.specs.contracts.Edition as edition_type
@@ -120,7 +117,7 @@ pub ruleset kinds_in = (kind_first, kind_wider, rules)
 
 -- The end of a search, as the code makes it
 module _ {next : Cursor} (answer : Answer) where
-  pub filled_not : next.at < next.end → NotAnswered (record { reason = LeftOver; offset = record { 0 = next.at } }) ≡ filled_by next answer
+  pub filled_not : next.at < next.end → Err (record { reason = LeftOver; offset = record { 0 = next.at } }) ≡ filled_by next answer
   filled_not h = rw (lt-ltb next.at next.end h)
 
   pub filled_is : next.end ≤ next.at → answer ≡ filled_by next answer
@@ -169,23 +166,23 @@ module _ {s : List ℕ} where
   map_ruled false {part} e = record { says = e ∙ fill_judged (table name part.at (left s part)) names }
 
   module _ (nested : Bool) {part : Cursor} {x : Judged} (k : Judges (name_map_read nested) s part x) where
-    pub map_refused : {r : Refusal} → x ≡ Refused r → Rules (map_kind nested) s part (NotAnswered r)
+    pub map_refused : {r : Refusal} → x ≡ Err r → Rules (map_kind nested) s part (Err r)
     map_refused e = map_ruled nested (rw (← rw e at k.means))
 
-    pub map_filled : {next : Cursor} {y : Answer} → Inside s part → x ≡ Behind next → y ≡ filled_by next NoAnswer → Rules (map_kind nested) s part y
+    pub map_filled : {next : Cursor} {y : Answer} → Inside s part → x ≡ Ok next → y ≡ filled_by next (Ok None) → Rules (map_kind nested) s part y
     unfolding as_place
     map_filled {next} i e q =
         let far = rw e at k.same_part in
         let there : Inside s next = record { ahead = omega (arith, far.0, far.1); within = omega (arith, far.1, i.within) } in
-        map_ruled nested (rw (q, ← rw e at k.means) (ap verdict (at_the_end next none NoAnswer there refl) ∙ end_judged next.at (left s next)))
+        map_ruled nested (rw (q, ← rw e at k.means) (ap verdict (at_the_end next none (Ok None) there refl) ∙ end_judged next.at (left s next)))
 
 -- one name
 module _ {s : List ℕ} {part : Cursor} {x : PartRead} (p : PartReads name s part x) where
-  pub one_refused : {r : Refusal} → x ≡ NoPart r → Asks one_name ItsName s part (NotAnswered r)
+  pub one_refused : {r : Refusal} → x ≡ Err r → Asks one_name ItsName s part (Err r)
   unfolding contents as_place
   one_refused e = record { says = rw (← rw e at p.means) }
 
-  module _ {text next : Cursor} {told : Bool} (i : Inside s part) (e : x ≡ APart text next told) where
+  module _ {text next : Cursor} {told : Bool} (i : Inside s part) (e : x ≡ Ok (text, next, told)) where
     pub one_asks : {y : Answer} → y ≡ filled_by next (place_at text) → Asks one_name ItsName s part y
     unfolding contents
     one_asks q =
@@ -227,7 +224,7 @@ rules_map NameMap h e a = rw e at a
 rules_map IndirectMap h e a = rw e at a
 rules_map Kept h e a = absurd (⊎_elim (λ t. omega arith) (λ t. omega arith) h)
 
-pub rules_kept : {s : List ℕ} {part : Cursor} {kind : Kind} → kind ≡ Kept → Rules (kind_meant kind) s part NoAnswer
+pub rules_kept : {s : List ℕ} {part : Cursor} {kind : Kind} → kind ≡ Kept → Rules (kind_meant kind) s part (Ok None)
 unfolding contents remaining
 rules_kept e = record { says = rw e }
 
@@ -261,7 +258,7 @@ module _ {s : List ℕ} {part : Cursor} {held : Content Part} (i : Inside s part
   unfolding contents
   indirect_stands e = lax_stands (table_laxer (table_laxer name_laxer)) (table_passable (table_passable sized_passes)) names_by i e
 
-module _ {s : List ℕ} {place : Held} {part : Cursor} (at_part : place ≡ At part) where
+module _ {s : List ℕ} {place : Held} {part : Cursor} (at_part : place ≡ Some part) where
   known_inside : {kind : AnyKind} → KnownAt kind s place → Inside s part
   known_inside h = rw at_part at h.inside
 
@@ -272,11 +269,11 @@ module _ {s : List ℕ} {place : Held} {part : Cursor} (at_part : place ≡ At p
     pub one_known : Known sized s part
     one_known = let l = one_lax in record { value = l.value; next = l.next; stands = l.stands }
 
-    pub one_asked : {r : Piece} {y : Answer} → TakesPart s part r → y ≡ answer_of (At r.part) → AsksAt one_name ItsName s place y
+    pub one_asked : {r : Piece} {y : Answer} → TakesPart s part r → y ≡ answer_of (Some r.part) → AsksAt one_name ItsName s place y
     one_asked {r} w e =
         let l = one_lax in
         let same : part_of s r.part ≡ l.value = one_value w.stands l.stands in
-        record { says = rw (e, held_means s (At r.part) w.in_part, at_part, (rw at_part at h.known).judged, same, ← l.is) }
+        record { says = rw (e, held_means s (Some r.part) w.in_part, at_part, (rw at_part at h.known).judged, same, ← l.is) }
 
   module _ (h : KnownAt name_map s place) where
     map_lax : Lax (table sized) names s part (rw at_part at h.known).value

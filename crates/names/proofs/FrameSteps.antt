@@ -1,4 +1,5 @@
 -- From subsection to subsection, as the code goes.
+use Rattle.std.specs.Prelude.{Ok, Err, Some, None}
 use Prim.Native.Nat.{ℕ, suc, ◌+◌, ◌≤◌, ◌<◌}
 use mathlib.Core.Bool.{Bool}
 use mathlib.Core.List.{List, []}
@@ -7,7 +8,6 @@ use native.Mathlib.Numerals.{add-one}
 use native.Mathlib.Omega.{arith}
 use borrow.Author.Rules.{rules}
 use borrow.Author.Tests.{le-leb, lt-leb}
-use denote.Enum.Declared.{tag_of}
 use lib.ListN.{get_or}
 use lib.Seq.{slice, slice_empty, slice-cons}
 use Rattle.format.specs.Parts.{sized}
@@ -15,17 +15,14 @@ use Rattle.format.specs.declared.Refusal.{Refusal}
 use Rattle.format.specs.declared.Reason.TheVariants.{SubsectionOrder}
 use Rattle.reading.specs.Cursors.{Inside, left, PartReads}
 use Rattle.reading.specs.declared.Cursor.{Cursor}
-use Rattle.reading.specs.declared.PartRead.{PartRead}
-use Rattle.reading.specs.declared.PartRead.TheVariants.{Part as APart, Refused as NoPart}
+use Rattle.reading.specs.Returned.{PartRead}
 use Rattle.reading.proofs.Laws.{sized_means, part_behind}
 use Rattle.names.specs.Frames.{frame, FrameReads, behind_id}
-use Rattle.names.specs.declared.frames.FrameRead.{FrameRead}
-use Rattle.names.specs.declared.frames.FrameRead.TheVariants.{Frame, End, Refused}
-use Rattle.names.specs.contracts.frames.FrameRead as frame_type
+use Rattle.names.specs.Returned.{FrameRead}
 
 -- The frame: the id byte, its order, and the size
 module _ {least : ℕ} {s : List ℕ} {c : Cursor} (i : Inside s c) where
-  pub frame_end : c.end ≤ c.at → FrameReads least s c End
+  pub frame_end : c.end ≤ c.at → FrameReads least s c (Ok None)
   unfolding frame
   frame_end h =
       let q : c.end ≡ c.at = omega (arith, i.ahead) in
@@ -33,7 +30,7 @@ module _ {least : ℕ} {s : List ℕ} {c : Cursor} (i : Inside s c) where
       record { means = rw nothing; forward = tt; tells = tt }
 
   module _ {b : ℕ} (h : c.at < c.end) (w : b ≡ get_or s c.at 0) where
-    pub frame_low : b < least → FrameReads least s c (Refused (record { reason = SubsectionOrder; offset = record { 0 = c.at } }))
+    pub frame_low : b < least → FrameReads least s c (Err (record { reason = SubsectionOrder; offset = record { 0 = c.at } }))
     unfolding frame
     frame_low l = record { means = rw (slice-cons c.at c.end s 0 h i.within, ← w, lt-leb least b l); forward = tt; tells = tt }
 
@@ -41,11 +38,11 @@ module _ {least : ℕ} {s : List ℕ} {c : Cursor} (i : Inside s c) where
       sized_there : sized (suc c.at) (slice (suc c.at) c.end s) ≡ sized (c.at + 1) (left s (behind_id c))
       sized_there = rw add-one
 
-      pub frame_refused : {r : Refusal} → x ≡ NoPart r → FrameReads least s c (Refused r)
+      pub frame_refused : {r : Refusal} → x ≡ Err r → FrameReads least s c (Err r)
       unfolding frame
       frame_refused e = record { means = rw (slice-cons c.at c.end s 0 h i.within, ← w, le-leb least b l, sized_there, ← rw e at p.means); forward = tt; tells = tt }
 
-      pub frame_taken : {part next : Cursor} {told : Bool} → x ≡ APart part next told → FrameReads least s c (Frame (get_or s c.at 0) part next told)
+      pub frame_taken : {part next : Cursor} {told : Bool} → x ≡ Ok (part, next, told) → FrameReads least s c (Ok (Some ((get_or s c.at 0), part, next, told)))
       unfolding frame
       frame_taken e =
           let behind : Inside s (behind_id c) = record { ahead = omega arith; within = i.within } in
@@ -60,9 +57,3 @@ pub rest_inside : {s : List ℕ} {c : Cursor} → Inside s c → c.at < c.end �
 rest_inside i h = record { ahead = omega arith; within = i.within }
 
 pub ruleset frame_steps = (frame_end, frame_low, frame_refused, frame_taken, rest_inside, rules)
-
--- an arm that binds nothing gives the tag alone
-pub as_end : (x : FrameRead) → tag_of frame_type.the_type x ≡ 1 → x ≡ End
-as_end (Frame id part next told) h = absurd (omega arith)
-as_end End h = refl
-as_end (Refused r) h = absurd (omega arith)

@@ -1,4 +1,5 @@
 -- The loops over a payload's subsections: one judges, the other finds an id where all were accepted.
+use Rattle.std.specs.Prelude.{Option as RustOption, Ok, Err, Some, None}
 use Prim.Native.Nat.{ℕ, zero, suc, ◌+◌, ◌-◌, ◌≤◌, ◌<◌}
 use mathlib.Core.Bool.{Bool}
 use mathlib.Core.List.{List, [], ◌∷◌}
@@ -9,7 +10,6 @@ use native.Mathlib.Numerals.{add-one}
 use native.Mathlib.Omega.{arith}
 use borrow.Author.Rules.{rules}
 use borrow.Author.Tests.{eq-eqb, ne_eqb}
-use denote.Enum.Declared.{tag_of}
 use lib.Dec.{leb}
 use lib.ListN.{length, get_or}
 use lib.Seq.{length-slice, slice-cons, slice_empty}
@@ -22,12 +22,11 @@ use Rattle.format.specs.Names.{Kind, Content, contents, subsections, payload, ju
 use Rattle.format.specs.Laws.Outcomes.{not_accepted, got_value, got_next, got_rest, by_test, by_outcome, judged, accepted_is}
 use Rattle.format.proofs.Laws.Codecs.{sized_codec}
 use Rattle.format.proofs.Laws.Passing.{sized_passes}
-use Rattle.format.specs.declared.Answer.{Answer}
-use Rattle.format.specs.declared.Answer.TheVariants.{None as NoAnswer, Found as FoundAt, Refused as NotAnswered}
+use Rattle.format.proofs.Nested.{nested}
+use Rattle.format.specs.declared.Place.{Place}
+use Rattle.format.specs.Returned.{Answer}
 use Rattle.format.specs.declared.Refusal.{Refusal}
-use Rattle.format.specs.declared.Verdict.{Verdict}
-use Rattle.format.specs.declared.Verdict.TheVariants.{Accepted as IsAccepted, Refused as IsRefused}
-use Rattle.format.specs.contracts.Answer as answer_type
+use Rattle.format.specs.Returned.{Verdict}
 use Rattle.reading.proofs.Laws.{left_all, over_inside}
 use Rattle.reading.proofs.Standing.{stand}
 use Rattle.reading.specs.Cursors.{Inside, left, over_all}
@@ -35,17 +34,13 @@ use Rattle.reading.specs.declared.Cursor.{Cursor}
 use Rattle.names.specs.Contents.{Rules}
 use Rattle.names.specs.Frames.{Headed, frame, frames, judge_frames, behind_id, Forward, FrameReads, KnownFrame, FrameStands}
 use Rattle.names.specs.Places.{KnownFrames, Finds}
-use Rattle.names.specs.declared.frames.FrameRead.{FrameRead}
-use Rattle.names.specs.declared.frames.FrameRead.TheVariants.{Frame, End, Refused as NoFrame}
+use Rattle.names.specs.Returned.{FrameRead}
 use Rattle.names.specs.declared.frames.Framed.{Framed}
-use Rattle.tables.specs.declared.Held.TheVariants.{Nothing as Absent, Part as At}
-use Rattle.names.specs.contracts.frames.FrameRead as frame_type
-use Rattle.names.proofs.FrameSteps.{as_end}
 use Rattle.names.proofs.FrameLaws.{in_frames, no_frames}
 
 -- a subsection that was read
 module _ {least : ℕ} {s : List ℕ} {c : Cursor} {x : FrameRead} (p : FrameReads least s c x) where
-  module _ {id : ℕ} {part next : Cursor} {told : Bool} (e : x ≡ Frame id part next told) where
+  module _ {id : ℕ} {part next : Cursor} {told : Bool} (e : x ≡ Ok (Some (id, part, next, told))) where
     pub forward : Forward least s c id part next
     forward = rw e at p.forward
 
@@ -56,13 +51,8 @@ module _ {least : ℕ} {s : List ℕ} {c : Cursor} {x : FrameRead} (p : FrameRea
     frame_inside = forward.in_part
 
 -- where the end is kept beside the place
-pub frame_onward : {least : ℕ} {s : List ℕ} {at end : ℕ} {x : FrameRead} {id : ℕ} {part next : Cursor} {told : Bool} → FrameReads least s (record { at = at; end = end }) x → x ≡ Frame id part next told → end - next.at < end - at
+pub frame_onward : {least : ℕ} {s : List ℕ} {at end : ℕ} {x : FrameRead} {id : ℕ} {part next : Cursor} {told : Bool} → FrameReads least s (record { at = at; end = end }) x → x ≡ Ok (Some (id, part, next, told)) → end - next.at < end - at
 frame_onward p e = let f = forward p e in omega (arith, f.moves, f.same_end, f.in_rest.ahead)
-
-pub as_refused : (x : FrameRead) → tag_of frame_type.the_type x ≡ 2 → (r : Refusal) × (x ≡ NoFrame r)
-as_refused (Frame id part next told) h = absurd (omega arith)
-as_refused End h = absurd (omega arith)
-as_refused (NoFrame r) h = (r, refl)
 
 -- Judging, by verdicts alone: the subsections to come, by the frame that is next
 module _ (kind_of : ℕ → Kind) where
@@ -85,15 +75,14 @@ module _ (kind_of : ℕ → Kind) where
       (λ t. rw t))
 
 -- and whether it is passed hangs on its contents, then on those behind it
-stops : {A B : Type 0} (r : Outcome A) (x : Refusal) (o : ℕ) (bs : List ℕ) (f : A → Reader B) → verdict (answered (NotAnswered x)) ≡ verdict (judge r) → verdict_of (IsRefused x) ≡ verdict (judge (and_then (go_on r o bs) f))
+stops : {A B : Type 0} (r : Outcome A) (x : Refusal) (o : ℕ) (bs : List ℕ) (f : A → Reader B) → verdict (answered (Err x)) ≡ verdict (judge r) → verdict_of (Err x) ≡ verdict (judge (and_then (go_on r o bs) f))
 stops (got a o₁ r₁) x o bs f e = absurd (not_accepted e)
 stops (stop m at) x o bs f e = e
 
-goes_on : {A B : Type 0} (r : Outcome A) (y : Answer) (o : ℕ) (bs : List ℕ) (f : A → Reader B) (after : Outcome B) → verdict (answered y) ≡ verdict (judge r) → ((x : Refusal) → y ≡ NotAnswered x → ⊥) → ((a : A) → verdict (judge (f a o bs)) ≡ verdict (judge after)) → verdict (judge (and_then (go_on r o bs) f)) ≡ verdict (judge after)
-goes_on (got a o₁ r₁) y o bs f after e n g = g a
-goes_on (stop m at) NoAnswer o bs f after e n g = absurd (not_accepted (sym e))
-goes_on (stop m at) (FoundAt p) o bs f after e n g = absurd (not_accepted (sym e))
-goes_on (stop m at) (NotAnswered p) o bs f after e n g = absurd (n p refl)
+goes_on : {A B : Type 0} (r : Outcome A) (y : RustOption Place) (o : ℕ) (bs : List ℕ) (f : A → Reader B) (after : Outcome B) → verdict (answered (Ok y)) ≡ verdict (judge r) → ((a : A) → verdict (judge (f a o bs)) ≡ verdict (judge after)) → verdict (judge (and_then (go_on r o bs) f)) ≡ verdict (judge after)
+goes_on (got a o₁ r₁) y o bs f after e g = g a
+goes_on (stop m at) None o bs f after e g = absurd (not_accepted (sym e))
+goes_on (stop m at) (Some p) o bs f after e g = absurd (not_accepted (sym e))
 
 with_row : (id : ℕ) (c : Content Part) (r : Outcome (Table (Content Part))) → verdict (judge (and_then r (λ more. return (row id c more)))) ≡ verdict (judge r)
 with_row id c (got t o bs) = refl
@@ -115,22 +104,22 @@ module _ {kind_of : ℕ → Kind} {s : List ℕ} {c : Cursor} where
     opened : verdict (judge_names kind_of c.at (left s c)) ≡ verdict (judge (and_then (frame least next.at (left s next)) (onward kind_of (t.most - 1))))
     opened = t.same ∙ ap (λ r. verdict (judge r)) (by_frame kind_of t.most least next.at (left s next) (omega (arith, t.enough, length-slice next.at next.end s t.inside.within)))
 
-    pub turn_refused : {r : Refusal} → x ≡ NoFrame r → verdict_of (IsRefused r) ≡ verdict (judge_names kind_of c.at (left s c))
+    pub turn_refused : {r : Refusal} → x ≡ Err r → verdict_of (Err r) ≡ verdict (judge_names kind_of c.at (left s c))
     turn_refused e = sym (opened ∙ rw (← rw e at f.means))
 
-    pub turn_ends : tag_of frame_type.the_type x ≡ 1 → verdict_of IsAccepted ≡ verdict (judge_names kind_of c.at (left s c))
-    turn_ends h = sym (opened ∙ rw (← rw (as_end x h) at f.means))
+    pub turn_ends : x ≡ Ok None → verdict_of (Ok tt) ≡ verdict (judge_names kind_of c.at (left s c))
+    turn_ends e = sym (opened ∙ rw (← rw e at f.means))
 
-    module _ {id : ℕ} {part after : Cursor} {told : Bool} (e : x ≡ Frame id part after told) {kind : Kind} {y : Answer} (k : kind ≡ kind_of id) (v : Rules kind s part y) where
-      pub turn_bad : {r : Refusal} → y ≡ NotAnswered r → verdict_of (IsRefused r) ≡ verdict (judge_names kind_of c.at (left s c))
+    module _ {id : ℕ} {part after : Cursor} {told : Bool} (e : x ≡ Ok (Some (id, part, after, told))) {kind : Kind} {y : Answer} (k : kind ≡ kind_of id) (v : Rules kind s part y) where
+      pub turn_bad : {r : Refusal} → y ≡ Err r → verdict_of (Err r) ≡ verdict (judge_names kind_of c.at (left s c))
       turn_bad {r} q = stops (contents (kind_of id) part.at (left s part)) r after.at (left s after) (then kind_of (t.most - 1) id) (rw (q, k) at v.says) ∙ sym (opened ∙ rw (← rw e at f.means))
 
-  module _ {at end least : ℕ} {x : FrameRead} (t : Turn kind_of s c (record { at = at; end = end }) least) (f : FrameReads least s (record { at = at; end = end }) x) {id : ℕ} {part after : Cursor} {told : Bool} (e : x ≡ Frame id part after told) {kind : Kind} {y : Answer} (k : kind ≡ kind_of id) (v : Rules kind s part y) where
-    pub turn_next : ((r : Refusal) → y ≡ NotAnswered r → ⊥) → Turn kind_of s c (record { at = after.at; end = end }) (id + 1)
-    turn_next n =
+  module _ {at end least : ℕ} {x : FrameRead} (t : Turn kind_of s c (record { at = at; end = end }) least) (f : FrameReads least s (record { at = at; end = end }) x) {id : ℕ} {part after : Cursor} {told : Bool} (e : x ≡ Ok (Some (id, part, after, told))) {kind : Kind} {y : Answer} (k : kind ≡ kind_of id) (v : Rules kind s part y) where
+    pub turn_next : {p : RustOption Place} → y ≡ Ok p → Turn kind_of s c (record { at = after.at; end = end }) (id + 1)
+    turn_next {p} q =
         let far = forward f e in
         let to_come_lem = subsections kind_of (t.most - 1) (suc id) after.at (left s after) in
-        let on = goes_on (contents (kind_of id) part.at (left s part)) y after.at (left s after) (then kind_of (t.most - 1) id) to_come_lem (rw k at v.says) n (λ content. with_row id content to_come_lem) in
+        let on = goes_on (contents (kind_of id) part.at (left s part)) p after.at (left s after) (then kind_of (t.most - 1) id) to_come_lem (rw (q, k) at v.says) (λ content. with_row id content to_come_lem) in
         rw (← far.same_end, add-one) (record {
           most = t.most - 1;
           inside = far.in_rest;
@@ -138,7 +127,7 @@ module _ {kind_of : ℕ → Kind} {s : List ℕ} {c : Cursor} where
           same = opened t f ∙ rw (← rw e at f.means) on;
         })
 
-pub ruleset judge_turns = (turn_begins, turn_refused, turn_ends, turn_bad, turn_next, frame_inside, frame_onward, rules)
+pub ruleset judge_turns = (turn_begins, turn_refused, turn_ends, turn_bad, turn_next, frame_inside, frame_onward, nested, rules)
 
 -- all of what was lent
 pub judge_all : (kind_of : ℕ → Kind) (s : List ℕ) {c : Cursor} (v : Verdict) → c ≡ over_all s → verdict_of v ≡ verdict (judge_names kind_of c.at (left s c)) → verdict_of v ≡ verdict (judge_names kind_of 0 s)
@@ -176,7 +165,7 @@ module _ {s : List ℕ} {c : Cursor} {id : ℕ} where
       }
 
   module _ {next : Cursor} (t : Search s c next id) where
-    pub search_ends : next.end ≤ next.at → Finds s c.at (left s c) id Absent
+    pub search_ends : next.end ≤ next.at → Finds s c.at (left s c) id None
     unfolding lookup
     search_ends h =
         let q : next.end ≡ next.at = omega (arith, t.inside.ahead) in
@@ -201,7 +190,7 @@ module _ {s : List ℕ} {c : Cursor} {id : ℕ} where
           record { inside = t.inside; ahead = h; contents = record { value = _; next = _; stands = stand sized_passes i e₁ } }
 
       module _ {r : Framed} (w : FrameStands s next r) where
-        pub search_here : r.id ≡ id → Finds s c.at (left s c) id (At r.part)
+        pub search_here : r.id ≡ id → Finds s c.at (left s c) id (Some r.part)
         unfolding lookup
         search_here q =
             front λ p o₁ r₁ more e₁ e₂ is.

@@ -1,4 +1,5 @@
 -- Two results that meet one promise are equal.
+use Rattle.std.specs.Prelude.{Ok, Err, Some, None}
 use Prim.Native.Nat.{ℕ}
 use mathlib.Core.Bool.{Bool}
 use mathlib.Core.List.{List}
@@ -17,18 +18,16 @@ use Rattle.names.specs.Frames.{Headed, FrameReads, FrameStands}
 use Rattle.names.specs.Places.{sub_of, SubInside, Stands}
 use Rattle.names.specs.declared.kinds.Kind.{Kind}
 use Rattle.names.specs.declared.kinds.Kind.TheVariants.{OneName, NameMap, IndirectMap, Kept}
-use Rattle.names.specs.declared.frames.FrameRead.{FrameRead}
+use Rattle.names.specs.Returned.{FrameRead}
 use Rattle.names.specs.declared.frames.Framed.{Framed}
-use Rattle.names.specs.declared.frames.FrameRead.TheVariants.{Frame, End, Refused as NoFrame}
-use Rattle.tables.specs.declared.Held.{Held}
-use Rattle.tables.specs.declared.Held.TheVariants.{Nothing as Absent, Part as At}
+use Rattle.tables.specs.Returned.{Held}
 
 -- places inside what was lent that stand for one part are one
 same_sub : (s : List ℕ) (a b : Held) → SubInside s a → SubInside s b → sub_of s a ≡ sub_of s b → a ≡ b
-same_sub s Absent Absent i j e = refl
-same_sub s Absent (At d) i j e = absurd (not_some e)
-same_sub s (At c) Absent i j e = absurd (not_some (sym e))
-same_sub s (At c) (At d) i j e = ap At (same_part c d i j (some_is e))
+same_sub s None None i j e = refl
+same_sub s None (Some d) i j e = absurd (not_some e)
+same_sub s (Some c) None i j e = absurd (not_some (sym e))
+same_sub s (Some c) (Some d) i j e = ap Some (same_part c d i j (some_is e))
 
 pub stands_same : {s : List ℕ} {found : Option Part} (a b : Held) → Stands s a found → Stands s b found → a ≡ b
 stands_same {s} a b i j = same_sub s a b i.inside j.inside (i.is ∙ sym j.is)
@@ -57,22 +56,22 @@ pub kind_same : (a b : Kind) → kind_meant a ≡ kind_meant b → a ≡ b
 kind_same a b e = sym (kind_is a) ∙ ap kind_of e ∙ kind_is b
 
 -- a subsection
-same_frame : {least : ℕ} {s : List ℕ} {c : Cursor} {id k : ℕ} {part next part' next' : Cursor} {told told' : Bool} → FrameReads least s c (Frame id part next told) → FrameReads least s c (Frame k part' next' told') → Frame id part next told ≡ Frame k part' next' told'
+same_frame : {least : ℕ} {s : List ℕ} {c : Cursor} {id k : ℕ} {part next part' next' : Cursor} {told told' : Bool} → FrameReads least s c (Ok (Some (id, part, next, told))) → FrameReads least s c (Ok (Some (k, part', next', told'))) → ◌≡◌ {A = FrameRead} (Ok (Some (id, part, next, told))) (Ok (Some (k, part', next', told')))
 same_frame {part = part} {next = next} {part' = part'} {next' = next'} {told = told} {told' = told'} p q =
     let one = p.means ∙ sym q.means in
     let headed = some_is (got_value one) in
     let parts = same_part part part' p.forward.in_part q.forward.in_part (ap (λ (h : Headed). h.value) headed) in
     let behind = same_cursor next next' (got_next one) (p.forward.same_end ∙ sym q.forward.same_end) in
     let tells : told ≡ told' = p.tells ∙ rw (parts, behind) (sym q.tells) in
-    λ i. Frame (headed i).id (parts i) (behind i) (tells i)
+    λ i. Ok (Some ((headed i).id, (parts i), (behind i), (tells i)))
 
 pub frame_same : {least : ℕ} {s : List ℕ} {c : Cursor} (a b : FrameRead) → FrameReads least s c a → FrameReads least s c b → a ≡ b
-frame_same (Frame id part next t) (Frame k part' next' t') p q = same_frame p q
-frame_same (Frame id part next t) End p q = absurd (not_some (sym (got_value (p.means ∙ sym q.means))))
-frame_same (Frame id part next t) (NoFrame r) p q = absurd (not_got (sym (p.means ∙ sym q.means)))
-frame_same End (Frame k part' next' t) p q = absurd (not_some (got_value (p.means ∙ sym q.means)))
-frame_same End End p q = refl
-frame_same End (NoFrame r) p q = absurd (not_got (sym (p.means ∙ sym q.means)))
-frame_same (NoFrame r) (Frame k part next t) p q = absurd (not_got (p.means ∙ sym q.means))
-frame_same (NoFrame r) End p q = absurd (not_got (p.means ∙ sym q.means))
-frame_same (NoFrame r) (NoFrame t) p q = ap NoFrame (same_stop (p.means ∙ sym q.means))
+frame_same (Ok (Some (id, part, next, t))) (Ok (Some (k, part', next', t'))) p q = same_frame p q
+frame_same (Ok (Some (id, part, next, t))) (Ok None) p q = absurd (not_some (sym (got_value (p.means ∙ sym q.means))))
+frame_same (Ok (Some (id, part, next, t))) (Err r) p q = absurd (not_got (sym (p.means ∙ sym q.means)))
+frame_same (Ok None) (Ok (Some (k, part', next', t))) p q = absurd (not_some (got_value (p.means ∙ sym q.means)))
+frame_same (Ok None) (Ok None) p q = refl
+frame_same (Ok None) (Err r) p q = absurd (not_got (sym (p.means ∙ sym q.means)))
+frame_same (Err r) (Ok (Some (k, part, next, t))) p q = absurd (not_got (p.means ∙ sym q.means))
+frame_same (Err r) (Ok None) p q = absurd (not_got (p.means ∙ sym q.means))
+frame_same (Err r) (Err t) p q = ap Err (same_stop (p.means ∙ sym q.means))

@@ -11,7 +11,7 @@ use Rattle.format.specs.Questions.{id_of, query_of, ask_at, ask, as_place, as_by
 use Rattle.format.specs.declared.Question.{Question}
 use Rattle.format.proofs.Laws.Places.{PartIn, lies_all}
 use Rattle.format.proofs.Laws.Found.{name_lies}
-use Rattle.format.specs.declared.Answer.{Answer}
+use Rattle.format.specs.Returned.{Answer}
 use Rattle.reading.specs.Taken.{Takes}
 use Rattle.reading.proofs.TakenLaws.{answer_bytes, answer_start}
 

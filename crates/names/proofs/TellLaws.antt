@@ -1,4 +1,5 @@
 -- Telling whether a payload is canonical: contents by their kind, and the loop over subsections.
+use Rattle.std.specs.Prelude.{Ok, Some, None, Err}
 use Prim.Native.Nat.{ℕ, suc, ◌+◌, ◌-◌, ◌≤◌, ◌<◌}
 use mathlib.Core.Bool.{Bool, true, false}
 use mathlib.Core.List.{List, [], ◌∷◌}
@@ -8,7 +9,6 @@ use native.Mathlib.Numerals.{add-one}
 use native.Mathlib.Omega.{arith}
 use borrow.Author.Rules.{rules}
 use borrow.Author.Tests.{leb-true, leb-false}
-use denote.Enum.Declared.{tag_of}
 use lib.Dec.{leb}
 use lib.ListN.{length}
 use lib.Seq.{slice-cons, length-slice}
@@ -22,40 +22,36 @@ use Rattle.format.specs.Forms.{Told, behind, no, told, is_yes, part_form, table_
 use Rattle.format.specs.Telling.{as_few, names_are_canonical}
 use Rattle.format.specs.Laws.Outcomes.{not_got, got_value, got_next, got_rest, by_test, by_outcome, false_true, in_turn, passed}
 use Rattle.format.specs.Laws.Options.{not_some, some_is}
+use Rattle.format.proofs.Nested.{nested}
+use Rattle.format.specs.declared.Refusal.{Refusal}
 use Rattle.format.proofs.Laws.Telling.{in_told}
 use Rattle.format.proofs.Laws.TellingNames.{one_name_told, map_told, indirect_told, kept_told, contents_end, payload_told_end, payload_told_low, payload_told_none, payload_told_padded, payload_told_no, payload_told_on, payload_told}
 use Rattle.reading.specs.Cursors.{Inside, over_all, left, part_of, PartReads}
 use Rattle.reading.specs.declared.Cursor.{Cursor}
-use Rattle.reading.specs.declared.PartRead.{PartRead}
-use Rattle.reading.specs.declared.PartRead.TheVariants.{Part as APart}
-use Rattle.reading.specs.contracts.PartRead as part_type
+use Rattle.reading.specs.Returned.{PartRead}
 use Rattle.reading.proofs.Laws.{over_inside, left_all}
 use Rattle.tables.specs.Telling.{is_filled, Tells}
 use Rattle.tables.specs.declared.Item.TheVariants.{Name}
-use Rattle.tables.specs.declared.telling.Tidy.{Tidy}
-use Rattle.tables.specs.declared.telling.Tidy.TheVariants.{Behind, Not}
-use Rattle.tables.proofs.TidySteps.{no_part, part_refused, part_padded, part_tidy, at_end}
+use Rattle.tables.specs.Returned.{Tidy}
+use Rattle.tables.proofs.TidySteps.{part_refused, part_padded, part_tidy, at_end}
 use Rattle.names.specs.Contents.{kind_meant}
 use Rattle.names.specs.Frames.{Headed, frame, FrameReads, behind_id}
 use Rattle.names.specs.Telling.{TellsContent}
-use Rattle.names.specs.declared.frames.FrameRead.{FrameRead}
-use Rattle.names.specs.declared.frames.FrameRead.TheVariants.{Frame}
+use Rattle.names.specs.Returned.{FrameRead}
 use Rattle.names.specs.declared.kinds.Kind.{Kind}
 use Rattle.names.specs.declared.kinds.Kind.TheVariants.{OneName, NameMap, IndirectMap, Kept}
-use Rattle.names.specs.contracts.frames.FrameRead as frame_type
-use Rattle.names.proofs.FrameSteps.{as_end}
-use Rattle.names.proofs.JudgeLaws.{as_refused, forward, frame_inside, frame_shorter}
+use Rattle.names.proofs.JudgeLaws.{forward, frame_inside, frame_shorter}
 
 -- One name
 module _ {s : List ℕ} {c : Cursor} {x : PartRead} (n : PartReads name s c x) where
-  pub name_refused : tag_of part_type.the_type x ≡ 1 → Tells name part_form s c Not
-  name_refused h = let (r, e) = no_part x h in part_refused Name (rw e at n)
+  pub name_refused : {r : Refusal} → x ≡ Err r → Tells name part_form s c None
+  name_refused e = part_refused Name (rw e at n)
 
-  module _ {part next : Cursor} {t : Bool} (e : x ≡ APart part next t) where
-    pub name_padded : t ≡ false → Tells name part_form s c Not
+  module _ {part next : Cursor} {t : Bool} (e : x ≡ Ok (part, next, t)) where
+    pub name_padded : t ≡ false → Tells name part_form s c None
     name_padded f = part_padded Name (rw e at n) f
 
-    pub name_tidy : Inside s c → t ≡ true → Tells name part_form s c (Behind next)
+    pub name_tidy : Inside s c → t ≡ true → Tells name part_form s c (Some next)
     name_tidy i f = part_tidy Name i (rw e at n) f
 
 pub ruleset name_steps = (name_refused, name_padded, name_tidy, rules)
@@ -144,18 +140,17 @@ module _ {kind_of : ℕ → AnyKind} {s : List ℕ} where
         let one : t.most ≡ suc (t.most - 1) = omega (arith, t.enough, length-slice next.at next.end s t.inside.within) in
         t.same ∙ ap (λ m. is_yes (told payload_form (left s next) (subsections kind_of m least next.at (left s next)))) one
 
-    pub tell_ends : tag_of frame_type.the_type x ≡ 1 → true ≡ names_are_canonical kind_of s
+    pub tell_ends : x ≡ Ok None → true ≡ names_are_canonical kind_of s
     tell_ends h =
-        let nothing = at_the_end least next.at (left s next) (rw (as_end x h) at f.means) in
+        let nothing = at_the_end least next.at (left s next) (rw h at f.means) in
         sym (t.same ∙ rw nothing (ap is_yes (payload_told_end kind_of t.most least next.at)))
 
-    pub tell_refused : tag_of frame_type.the_type x ≡ 2 → false ≡ names_are_canonical kind_of s
-    tell_refused h =
-        let (r, e) = as_refused x h in
+    pub tell_refused : {r : Refusal} → x ≡ Err r → false ≡ names_are_canonical kind_of s
+    tell_refused e =
         let halted = sym (rw e at f.means) in
         sym (opened (stops_inside least next.at (left s next) halted) ∙ ap is_yes (stops kind_of (t.most - 1) least next.at (left s next) halted))
 
-    module _ {id : ℕ} {part after : Cursor} {short : Bool} (e : x ≡ Frame id part after short) where
+    module _ {id : ℕ} {part after : Cursor} {short : Bool} (e : x ≡ Ok (Some (id, part, after, short))) where
       -- what the frame says of the subsection's bytes
       head {ℓ} : {C : Type ℓ} → ((bs : List ℕ) → left s next ≡ id ∷ bs → least ≤ id → sized (suc next.at) bs ≡ got (part_of s part) after.at (left s after) → short ≡ as_few (write_part (left s part)) (left s after) bs → C) → C
       head k =
@@ -193,4 +188,4 @@ module _ {kind_of : ℕ → AnyKind} {s : List ℕ} where
               same = opened (rw first (omega arith)) ∙ rw (first, add-one) (ap is_yes (payload_told_on kind_of (t.most - 1) least next.at id bs e₁ (sym tells ∙ g) above yes));
             }
 
-pub ruleset tell_turns = (tell_begins, tell_ends, tell_refused, tell_padded, tell_not, tell_next, frame_inside, frame_shorter, over_inside, rules)
+pub ruleset tell_turns = (tell_begins, tell_ends, tell_refused, tell_padded, tell_not, tell_next, frame_inside, frame_shorter, over_inside, nested, rules)

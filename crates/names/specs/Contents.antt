@@ -1,13 +1,12 @@
 -- What a subsection's contents answer once they are judged. Assumes nothing.
-use Rattle.std.specs.Prelude.{ℕ, ◌-◌, Bool, true, false, cond, List, ◌≡◌, ltb}
+use Rattle.std.specs.Prelude.{ℕ, ◌-◌, Bool, true, false, cond, List, ◌≡◌, ltb, Ok, Err, Some}
 use Rattle.std.proofs.Math.Option.{Option, none, some}
 use Rattle.format.specs.Reading.{Judged, accepted, judge, map_judged, verdict}
 use Rattle.format.specs.Parts.{Part}
 use Rattle.format.specs.Names.{Kind as AnyKind, one_name, name_map, indirect_map, kept, contents}
 use Rattle.format.specs.Questions.{answer_in, answered, as_place}
 use Rattle.format.specs.declared.Query.{Query}
-use Rattle.format.specs.declared.Answer.{Answer}
-use Rattle.format.specs.declared.Answer.TheVariants.{Found as FoundAt, Refused as NotAnswered}
+use Rattle.format.specs.Returned.{Answer}
 use Rattle.format.specs.declared.Reason.TheVariants.{LeftOver}
 use Rattle.reading.specs.Cursors.{left, part_of}
 use Rattle.reading.specs.declared.Cursor.{Cursor}
@@ -49,7 +48,7 @@ pub record Rules (kind : AnyKind) (s : List ℕ) (part : Cursor) (r : Answer) : 
 
 -- The answer where nothing may be left over; refusal 10 gives the first byte that is
 abbrev pub place_at : Cursor → Answer
-place_at part = FoundAt (record { offset = record { 0 = part.at }; length = part.end - part.at })
+place_at part = Ok (Some (record { offset = record { 0 = part.at }; length = part.end - part.at }))
 
 abbrev pub filled_by : Cursor → Answer → Answer
-filled_by next answer = cond (ltb next.at next.end) (NotAnswered (record { reason = LeftOver; offset = record { 0 = next.at } })) answer
+filled_by next answer = cond (ltb next.at next.end) (Err (record { reason = LeftOver; offset = record { 0 = next.at } })) answer

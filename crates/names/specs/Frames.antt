@@ -1,5 +1,5 @@
 -- Where the subsections' contents lie, whatever they hold. Assumes nothing.
-use Rattle.std.specs.Prelude.{ℕ, zero, suc, ◌≤◌, ◌<◌, ◌+◌, List, [], ◌∷◌, ◌≡◌, leb, length, get_or}
+use Rattle.std.specs.Prelude.{ℕ, zero, suc, ◌≤◌, ◌<◌, ◌+◌, List, [], ◌∷◌, ◌≡◌, leb, length, get_or, Ok, Err, Some, None}
 use Rattle.std.proofs.Math.Option.{Option, none, some}
 use Rattle.format.specs.Reading.{Outcome, got, Reader, and_then, ◌>>=◌, ◌>>◌, return, checked, Judged, accepted, judge, map_judged}
 use Rattle.format.specs.Parts.{Part, sized}
@@ -11,9 +11,8 @@ use Rattle.format.specs.Telling.{as_few}
 use Rattle.reading.specs.Cursors.{Inside, left, part_of, refusal_of}
 use Rattle.reading.specs.Standing.{Known, TakesPart}
 use Rattle.reading.specs.declared.Cursor.{Cursor}
-use Rattle.names.specs.declared.frames.FrameRead.{FrameRead}
+use Rattle.names.specs.Returned.{FrameRead}
 use Rattle.names.specs.declared.frames.Framed.{Framed}
-use Rattle.names.specs.declared.frames.FrameRead.TheVariants.{Frame, End, Refused}
 
 -- an id, and the contents under it
 pub record Headed : Type 0 where
@@ -48,9 +47,9 @@ read_under kind (some p) = map_judged some (judge (contents kind p.at p.bytes))
 
 -- What reading one finds
 abbrev pub frame_outcome : List ℕ → Cursor → FrameRead → Outcome (Option Headed)
-frame_outcome s c (Frame id part next shortest) = got (some (record { id = id; value = part_of s part })) next.at (left s next)
-frame_outcome s c End = got none c.at []
-frame_outcome s c (Refused r) = refusal_of r
+frame_outcome s c (Ok (Some (id, part, next, shortest))) = got (some (record { id = id; value = part_of s part })) next.at (left s next)
+frame_outcome s c (Ok None) = got none c.at []
+frame_outcome s c (Err r) = refusal_of r
 
 -- it lies inside, and the reading goes on behind it
 pub record Forward (least : ℕ) (s : List ℕ) (c : Cursor) (id : ℕ) (part next : Cursor) : Type 0 where
@@ -62,9 +61,9 @@ pub record Forward (least : ℕ) (s : List ℕ) (c : Cursor) (id : ℕ) (part ne
   pub same_end : next.end ≡ c.end
 
 abbrev pub FrameForward : ℕ → List ℕ → Cursor → FrameRead → Type 0
-FrameForward least s c (Frame id part next shortest) = Forward least s c id part next
-FrameForward least s c End = Unit {0}
-FrameForward least s c (Refused r) = Unit {0}
+FrameForward least s c (Ok (Some (id, part, next, shortest))) = Forward least s c id part next
+FrameForward least s c (Ok None) = Unit {0}
+FrameForward least s c (Err r) = Unit {0}
 
 -- the cursor behind an id byte
 abbrev pub behind_id : Cursor → Cursor
@@ -72,9 +71,9 @@ behind_id c = record { at = c.at + 1; end = c.end }
 
 -- K10: handed on from its size's number
 abbrev pub FrameTold : List ℕ → Cursor → FrameRead → Type 0
-FrameTold s c (Frame id part next told) = told ≡ as_few (write_part (left s part)) (left s next) (left s (behind_id c))
-FrameTold s c End = Unit {0}
-FrameTold s c (Refused r) = Unit {0}
+FrameTold s c (Ok (Some (id, part, next, told))) = told ≡ as_few (write_part (left s part)) (left s next) (left s (behind_id c))
+FrameTold s c (Ok None) = Unit {0}
+FrameTold s c (Err r) = Unit {0}
 
 pub record FrameReads (least : ℕ) (s : List ℕ) (c : Cursor) (r : FrameRead) : Type 0 where
   pub means : frame_outcome s c r ≡ frame least c.at (left s c)

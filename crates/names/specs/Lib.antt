@@ -1,3 +1,4 @@
+pub mod Returned
 pub mod Frames
 pub mod Contents
 pub mod Places

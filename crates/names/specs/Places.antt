@@ -1,5 +1,5 @@
 -- Where a subsection of an accepted payload lies, and what its contents answer. Assumes nothing.
-use Rattle.std.specs.Prelude.{ℕ, List, ◌≡◌}
+use Rattle.std.specs.Prelude.{ℕ, List, ◌≡◌, Some, None}
 use Rattle.std.proofs.Math.Option.{Option, none, some}
 use Rattle.format.specs.Reading.{accepted, judge, Accepted as AcceptedBy}
 use Rattle.format.specs.Parts.{Part}
@@ -7,22 +7,21 @@ use Rattle.format.specs.Tables.{Table, lookup}
 use Rattle.format.specs.Names.{Kind, contents, judge_names}
 use Rattle.format.specs.Questions.{answered, as_place}
 use Rattle.format.specs.declared.Query.{Query}
-use Rattle.format.specs.declared.Answer.{Answer}
+use Rattle.format.specs.Returned.{Answer}
 use Rattle.reading.specs.Cursors.{Inside, left, part_of}
 use Rattle.reading.specs.declared.Cursor.{Cursor}
 use Rattle.names.specs.Contents.{asks_in}
 use Rattle.names.specs.Frames.{judge_frames}
-use Rattle.tables.specs.declared.Held.{Held}
-use Rattle.tables.specs.declared.Held.TheVariants.{Nothing as Absent, Part as At}
+use Rattle.tables.specs.Returned.{Held}
 
 -- the part that a place stands for
 abbrev pub sub_of : List ℕ → Held → Option Part
-sub_of s Absent = none
-sub_of s (At d) = some (part_of s d)
+sub_of s None = none
+sub_of s (Some d) = some (part_of s d)
 
 abbrev pub SubInside : List ℕ → Held → Type 0
-SubInside s Absent = Unit {0}
-SubInside s (At d) = Inside s d
+SubInside s None = Unit {0}
+SubInside s (Some d) = Inside s d
 
 pub record Stands (s : List ℕ) (sub : Held) (found : Option Part) : Type 0 where
   pub is : sub_of s sub ≡ found
@@ -43,8 +42,8 @@ pub record Finds (s : List ℕ) (at : ℕ) (bs : List ℕ) (id : ℕ) (r : Held)
 
 -- the contents at a place were accepted
 abbrev pub SubKnown : Kind → List ℕ → Held → Type 0
-SubKnown kind s Absent = Unit {0}
-SubKnown kind s (At d) = AcceptedBy (λ bs. judge (contents kind d.at bs)) (left s d)
+SubKnown kind s None = Unit {0}
+SubKnown kind s (Some d) = AcceptedBy (λ bs. judge (contents kind d.at bs)) (left s d)
 
 pub record KnownAt (kind : Kind) (s : List ℕ) (place : Held) : Type 0 where
   pub inside : SubInside s place

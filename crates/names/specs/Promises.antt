@@ -10,17 +10,17 @@ use Rattle.format.specs.Verdicts.{verdict_of}
 use Rattle.format.specs.declared.Edition.{Edition}
 use Rattle.format.specs.declared.Question.{Question}
 use Rattle.format.specs.declared.Query.TheVariants.{ItsName, ItsContents, NameOf, NameWithin}
-use Rattle.format.specs.declared.Answer.{Answer}
-use Rattle.format.specs.declared.Verdict.{Verdict}
+use Rattle.format.specs.Returned.{Answer}
+use Rattle.format.specs.Returned.{Verdict}
 use Rattle.names.specs.Contents.{kind_meant, Asks, Rules}
 use Rattle.names.specs.Frames.{FrameReads, FrameStands}
 use Rattle.names.specs.Places.{AsksAt, Finds}
-use Rattle.names.specs.declared.frames.FrameRead.{FrameRead}
+use Rattle.names.specs.Returned.{FrameRead}
 use Rattle.names.specs.declared.frames.Framed.{Framed}
 use Rattle.names.specs.declared.kinds.Kind.{Kind}
 use Rattle.tables.specs.Telling.{Tells}
-use Rattle.tables.specs.declared.Held.{Held}
-use Rattle.tables.specs.declared.telling.Tidy.{Tidy}
+use Rattle.tables.specs.Returned.{Held}
+use Rattle.tables.specs.Returned.{Tidy}
 use Rattle.reading.specs.Cursors.{left}
 use Rattle.reading.specs.declared.Cursor.{Cursor}
 

@@ -14,11 +14,11 @@ pub fn the_name(s: &[u8], place: Held) -> Answer
     ensures { NamesTheName s.now place result }
 {
     match place {
-        Held::Nothing => Answer::None,
-        Held::Part(part) => {
+        None => Ok(None),
+        Some(part) => {
             let name = part_here(part, s);
             let text = name.part;
-            answer_of(Held::Part(text))
+            answer_of(Some(text))
         }
     }
 }
@@ -29,8 +29,8 @@ pub fn named(s: &[u8], place: Held, key: u32) -> Answer
     ensures { NamesNamed s.now place key result }
 {
     match place {
-        Held::Nothing => Answer::None,
-        Held::Part(part) => answer_of(find_row(part, s, key)),
+        None => Ok(None),
+        Some(part) => answer_of(find_row(part, s, key)),
     }
 }
 
@@ -40,8 +40,8 @@ pub fn named_within(s: &[u8], place: Held, key: u32, inner: u32) -> Answer
     ensures { NamesNamedWithin s.now place key inner result }
 {
     match place {
-        Held::Nothing => Answer::None,
-        Held::Part(part) => answer_of(find_group(part, s, key, inner)),
+        None => Ok(None),
+        Some(part) => answer_of(find_group(part, s, key, inner)),
     }
 }
 
@@ -51,13 +51,13 @@ pub fn all_kept(s: &[u8], place: Held) -> Answer
     ensures { NamesAllKept s.now place result }
 {
     match place {
-        Held::Nothing => Answer::None,
-        Held::Part(part) => {
+        None => Ok(None),
+        Some(part) => {
             let at = part.at;
-            Answer::Found(Place {
+            Ok(Some(Place {
                 offset: Offset(at),
                 length: part.end - at,
-            })
+            }))
         }
     }
 }

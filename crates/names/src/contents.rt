@@ -6,8 +6,8 @@ ghost use Rattle.names.specs.Promises.{NamesOneName, NamesContent};
 
 use crate::kinds::Kind;
 use format::{Answer, Offset, Place, Reason, Refusal};
-use reading::{Cursor, PartRead};
-use tables::judging::{Judged, name_map};
+use reading::Cursor;
+use tables::judging::name_map;
 
 // The answer, where nothing is left over.
 fn filled(next: Cursor, answer: Answer) -> Answer
@@ -15,7 +15,7 @@ fn filled(next: Cursor, answer: Answer) -> Answer
 {
     let at = next.at;
     if at < next.end {
-        return Answer::Refused(Refusal {
+        return Err(Refusal {
             reason: Reason::LeftOver,
             offset: Offset(at),
         });
@@ -28,18 +28,14 @@ pub fn one_name(s: &[u8], part: Cursor) -> Answer
     requires { Inside s.now part }
     ensures { NamesOneName s.now part result }
 {
-    match part.name(s) {
-        PartRead::Refused(r) => Answer::Refused(r),
-        PartRead::Part(name, next, _) => {
-            let at = name.at;
-            let length = name.end - at;
-            let place = Place {
-                offset: Offset(at),
-                length,
-            };
-            filled(next, Answer::Found(place))
-        }
-    }
+    let (name, next, _) = part.name(s)?;
+    let at = name.at;
+    let length = name.end - at;
+    let place = Place {
+        offset: Offset(at),
+        length,
+    };
+    filled(next, Ok(Some(place)))
 }
 
 // A name map, or an indirect one, which is nested.
@@ -47,10 +43,8 @@ fn map(s: &[u8], part: Cursor, nested: bool) -> Answer
     requires { Inside s.now part }
     ensures { Rules (map_kind nested) s.now part result }
 {
-    match name_map(part, s, nested) {
-        Judged::Refused(r) => Answer::Refused(r),
-        Judged::Behind(next) => filled(next, Answer::None),
-    }
+    let next = name_map(part, s, nested)?;
+    filled(next, Ok(None))
 }
 
 fn is_nested(kind: Kind) -> bool
@@ -69,7 +63,7 @@ pub fn content(s: &[u8], part: Cursor, kind: Kind) -> Answer
 {
     match kind {
         Kind::OneName => one_name(s, part),
-        Kind::Kept => Answer::None,
+        Kind::Kept => Ok(None),
         // one call for both kinds of maps: two would not be inlined
         _ => map(s, part, is_nested(kind)),
     }

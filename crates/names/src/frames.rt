@@ -5,16 +5,11 @@ ghost use Rattle.names.specs.Promises.{NamesFrame, NamesFrameHere};
 
 use format::{Offset, Reason, Refusal};
 use reading::again::part_here;
-use reading::{Cursor, PartRead, wide};
+use reading::{Cursor, wide};
 
 // What reading a subsection finds: its id, where its contents lie, the cursor behind it, and whether its size took its
 // fewest bytes.
-#[derive(Clone, Copy)]
-pub enum FrameRead {
-    Frame(u8, Cursor, Cursor, bool),
-    End,
-    Refused(Refusal),
-}
+pub type FrameRead = Result<Option<(u8, Cursor, Cursor, bool)>, Refusal>;
 
 // The subsection that begins here, its id at least `least`. Its contents are not looked into.
 pub fn frame(s: &[u8], c: Cursor, least: u32) -> FrameRead
@@ -24,20 +19,18 @@ pub fn frame(s: &[u8], c: Cursor, least: u32) -> FrameRead
     let at = c.at;
     let end = c.end;
     if end <= at {
-        return FrameRead::End;
+        return Ok(None);
     }
     let id = s[at];
     if wide(id) < least {
-        return FrameRead::Refused(Refusal {
+        return Err(Refusal {
             reason: Reason::SubsectionOrder,
             offset: Offset(at),
         });
     }
     let rest = Cursor { at: at + 1, end };
-    match rest.sized(s) {
-        PartRead::Refused(r) => FrameRead::Refused(r),
-        PartRead::Part(part, next, shortest) => FrameRead::Frame(id, part, next, shortest),
-    }
+    let (part, next, shortest) = rest.sized(s)?;
+    Ok(Some((id, part, next, shortest)))
 }
 
 // A subsection of an accepted payload: its id, where its contents lie, and the cursor behind it.

@@ -25,9 +25,9 @@ pub fn find(s: &[u8], c: Cursor, id: u8) -> Held
         let here = frame_here(s, next);
         if here.id == id {
             let part = here.part;
-            return Held::Part(part);
+            return Some(part);
         }
         next = here.next;
     }
-    Held::Nothing
+    None
 }

@@ -12,10 +12,10 @@ ghost use Rattle.names.specs.Promises.{NamesAsk, NamesAskBytes};
 
 use crate::asking::{all_kept, named, named_within, the_name};
 use crate::contents::content;
-use crate::frames::{FrameRead, frame};
+use crate::frames::frame;
 use crate::judging::find;
 use crate::kinds::{Kind, kind_of};
-use format::{Answer, Edition, Query, Question, Verdict, refusal_of};
+use format::{Answer, Edition, Query, Question, Verdict};
 use reading::Cursor;
 use reading::taking::taken;
 
@@ -36,27 +36,12 @@ fn judge_in(s: &[u8], c: Cursor, edition: Edition) -> Verdict
     let end = c.end;
     let mut at = c.at;
     let mut least: u32 = 0;
-    loop {
-        match frame(s, Cursor { at, end }, least) {
-            FrameRead::Refused(r) => {
-                return Verdict::Refused(r);
-            }
-            FrameRead::End => {
-                return Verdict::Accepted;
-            }
-            FrameRead::Frame(id, part, after, _) => {
-                match content(s, part, kind_of(edition, id)) {
-                    Answer::Refused(r) => {
-                        return Verdict::Refused(r);
-                    }
-                    _ => {
-                        at = after.at;
-                        least = (id as u32) + 1;
-                    }
-                }
-            }
-        }
+    while let Some((id, part, after, _)) = frame(s, Cursor { at, end }, least)? {
+        content(s, part, kind_of(edition, id))?;
+        at = after.at;
+        least = (id as u32) + 1;
     }
+    Ok(())
 }
 
 // What an accepted payload answers: the subsection with the question's id, if its kind has such an answer.
@@ -68,19 +53,19 @@ fn answer(s: &[u8], c: Cursor, edition: Edition, q: Question) -> Answer
     match q.query() {
         Query::ItsName => match kind_of(edition, id) {
             Kind::OneName => the_name(s, find(s, c, id)),
-            _ => Answer::None,
+            _ => Ok(None),
         },
         Query::NameOf(k) => match kind_of(edition, id) {
             Kind::NameMap => named(s, find(s, c, id), k),
-            _ => Answer::None,
+            _ => Ok(None),
         },
         Query::NameWithin(k, j) => match kind_of(edition, id) {
             Kind::IndirectMap => named_within(s, find(s, c, id), k, j),
-            _ => Answer::None,
+            _ => Ok(None),
         },
         Query::ItsContents => match kind_of(edition, id) {
             Kind::Kept => all_kept(s, find(s, c, id)),
-            _ => Answer::None,
+            _ => Ok(None),
         },
     }
 }
@@ -90,10 +75,7 @@ pub fn ask(p: &[u8], edition: Edition, q: Question) -> Answer
     ensures { NamesAsk p.now edition q result }
 {
     let all = Cursor::over(p);
-    let verdict = judge_in(p, all, edition);
-    let Verdict::Accepted = verdict else {
-        return Answer::Refused(refusal_of(verdict));
-    };
+    judge_in(p, all, edition)?;
     answer(p, all, edition, q)
 }
 

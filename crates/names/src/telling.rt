@@ -4,10 +4,10 @@ ghost use Rattle.names.specs.Contents.{kind_meant};
 ghost use Rattle.names.specs.Telling.{TellsContent};
 ghost use Rattle.names.specs.Promises.{NamesIsCanonical, NamesTidyName};
 
-use crate::frames::{FrameRead, frame};
+use crate::frames::frame;
 use crate::kinds::{Kind, kind_of};
 use format::Edition;
-use reading::{Cursor, PartRead};
+use reading::Cursor;
 use tables::Item;
 use tables::telling::{Tidy, is_filled, tidy_table, tidy_tables};
 
@@ -16,15 +16,13 @@ pub fn tidy_name(s: &[u8], part: Cursor) -> Tidy
     requires { Inside s.now part }
     ensures { NamesTidyName s.now part result }
 {
-    match part.name(s) {
-        PartRead::Refused(_) => Tidy::Not,
-        PartRead::Part(_, next, shortest) => {
-            if shortest {
-                return Tidy::Behind(next);
-            }
-            Tidy::Not
-        }
+    let Ok((_, next, shortest)) = part.name(s) else {
+        return None;
+    };
+    if shortest {
+        return Some(next);
     }
+    None
 }
 
 // Contents of a kind. Kept contents stay as they are.
@@ -47,25 +45,19 @@ pub fn is_canonical(p: &[u8]) -> bool
     let mut next = Cursor::over(p);
     let mut least: u32 = 0;
     loop {
-        match frame(p, next, least) {
-            FrameRead::Refused(_) => {
-                return false;
-            }
-            FrameRead::End => {
-                return true;
-            }
-            FrameRead::Frame(id, part, after, shortest) => {
-                if shortest {
-                    if is_tidy(p, part, kind_of(Edition::First, id)) {
-                        next = after;
-                        least = (id as u32) + 1;
-                    } else {
-                        return false;
-                    }
-                } else {
-                    return false;
-                }
-            }
+        let Ok(read) = frame(p, next, least) else {
+            return false;
+        };
+        let Some((id, part, after, shortest)) = read else {
+            return true;
+        };
+        if !shortest {
+            return false;
         }
+        if !is_tidy(p, part, kind_of(Edition::First, id)) {
+            return false;
+        }
+        next = after;
+        least = (id as u32) + 1;
     }
 }

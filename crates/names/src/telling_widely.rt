@@ -4,7 +4,7 @@ ghost use Rattle.names.specs.Contents.{kind_meant};
 ghost use Rattle.names.specs.Telling.{TellsContent};
 ghost use Rattle.names.specs.Promises.{NamesIsCanonicalWidely};
 
-use crate::frames::{FrameRead, frame};
+use crate::frames::frame;
 use crate::kinds::{Kind, kind_of};
 use crate::telling::tidy_name;
 use format::Edition;
@@ -32,25 +32,19 @@ pub fn is_canonical_widely(p: &[u8]) -> bool
     let mut next = Cursor::over(p);
     let mut least: u32 = 0;
     loop {
-        match frame(p, next, least) {
-            FrameRead::Refused(_) => {
-                return false;
-            }
-            FrameRead::End => {
-                return true;
-            }
-            FrameRead::Frame(id, part, after, shortest) => {
-                if shortest {
-                    if is_tidy_widely(p, part, kind_of(Edition::Wider, id)) {
-                        next = after;
-                        least = (id as u32) + 1;
-                    } else {
-                        return false;
-                    }
-                } else {
-                    return false;
-                }
-            }
+        let Ok(read) = frame(p, next, least) else {
+            return false;
+        };
+        let Some((id, part, after, shortest)) = read else {
+            return true;
+        };
+        if !shortest {
+            return false;
         }
+        if !is_tidy_widely(p, part, kind_of(Edition::Wider, id)) {
+            return false;
+        }
+        next = after;
+        least = (id as u32) + 1;
     }
 }

@@ -3,7 +3,7 @@ ghost use Rattle.reading.specs.Cursors.{Inside};
 ghost use Rattle.names.specs.Promises.{NamesAskIn};
 
 use crate::{answer, judge_in};
-use format::{Answer, Edition, Question, Verdict, refusal_of};
+use format::{Answer, Edition, Question};
 use reading::Cursor;
 
 // A question to a payload.
@@ -11,9 +11,6 @@ pub fn ask_in(s: &[u8], c: Cursor, edition: Edition, q: Question) -> Answer
     requires { Inside s.now c }
     ensures { NamesAskIn s.now c edition q result }
 {
-    let verdict = judge_in(s, c, edition);
-    let Verdict::Accepted = verdict else {
-        return Answer::Refused(refusal_of(verdict));
-    };
+    judge_in(s, c, edition)?;
     answer(s, c, edition, q)
 }

@@ -1,3 +1,4 @@
+pub mod Returned
 pub mod Seeking
 pub mod Again
 pub mod Promises

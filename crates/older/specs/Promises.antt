@@ -5,9 +5,9 @@ use Rattle.format.specs.Older.{judge_older, ask_older}
 use Rattle.format.specs.Reading.{verdict}
 use Rattle.format.specs.Verdicts.{verdict_of}
 use Rattle.format.specs.declared.FunctionIndex.{FunctionIndex}
-use Rattle.format.specs.declared.HintAnswer.{HintAnswer}
+use Rattle.format.specs.Returned.{HintAnswer}
 use Rattle.format.specs.declared.InstructionOffset.{InstructionOffset}
-use Rattle.format.specs.declared.Verdict.{Verdict}
+use Rattle.format.specs.Returned.{Verdict}
 use Rattle.reading.specs.Cursors.{left}
 use Rattle.reading.specs.Standing.{Stands}
 use Rattle.reading.specs.declared.Cursor.{Cursor}

@@ -3,7 +3,7 @@ ghost use Rattle.format.specs.Older.{times, vector, zero_byte, kind_numbered, ol
 ghost use Rattle.reading.specs.Cursors.{Inside};
 ghost use Rattle.older.specs.Seeking.{nothing, asked, Reads, Seeks};
 
-use crate::{NOTHING, Seek};
+use crate::Seek;
 use format::{Offset, Reason, Refusal};
 use reading::{Cursor, NumberRead};
 
@@ -19,18 +19,14 @@ pub fn kind(c: Cursor, s: &[u8]) -> NumberRead
     ensures { Reads kind_numbered older_kind s.now c result }
 {
     let first = c.at;
-    match c.number(s) {
-        NumberRead::Refused(r) => NumberRead::Refused(r),
-        NumberRead::Value(k, next, shortest) => {
-            if LIKELY < k {
-                return NumberRead::Refused(Refusal {
-                    reason: Reason::NotHint,
-                    offset: Offset(first),
-                });
-            }
-            NumberRead::Value(k, next, shortest)
-        }
+    let (k, next, shortest) = c.number(s)?;
+    if LIKELY < k {
+        return Err(Refusal {
+            reason: Reason::NotHint,
+            offset: Offset(first),
+        });
     }
+    Ok((k, next, shortest))
 }
 
 // A hint: its kind, and then its offset.
@@ -38,13 +34,9 @@ fn hint(c: Cursor, s: &[u8]) -> Seek
     requires { Inside s.now c }
     ensures { Seeks (asked nothing older_hint) s.now c result }
 {
-    match kind(c, s) {
-        NumberRead::Refused(r) => Seek::Refused(r),
-        NumberRead::Value(_, d, _) => match d.number(s) {
-            NumberRead::Refused(r) => Seek::Refused(r),
-            NumberRead::Value(_, next, _) => Seek::Behind(NOTHING, next),
-        },
-    }
+    let (_, d, _) = kind(c, s)?;
+    let (_, behind, _) = d.number(s)?;
+    Ok((None, behind))
 }
 
 // So many hints, in any order.
@@ -53,19 +45,11 @@ fn hints_times(c: Cursor, s: &[u8], n: u32) -> Seek
     ensures { Seeks (asked nothing (times older_hint n)) s.now c result }
 {
     let mut next = c;
-    let mut more = n;
-    while 0 < more {
-        match hint(next, s) {
-            Seek::Refused(r) => {
-                return Seek::Refused(r);
-            }
-            Seek::Behind(_, after) => {
-                next = after;
-                more = more - 1;
-            }
-        }
+    for _ in 0..n {
+        let (_, after) = hint(next, s)?;
+        next = after;
     }
-    Seek::Behind(NOTHING, next)
+    Ok((None, next))
 }
 
 // The hints of an entry: how many, and so many.
@@ -73,10 +57,8 @@ fn hints(c: Cursor, s: &[u8]) -> Seek
     requires { Inside s.now c }
     ensures { Seeks (asked nothing (vector older_hint)) s.now c result }
 {
-    match c.number(s) {
-        NumberRead::Refused(r) => Seek::Refused(r),
-        NumberRead::Value(n, d, _) => hints_times(d, s, n),
-    }
+    let (n, d, _) = c.number(s)?;
+    hints_times(d, s, n)
 }
 
 // The zero byte behind an entry's function.
@@ -87,16 +69,16 @@ pub fn zero_byte(c: Cursor, s: &[u8]) -> Seek
     let at = c.at;
     let end = c.end;
     if end <= at {
-        return Seek::Refused(Refusal {
+        return Err(Refusal {
             reason: Reason::PastItsPart,
             offset: Offset(at),
         });
     }
     let zero = s[at];
     if zero == ZERO {
-        return Seek::Behind(NOTHING, Cursor { at: at + 1, end });
+        return Ok((None, Cursor { at: at + 1, end }));
     }
-    Seek::Refused(Refusal {
+    Err(Refusal {
         reason: Reason::NotZero,
         offset: Offset(at),
     })
@@ -107,13 +89,9 @@ fn entry(c: Cursor, s: &[u8]) -> Seek
     requires { Inside s.now c }
     ensures { Seeks (asked nothing older_entry) s.now c result }
 {
-    match c.number(s) {
-        NumberRead::Refused(r) => Seek::Refused(r),
-        NumberRead::Value(_, d, _) => match zero_byte(d, s) {
-            Seek::Refused(r) => Seek::Refused(r),
-            Seek::Behind(_, e) => hints(e, s),
-        },
-    }
+    let (_, d, _) = c.number(s)?;
+    let (_, e) = zero_byte(d, s)?;
+    hints(e, s)
 }
 
 // So many entries, in any order.
@@ -122,19 +100,11 @@ fn entries_times(c: Cursor, s: &[u8], n: u32) -> Seek
     ensures { Seeks (asked nothing (times older_entry n)) s.now c result }
 {
     let mut next = c;
-    let mut more = n;
-    while 0 < more {
-        match entry(next, s) {
-            Seek::Refused(r) => {
-                return Seek::Refused(r);
-            }
-            Seek::Behind(_, after) => {
-                next = after;
-                more = more - 1;
-            }
-        }
+    for _ in 0..n {
+        let (_, after) = entry(next, s)?;
+        next = after;
     }
-    Seek::Behind(NOTHING, next)
+    Ok((None, next))
 }
 
 // The entries of a payload: how many, and so many.
@@ -142,8 +112,6 @@ pub fn entries(c: Cursor, s: &[u8]) -> Seek
     requires { Inside s.now c }
     ensures { Seeks (asked nothing (vector older_entry)) s.now c result }
 {
-    match c.number(s) {
-        NumberRead::Refused(r) => Seek::Refused(r),
-        NumberRead::Value(n, d, _) => entries_times(d, s, n),
-    }
+    let (n, d, _) = c.number(s)?;
+    entries_times(d, s, n)
 }

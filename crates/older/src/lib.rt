@@ -4,14 +4,14 @@
 ghost use Rattle.std.specs.Prelude.{◌≡◌};
 ghost use Rattle.format.specs.Older.{times, vector, older_hint, older_entry, first_at, first_in};
 ghost use Rattle.reading.specs.Cursors.{Inside};
-ghost use Rattle.older.specs.Seeking.{at_offset, first_where, in_function, nothing, asked, Seeks, first_held, held_as, filled_with};
+ghost use Rattle.older.specs.Seeking.{at_offset, first_where, in_function, nothing, asked, Seeks, held_as, filled_with};
 ghost use Rattle.older.specs.Promises.{OlderHintIn, OlderJudgeIn, OlderJudge, IsOlderHint};
 
 use crate::judging::{entries, kind, zero_byte};
 use format::{
     FunctionIndex, Hint, HintAnswer, InstructionOffset, Offset, Reason, Refusal, Verdict,
 };
-use reading::{Cursor, NumberRead};
+use reading::Cursor;
 
 pub mod again;
 mod judging;
@@ -19,31 +19,20 @@ mod judging;
 // A kind that is unlikely.
 const UNLIKELY: u32 = 0;
 
-// What was found so far, or what one hint, one entry or a list answers with: nothing, or one of the two hints.
-const NOTHING: u32 = 0;
-
-const HELD_UNLIKELY: u32 = 1;
-
-const HELD_LIKELY: u32 = 2;
-
-// What reading and asking finds: what it answers with, and the cursor behind what was read.
-#[derive(Clone, Copy)]
-enum Seek {
-    Behind(u32, Cursor),
-    Refused(Refusal),
-}
+// What reading and asking finds: what one hint, one entry or a list answers with, and the cursor behind what was read.
+type Seek = Result<(Option<Hint>, Cursor), Refusal>;
 
 // What a hint at an offset answers where this one is wanted.
-fn held_at(wanted: u32, offset: u32, kind: u32) -> u32
+fn held_at(wanted: u32, offset: u32, kind: u32) -> Option<Hint>
     ensures { result ≡ held_as wanted offset kind }
 {
     if wanted == offset {
         if kind == UNLIKELY {
-            return HELD_UNLIKELY;
+            return Some(Hint::Unlikely);
         }
-        return HELD_LIKELY;
+        return Some(Hint::Likely);
     }
-    NOTHING
+    None
 }
 
 // A hint: its kind, and then its offset.
@@ -51,23 +40,9 @@ fn hint_here(c: Cursor, s: &[u8], wanted: u32) -> Seek
     requires { Inside s.now c }
     ensures { Seeks (asked (at_offset wanted) older_hint) s.now c result }
 {
-    match kind(c, s) {
-        NumberRead::Refused(r) => Seek::Refused(r),
-        NumberRead::Value(k, d, _) => match d.number(s) {
-            NumberRead::Refused(r) => Seek::Refused(r),
-            NumberRead::Value(offset, next, _) => Seek::Behind(held_at(wanted, offset, k), next),
-        },
-    }
-}
-
-// The first of two answers that is there.
-fn first_of(held: u32, answer: u32) -> u32
-    ensures { result ≡ first_held held answer }
-{
-    if held == NOTHING {
-        return answer;
-    }
-    held
+    let (k, d, _) = kind(c, s)?;
+    let (offset, next, _) = d.number(s)?;
+    Ok((held_at(wanted, offset, k), next))
 }
 
 // So many hints, in any order.
@@ -76,21 +51,13 @@ fn hints_times(c: Cursor, s: &[u8], wanted: u32, n: u32) -> Seek
     ensures { Seeks (asked (first_at wanted) (times older_hint n)) s.now c result }
 {
     let mut next = c;
-    let mut more = n;
-    let mut held: u32 = NOTHING;
-    while 0 < more {
-        match hint_here(next, s, wanted) {
-            Seek::Refused(r) => {
-                return Seek::Refused(r);
-            }
-            Seek::Behind(answer, after) => {
-                held = first_of(held, answer);
-                next = after;
-                more = more - 1;
-            }
-        }
+    let mut held = None;
+    for _ in 0..n {
+        let (answer, after) = hint_here(next, s, wanted)?;
+        held = held.or(answer);
+        next = after;
     }
-    Seek::Behind(held, next)
+    Ok((held, next))
 }
 
 // A hint of a function that is not wanted. Judging has the same step and the same loop: each has one caller, so that it becomes one piece of code with it.
@@ -98,13 +65,9 @@ fn hint_passed(c: Cursor, s: &[u8]) -> Seek
     requires { Inside s.now c }
     ensures { Seeks (asked nothing older_hint) s.now c result }
 {
-    match kind(c, s) {
-        NumberRead::Refused(r) => Seek::Refused(r),
-        NumberRead::Value(_, d, _) => match d.number(s) {
-            NumberRead::Refused(r) => Seek::Refused(r),
-            NumberRead::Value(_, next, _) => Seek::Behind(NOTHING, next),
-        },
-    }
+    let (_, d, _) = kind(c, s)?;
+    let (_, behind, _) = d.number(s)?;
+    Ok((None, behind))
 }
 
 // So many of them.
@@ -113,19 +76,11 @@ fn hints_passed(c: Cursor, s: &[u8], n: u32) -> Seek
     ensures { Seeks (asked nothing (times older_hint n)) s.now c result }
 {
     let mut next = c;
-    let mut more = n;
-    while 0 < more {
-        match hint_passed(next, s) {
-            Seek::Refused(r) => {
-                return Seek::Refused(r);
-            }
-            Seek::Behind(_, after) => {
-                next = after;
-                more = more - 1;
-            }
-        }
+    for _ in 0..n {
+        let (_, after) = hint_passed(next, s)?;
+        next = after;
     }
-    Seek::Behind(NOTHING, next)
+    Ok((None, next))
 }
 
 // The hints of an entry: how many, and so many. Only those of the function that is wanted are asked.
@@ -133,15 +88,11 @@ fn hints_here(c: Cursor, s: &[u8], sought: bool, wanted: u32) -> Seek
     requires { Inside s.now c }
     ensures { Seeks (asked (first_where sought wanted) (vector older_hint)) s.now c result }
 {
-    match c.number(s) {
-        NumberRead::Refused(r) => Seek::Refused(r),
-        NumberRead::Value(n, d, _) => {
-            if sought {
-                return hints_times(d, s, wanted, n);
-            }
-            hints_passed(d, s, n)
-        }
+    let (n, d, _) = c.number(s)?;
+    if sought {
+        return hints_times(d, s, wanted, n);
     }
+    hints_passed(d, s, n)
 }
 
 // An entry: its function, a zero byte, and its hints.
@@ -149,13 +100,9 @@ fn entry_here(c: Cursor, s: &[u8], function: u32, offset: u32) -> Seek
     requires { Inside s.now c }
     ensures { Seeks (asked (in_function function offset) older_entry) s.now c result }
 {
-    match c.number(s) {
-        NumberRead::Refused(r) => Seek::Refused(r),
-        NumberRead::Value(k, d, _) => match zero_byte(d, s) {
-            Seek::Refused(r) => Seek::Refused(r),
-            Seek::Behind(_, e) => hints_here(e, s, function == k, offset),
-        },
-    }
+    let (k, d, _) = c.number(s)?;
+    let (_, e) = zero_byte(d, s)?;
+    hints_here(e, s, function == k, offset)
 }
 
 // So many entries, in any order; a function may have more than one.
@@ -164,21 +111,13 @@ fn entries_times(c: Cursor, s: &[u8], function: u32, offset: u32, n: u32) -> See
     ensures { Seeks (asked (first_in function offset) (times older_entry n)) s.now c result }
 {
     let mut next = c;
-    let mut more = n;
-    let mut held: u32 = NOTHING;
-    while 0 < more {
-        match entry_here(next, s, function, offset) {
-            Seek::Refused(r) => {
-                return Seek::Refused(r);
-            }
-            Seek::Behind(found, after) => {
-                held = first_of(held, found);
-                next = after;
-                more = more - 1;
-            }
-        }
+    let mut held = None;
+    for _ in 0..n {
+        let (found, after) = entry_here(next, s, function, offset)?;
+        held = held.or(found);
+        next = after;
     }
-    Seek::Behind(held, next)
+    Ok((held, next))
 }
 
 // The entries of a payload: how many, and so many.
@@ -186,29 +125,21 @@ fn entries_here(c: Cursor, s: &[u8], function: u32, offset: u32) -> Seek
     requires { Inside s.now c }
     ensures { Seeks (asked (first_in function offset) (vector older_entry)) s.now c result }
 {
-    match c.number(s) {
-        NumberRead::Refused(r) => Seek::Refused(r),
-        NumberRead::Value(n, d, _) => entries_times(d, s, function, offset, n),
-    }
+    let (n, d, _) = c.number(s)?;
+    entries_times(d, s, function, offset, n)
 }
 
 // The entries fill the payload: what was held is its answer.
-fn filled(held: u32, next: Cursor) -> HintAnswer
+fn filled(held: Option<Hint>, next: Cursor) -> HintAnswer
     ensures { result ≡ filled_with held next }
 {
     if next.at < next.end {
-        return HintAnswer::Refused(Refusal {
+        return Err(Refusal {
             reason: Reason::LeftOver,
             offset: Offset(next.at),
         });
     }
-    if held == NOTHING {
-        return HintAnswer::None;
-    }
-    if held == HELD_UNLIKELY {
-        return HintAnswer::Found(Hint::Unlikely);
-    }
-    HintAnswer::Found(Hint::Likely)
+    Ok(held)
 }
 
 // The first hint for a pair, in a payload that lies in `s` where the cursor says: one pass judges it and asks it.
@@ -216,10 +147,8 @@ pub fn hint_in(s: &[u8], c: Cursor, f: FunctionIndex, at: InstructionOffset) -> 
     requires { Inside s.now c }
     ensures { OlderHintIn s.now c f at result }
 {
-    match entries_here(c, s, f.0, at.0) {
-        Seek::Refused(r) => HintAnswer::Refused(r),
-        Seek::Behind(held, next) => filled(held, next),
-    }
+    let (held, next) = entries_here(c, s, f.0, at.0)?;
+    filled(held, next)
 }
 
 // Judges a payload that lies in `s` where the cursor says: its entries fill it.
@@ -227,19 +156,15 @@ pub fn judge_in(s: &[u8], c: Cursor) -> Verdict
     requires { Inside s.now c }
     ensures { OlderJudgeIn s.now c result }
 {
-    match entries(c, s) {
-        Seek::Refused(r) => Verdict::Refused(r),
-        Seek::Behind(_, next) => {
-            let at = next.at;
-            if at < next.end {
-                return Verdict::Refused(Refusal {
-                    reason: Reason::LeftOver,
-                    offset: Offset(at),
-                });
-            }
-            Verdict::Accepted
-        }
+    let (_, next) = entries(c, s)?;
+    let at = next.at;
+    if at < next.end {
+        return Err(Refusal {
+            reason: Reason::LeftOver,
+            offset: Offset(at),
+        });
     }
+    Ok(())
 }
 
 // Judges a payload.

@@ -1,4 +1,5 @@
 -- What the pass found answers the questions to the walk.
+use Rattle.std.specs.Prelude.{Ok, Err}
 use Prim.Native.Nat.{ℕ, zero, suc, ◌+◌}
 use mathlib.Core.Bool.{cond}
 use mathlib.Core.List.{List, [], ◌∷◌}
@@ -16,14 +17,9 @@ use Rattle.format.specs.Questions.{answered, as_place}
 use Rattle.format.specs.Walk.{Section, payload_of, payload_in, walk, section_count, section_at, custom_payload}
 use Rattle.format.specs.Refusals.{number_of}
 use Rattle.format.specs.Laws.Outcomes.{mapped, refused_exactly}
-use Rattle.format.specs.declared.Answer.TheVariants.{Refused as NotAnswered}
 use Rattle.format.specs.declared.Refusal.{Refusal}
 use Rattle.walk.specs.Surveys.{section_place, section_answered, or_found, Found, nothing_found, find_more, find_all, found_of, Surveys, counted}
-use Rattle.walk.specs.declared.Counted.TheVariants.{Count, Refused as NotCounted}
-use Rattle.walk.specs.declared.survey.SectionAnswer.TheVariants.{Refused as NoSection}
 use Rattle.walk.specs.declared.survey.SectionPlace.{SectionPlace}
-use Rattle.walk.specs.declared.survey.Surveyed.{Surveyed}
-use Rattle.walk.specs.declared.survey.Surveyed.TheVariants.{Done, Refused as NotSurveyed}
 use Rattle.walk.specs.declared.survey.Tally.{Tally}
 
 or_found_lem : {A : Type 0} (j : Judged (Option A)) (x y : Option A) → or_found (or_found j x) y ≡ or_found j (or_else x y)
@@ -78,42 +74,42 @@ module _ (position : ℕ) (name : List ℕ) where
   position_is k (suc d) (s ∷ ss) e = rw (ne_eqb k position (λ q. omega arith)) (position_is (suc k) d ss (omega arith))
 
 -- so each question has its answer
-module _ {m : List ℕ} {position : ℕ} {name : List ℕ} {x : Surveyed} (s : Surveys m position name x) where
-  survey_accepted : {t : Tally} → x ≡ Done t → (ss : List Section) × (walk m ≡ accepted ss) × (find_all position name nothing_found ss ≡ found_of t)
-  survey_accepted e = mapped (find_all position name nothing_found) (walk m) (sym (rw e at s.says)) λ ss e₁ e₂. (ss, e₁, e₂)
+module _ {m : List ℕ} {position : ℕ} {name : List ℕ} where
+  survey_accepted : {t : Tally} → Surveys m position name (Ok t) → (ss : List Section) × (walk m ≡ accepted ss) × (find_all position name nothing_found ss ≡ found_of t)
+  survey_accepted s = mapped (find_all position name nothing_found) (walk m) (sym s.says) λ ss e₁ e₂. (ss, e₁, e₂)
 
-  survey_stopped : {r : Refusal} → x ≡ NotSurveyed r → walk m ≡ refused (number_of r.reason) r.offset.0
-  survey_stopped e = (refused_exactly (find_all position name nothing_found) (walk m)).0 (sym (rw e at s.says))
+  survey_stopped : {r : Refusal} → Surveys m position name (Err r) → walk m ≡ refused (number_of r.reason) r.offset.0
+  survey_stopped s = (refused_exactly (find_all position name nothing_found) (walk m)).0 (sym s.says)
 
-  pub count_refused : {r : Refusal} → x ≡ NotSurveyed r → counted (NotCounted r) ≡ section_count m
+  pub count_refused : {r : Refusal} → Surveys m position name (Err r) → counted (Err r) ≡ section_count m
   unfolding section_count
-  count_refused e = rw (survey_stopped e)
+  count_refused s = rw (survey_stopped s)
 
-  pub count_found : {t : Tally} → x ≡ Done t → counted (Count t.count) ≡ section_count m
+  pub count_found : {t : Tally} → Surveys m position name (Ok t) → counted (Ok t.count) ≡ section_count m
   unfolding section_count
-  count_found {t} e =
-      let (ss, e₁, e₂) = survey_accepted e in
+  count_found {t} s =
+      let (ss, e₁, e₂) = survey_accepted s in
       let n : t.count ≡ length ss = sym (ap (λ (f : Found). f.count) e₂) ∙ count_all position name nothing_found ss ∙ omega arith in
       rw e₁ (ap accepted n)
 
-  pub section_refused : {r : Refusal} → x ≡ NotSurveyed r → section_answered (NoSection r) ≡ map_judged (map_some section_place) (section_at position m)
+  pub section_refused : {r : Refusal} → Surveys m position name (Err r) → section_answered (Err r) ≡ map_judged (map_some section_place) (section_at position m)
   unfolding section_at
-  section_refused e = rw (survey_stopped e)
+  section_refused s = rw (survey_stopped s)
 
-  pub section_found : {t : Tally} → x ≡ Done t → section_answered t.section ≡ map_judged (map_some section_place) (section_at position m)
+  pub section_found : {t : Tally} → Surveys m position name (Ok t) → section_answered t.section ≡ map_judged (map_some section_place) (section_at position m)
   unfolding section_at
-  section_found {t} e =
-      let (ss, e₁, e₂) = survey_accepted e in
+  section_found {t} s =
+      let (ss, e₁, e₂) = survey_accepted s in
       rw e₁ (sym (ap (λ (f : Found). f.section) e₂) ∙ section_all position name nothing_found ss ∙ ap accepted (position_is position name 0 position ss (omega arith)))
 
-  pub custom_refused : {r : Refusal} → x ≡ NotSurveyed r → answered (NotAnswered r) ≡ as_place (custom_payload name m)
+  pub custom_refused : {r : Refusal} → Surveys m position name (Err r) → answered (Err r) ≡ as_place (custom_payload name m)
   unfolding custom_payload as_place
-  custom_refused e = rw (survey_stopped e)
+  custom_refused s = rw (survey_stopped s)
 
-  pub custom_found : {t : Tally} → x ≡ Done t → answered t.payload ≡ as_place (custom_payload name m)
+  pub custom_found : {t : Tally} → Surveys m position name (Ok t) → answered t.payload ≡ as_place (custom_payload name m)
   unfolding custom_payload as_place
-  custom_found {t} e =
-      let (ss, e₁, e₂) = survey_accepted e in
+  custom_found {t} s =
+      let (ss, e₁, e₂) = survey_accepted s in
       rw e₁ (sym (ap (λ (f : Found). f.payload) e₂) ∙ payload_all position name nothing_found ss)
 
 pub ruleset walk_answers = (count_refused, count_found, section_refused, section_found, custom_refused, custom_found, rules)

@@ -1,4 +1,5 @@
 -- The preamble.
+use Rattle.std.specs.Prelude.{Ok, Err}
 use Prim.Native.Nat.{ℕ, suc, ◌+◌, ◌≤◌, ◌<◌}
 use mathlib.Core.Bool.{Bool, true, false, false≢true}
 use mathlib.Core.List.{List, [], ◌∷◌}
@@ -16,7 +17,6 @@ use Rattle.format.specs.Laws.Outcomes.{by_test}
 use Rattle.format.specs.declared.Reason.TheVariants.{NoPreamble}
 use Rattle.walk.specs.Steps.{Begins}
 use Rattle.walk.proofs.BitLaws.{zero_bits}
-use Rattle.walk.specs.declared.step.Began.TheVariants.{At, Refused}
 
 -- as the code has it
 abbrev preamble_bytes : List ℕ
@@ -45,16 +45,16 @@ begins_short (x ∷ xs) o [] l = refl
 begins_short (x ∷ xs) o (b ∷ bs) l = by_test (eqb x b) (λ t. rw t (begins_short xs (suc o) bs (omega arith))) (λ t. rw t)
 
 module _ {m : List ℕ} where
-  pub too_short : length m < 8 → Begins m (Refused (record { reason = NoPreamble; offset = record { 0 = 0 } }))
+  pub too_short : length m < 8 → Begins m (Err (record { reason = NoPreamble; offset = record { 0 = 0 } }))
   unfolding preamble
   too_short h = record { means = sym (begins_short preamble_bytes 0 m h); seen = tt }
 
   module _ {b : Bool} (h : 8 ≤ length m) (e : b ≡ same preamble_bytes (slice 0 8 m)) where
-    pub begun : b ≡ true → Begins m (At (record { at = 8; seen = record { rank = 0; code = false; there = 0 } }))
+    pub begun : b ≡ true → Begins m (Ok (record { at = 8; seen = record { rank = 0; code = false; there = 0 } }))
     unfolding preamble nothing
     begun t = record { means = sym (begins_same preamble_bytes 0 m h (sym e ∙ t)); seen = ((λ i. record { rank = 0; code = false; there = λ row. zero_bits row i }), h) }
 
-    pub not_begun : b ≡ false → Begins m (Refused (record { reason = NoPreamble; offset = record { 0 = 0 } }))
+    pub not_begun : b ≡ false → Begins m (Err (record { reason = NoPreamble; offset = record { 0 = 0 } }))
     unfolding preamble
     not_begun t = record { means = sym (begins_other preamble_bytes 0 m h (sym e ∙ t)); seen = tt }
 

@@ -1,4 +1,3 @@
-pub mod Tags
 pub mod BitLaws
 pub mod RowLaws
 pub mod RuleLaws

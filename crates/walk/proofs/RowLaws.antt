@@ -1,4 +1,5 @@
 -- The row of a name: the rows are compared one after the other.
+use Rattle.std.specs.Prelude.{Some, None}
 use Prim.Native.Nat.{ℕ, zero, suc, ◌+◌, ◌-◌, ◌<◌}
 use mathlib.Core.Bool.{Bool, true, false, cond}
 use mathlib.Core.List.{List, [], ◌∷◌, map}
@@ -14,7 +15,6 @@ use Rattle.format.specs.Walk.{Tracked, tracked, first_row}
 use Rattle.format.specs.Laws.Options.{not_some, some_is}
 use Rattle.format.specs.Laws.Outcomes.{by_test}
 use Rattle.walk.specs.Sections.{Calls}
-use Rattle.walk.specs.declared.rules.Called.TheVariants.{Row, Other}
 
 abbrev name_at : List Tracked → ℕ → List ℕ
 name_at ts row = get_or (map (λ (t : Tracked). t.name) ts) row []
@@ -38,7 +38,7 @@ module _ {name x : List ℕ} {b : Bool} (row : ℕ) (e : b ≡ same x name) wher
       ∙ compared (λ x. same x name) tracked row row h
       ∙ ap (λ now. cond now (some row) (first_row (suc row) (drop (suc row) tracked) (λ x. same x name))) (ap (λ y. same y name) (sym is) ∙ sym e ∙ t)
 
-  pub row_found : b ≡ true → x ≡ name_at tracked row → ltb row (length tracked) ≡ true → Passed name row → Calls name (Row row)
+  pub row_found : b ≡ true → x ≡ name_at tracked row → ltb row (length tracked) ≡ true → Passed name row → Calls name (Some row)
   row_found t is h p = record { row_is = decided t is (ltb-true row (length tracked) h) p }
 
 -- said of the row behind, so that a search goes down to the first
@@ -47,7 +47,7 @@ row_passed {name} row above e t is h p =
     let next : suc (row - 1) ≡ row = let l = ltb-true 0 row above in omega arith in
     record { rest = decided (row - 1) e t is (ltb-true (row - 1) (length tracked) h) p ∙ ap (λ k. first_row k (drop k tracked) (λ x. same x name)) next }
 
-pub not_tracked : {name : List ℕ} → Passed name (length tracked) → Calls name Other
+pub not_tracked : {name : List ℕ} → Passed name (length tracked) → Calls name None
 not_tracked p = record { row_is = p.rest }
 
 pub ruleset rows_compared = (none_passed, row_found, row_passed, not_tracked, rules)

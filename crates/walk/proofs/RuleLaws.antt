@@ -1,25 +1,22 @@
 -- The walk's rules by their tests.
+use Rattle.std.specs.Prelude.{Ok, Err, Some, None}
 use Prim.Native.Nat.{ℕ, zero, suc, ◌+◌, ◌*◌, ◌%◌, ◌^◌, ◌≤◌, ◌<◌}
 use mathlib.Core.Bool.{Bool, true, false, cond, ◌&&◌, ◌||◌}
 use mathlib.Core.List.{List, [], ◌∷◌}
 use mathlib.Core.Path.{◌≡◌, refl, sym, ap, ◌∙◌}
 use borrow.Author.Rules.{rules}
 use borrow.Author.Tests.{ltb-true, ltb-false, leb-true, leb-false, le-leb, lt-leb, lt-ltb, le-ltb, eqb-true, eq-eqb, ne_eqb}
-use denote.Enum.Declared.{tag_of}
 use native.Mathlib.Omega.{arith}
 use lib.Dec.{ltb, leb, eqb}
 use lib.Bits.{bit_or}
 use lib.ListN.{length, get_or}
-use Rattle.walk.specs.contracts.rules.Called as called
 use Rattle.format.specs.Walk.{greatest, greatest_id, is_custom, is_code, is_data, order, place_from, rank, tracked, name_row, before_code, id_rules, name_rules}
 use Rattle.format.specs.Laws.Outcomes.{by_test, on_both}
 use Rattle.format.specs.declared.Reason.TheVariants.{SectionUnknown, SectionOrder, SectionTwice, SectionTooLate}
 use Rattle.walk.specs.Sections.{bit, IdRuled, InTable, NameRuled, ThereAfter}
 use Rattle.walk.proofs.BitLaws.{shifted_bit, with_bit}
 use Rattle.walk.specs.declared.rules.Seen.{Seen}
-use Rattle.walk.specs.declared.rules.Ruling.TheVariants.{Fine, Against}
-use Rattle.walk.specs.declared.rules.Called.{Called}
-use Rattle.walk.specs.declared.rules.Called.TheVariants.{Row, Other}
+use Rattle.walk.specs.Returned.{Called}
 
 -- WHERE AN ID STANDS: one test of the whole list of ranks, computed, says it of each id
 abbrev ranks_from : ℕ → List ℕ → Bool
@@ -59,66 +56,61 @@ known : (id : ℕ) {b : Bool} → b ≡ ltb greatest_id id → b ≡ false → l
 known id k t = le-leb id greatest_id (ltb-false greatest_id id (sym k ∙ t))
 
 module _ {seen : Seen} {id : ℕ} {b : Bool} (k : b ≡ ltb greatest_id id) where
-  pub id_unknown : b ≡ true → IdRuled seen id (Against SectionUnknown)
+  pub id_unknown : b ≡ true → IdRuled seen id (Err SectionUnknown)
   unfolding id_rules
   id_unknown t = record { says = λ at o bs. rw (lt-leb id greatest_id (ltb-true greatest_id id (sym k ∙ t))) }
 
   module _ (t : b ≡ false) where
-    pub id_custom : id ≡ 0 → IdRuled seen id Fine
+    pub id_custom : id ≡ 0 → IdRuled seen id (Ok tt)
     unfolding id_rules is_custom is_data
     id_custom e = record { says = λ at o bs. rw (known id k t, e) }
 
     module _ {r : ℕ} (n : id ≡ 0 → ⊥) (q : r ≡ rank id) where
-      pub id_order : r ≤ seen.rank → IdRuled seen id (Against SectionOrder)
+      pub id_order : r ≤ seen.rank → IdRuled seen id (Err SectionOrder)
       unfolding id_rules is_custom
       id_order h = record { says = λ at o bs. rw (known id k t, ne_eqb id 0 n, ← q, le-ltb seen.rank _ h) }
 
       module _ (h : seen.rank < r) where
-        pub id_fine : (id ≡ 11 → ⊥) → IdRuled seen id Fine
+        pub id_fine : (id ≡ 11 → ⊥) → IdRuled seen id (Ok tt)
         unfolding id_rules is_custom is_data
         id_fine e = record { says = λ at o bs. rw (known id k t, ne_eqb id 0 n, ← q, lt-ltb seen.rank _ h, ne_eqb id 11 e) }
 
         module _ {named : Bool} (e : id ≡ 11) (s : named ≡ bit seen.there name_row) where
-          pub id_late : named ≡ true → IdRuled seen id (Against SectionTooLate)
+          pub id_late : named ≡ true → IdRuled seen id (Err SectionTooLate)
           unfolding id_rules is_custom is_data
           id_late u = record { says = λ at o bs. rw (known id k t, ne_eqb id 0 n, ← q, lt-ltb seen.rank _ h, eq-eqb id 11 e, ← s, u) }
 
-          pub id_data : named ≡ false → IdRuled seen id Fine
+          pub id_data : named ≡ false → IdRuled seen id (Ok tt)
           unfolding id_rules is_custom is_data
           id_data u = record { says = λ at o bs. rw (known id k t, ne_eqb id 0 n, ← q, lt-ltb seen.rank _ h, eq-eqb id 11 e, ← s, u) }
 
 pub ruleset id_rules_lem = (id_unknown, id_custom, id_order, id_late, id_data, id_fine, rules)
 
 -- WHAT THE ROW DECIDES
--- an arm of a match that binds nothing gives the tag alone
-as_other : (x : Called) → tag_of called.the_type x ≡ 1 → x ≡ Other
-as_other (Row row) h = absurd (omega arith)
-as_other Other h = refl
-
 module _ {seen : Seen} {x : Called} where
-  pub other_fine : tag_of called.the_type x ≡ 1 → NameRuled seen x Fine
+  pub other_fine : x ≡ None → NameRuled seen x (Ok tt)
   unfolding name_rules
-  other_fine i = rw (as_other x i) (record { says = λ at o bs. refl })
+  other_fine i = rw i (record { says = λ at o bs. refl })
 
-  module _ {row : ℕ} {again : Bool} (i : x ≡ Row row) (q : again ≡ bit seen.there row) where
-    pub row_twice : again ≡ true → NameRuled seen x (Against SectionTwice)
+  module _ {row : ℕ} {again : Bool} (i : x ≡ Some row) (q : again ≡ bit seen.there row) where
+    pub row_twice : again ≡ true → NameRuled seen x (Err SectionTwice)
     unfolding name_rules
     row_twice s = rw i (record { says = λ at o bs. rw (← q, s) })
 
     module _ (s : again ≡ false) where
-      pub row_late : before_code row ≡ true → seen.code ≡ true → NameRuled seen x (Against SectionTooLate)
+      pub row_late : before_code row ≡ true → seen.code ≡ true → NameRuled seen x (Err SectionTooLate)
       unfolding name_rules
       row_late f c = rw i (record { says = λ at o bs. rw (← q, s, f, c) })
 
-      pub row_early : before_code row ≡ true → seen.code ≡ false → NameRuled seen x Fine
+      pub row_early : before_code row ≡ true → seen.code ≡ false → NameRuled seen x (Ok tt)
       unfolding name_rules
       row_early f c = rw i (record { says = λ at o bs. rw (← q, s, f, c) })
 
-      pub row_anywhere : before_code row ≡ false → NameRuled seen x Fine
+      pub row_anywhere : before_code row ≡ false → NameRuled seen x (Ok tt)
       unfolding name_rules
       row_anywhere f = rw i (record { says = λ at o bs. rw (← q, s, f) })
 
-pub in_table : {x : Called} {row : ℕ} → InTable x → x ≡ Row row → row < length tracked
+pub in_table : {x : Called} {row : ℕ} → InTable x → x ≡ Some row → row < length tracked
 in_table h i = rw i at h
 
 -- there is a bit for each row
@@ -129,11 +121,11 @@ pub ruleset row_rules = (other_fine, row_twice, row_late, row_early, row_anywher
 
 -- WHAT THE RULES KNOW BEHIND A SECTION
 module _ {before : ℕ} {x : Called} where
-  pub row_there : {row : ℕ} → InTable x → x ≡ Row row → ThereAfter before x (bit_or before (1 * 2 ^ row % 2 ^ 8))
+  pub row_there : {row : ℕ} → InTable x → x ≡ Some row → ThereAfter before x (bit_or before (1 * 2 ^ row % 2 ^ 8))
   row_there {row} h i = rw i (record { says = λ k. with_bit before row k (row_fits (in_table h i)) })
 
-  pub none_there : tag_of called.the_type x ≡ 1 → ThereAfter before x before
-  none_there i = rw (as_other x i) (record { says = λ k. sym (or_false (bit before k)) })
+  pub none_there : x ≡ None → ThereAfter before x before
+  none_there i = rw i (record { says = λ k. sym (or_false (bit before k)) })
     where
       or_false : (b : Bool) → (b || false) ≡ b
       or_false true = refl

@@ -1,4 +1,5 @@
 -- Two results that meet one promise of the walk are equal.
+use Rattle.std.specs.Prelude.{Ok, Err, Some, None}
 use Prim.Native.Nat.{ℕ}
 use mathlib.Core.List.{List, []}
 use mathlib.Core.Option.{Option, none, some}
@@ -13,43 +14,35 @@ use Rattle.walk.proofs.BitLaws.{same_bits}
 use Rattle.walk.specs.Sections.{seen_of, custom_of, section_of, CustomInside, SectionInside, ruling, IdRuled, NameRuled, Sees, Calls, row_called}
 use Rattle.walk.specs.Steps.{Begins, Steps}
 use Rattle.walk.specs.Surveys.{section_answered, counted, Found as Gathered, found_of, Surveys}
-use Rattle.walk.specs.declared.Counted.{Counted}
-use Rattle.walk.specs.declared.Counted.TheVariants.{Count, Refused as NotCounted}
-use Rattle.walk.specs.declared.step.Began.{Began}
-use Rattle.walk.specs.declared.step.Began.TheVariants.{At, Refused as NotBegun}
-use Rattle.walk.specs.declared.step.Custom.{Custom}
-use Rattle.walk.specs.declared.step.Custom.TheVariants.{None, Named}
+use Rattle.walk.specs.Returned.{Counted}
+use Rattle.walk.specs.Returned.{Began}
+use Rattle.walk.specs.Returned.{Custom}
 use Rattle.walk.specs.declared.step.Section.{Section}
-use Rattle.walk.specs.declared.step.Step.{Step}
-use Rattle.walk.specs.declared.step.Step.TheVariants.{Section as ASection, Done, Refused}
+use Rattle.walk.specs.Returned.{Step}
 use Rattle.walk.specs.declared.step.Walk.{Walk}
-use Rattle.walk.specs.declared.survey.Surveyed.{Surveyed}
-use Rattle.walk.specs.declared.survey.Surveyed.TheVariants.{Done as Surveyed_whole, Refused as NotSurveyed}
+use Rattle.walk.specs.Returned.{Surveyed}
 use Rattle.walk.specs.declared.survey.Tally.{Tally}
 use Rattle.walk.specs.declared.rules.Seen.{Seen}
-use Rattle.walk.specs.declared.rules.Called.{Called}
-use Rattle.walk.specs.declared.rules.Called.TheVariants.{Row, Other}
-use Rattle.walk.specs.declared.rules.Ruling.{Ruling}
-use Rattle.walk.specs.declared.rules.Ruling.TheVariants.{Fine, Against}
-use Rattle.walk.specs.declared.survey.SectionAnswer.{SectionAnswer}
-use Rattle.walk.specs.declared.survey.SectionAnswer.TheVariants.{None as NoSection, Found, Refused as NotFound}
+use Rattle.walk.specs.Returned.{Called}
+use Rattle.walk.specs.Returned.{Ruling}
+use Rattle.walk.specs.Returned.{SectionAnswer}
 
 pub count_same : (a b : Counted) → counted a ≡ counted b → a ≡ b
-count_same (Count n) (Count k) e = ap Count (accepted_is e)
-count_same (Count n) (NotCounted r) e = absurd (not_accepted (sym e))
-count_same (NotCounted r) (Count n) e = absurd (not_accepted e)
-count_same (NotCounted r) (NotCounted s) e = ap NotCounted (same_judgement e)
+count_same (Ok n) (Ok k) e = ap Ok (accepted_is e)
+count_same (Ok n) (Err r) e = absurd (not_accepted (sym e))
+count_same (Err r) (Ok n) e = absurd (not_accepted e)
+count_same (Err r) (Err s) e = ap Err (same_judgement e)
 
 pub section_same : (a b : SectionAnswer) → section_answered a ≡ section_answered b → a ≡ b
-section_same NoSection NoSection e = refl
-section_same NoSection (Found p) e = absurd (not_some (accepted_is e))
-section_same NoSection (NotFound r) e = absurd (not_accepted (sym e))
-section_same (Found p) NoSection e = absurd (not_some (sym (accepted_is e)))
-section_same (Found p) (Found q) e = ap Found (some_is (accepted_is e))
-section_same (Found p) (NotFound r) e = absurd (not_accepted (sym e))
-section_same (NotFound r) NoSection e = absurd (not_accepted e)
-section_same (NotFound r) (Found p) e = absurd (not_accepted e)
-section_same (NotFound r) (NotFound s) e = ap NotFound (same_judgement e)
+section_same (Ok None) (Ok None) e = refl
+section_same (Ok None) (Ok (Some p)) e = absurd (not_some (accepted_is e))
+section_same (Ok None) (Err r) e = absurd (not_accepted (sym e))
+section_same (Ok (Some p)) (Ok None) e = absurd (not_some (sym (accepted_is e)))
+section_same (Ok (Some p)) (Ok (Some q)) e = ap (λ x. Ok (Some x)) (some_is (accepted_is e))
+section_same (Ok (Some p)) (Err r) e = absurd (not_accepted (sym e))
+section_same (Err r) (Ok None) e = absurd (not_accepted e)
+section_same (Err r) (Ok (Some p)) e = absurd (not_accepted e)
+section_same (Err r) (Err s) e = ap Err (same_judgement e)
 
 -- walks and sections are told by what they mean
 same_walk : (v w : Walk) → v.at ≡ w.at → seen_of v.seen ≡ seen_of w.seen → v ≡ w
@@ -59,13 +52,13 @@ same_walk v w p q =
 
 same_custom : (m : List ℕ) (c d : Custom) → CustomInside m c → CustomInside m d → custom_of m c ≡ custom_of m d → c ≡ d
 same_custom m None None i j e = refl
-same_custom m None (Named n p) i j e = absurd (not_some e)
-same_custom m (Named n p) None i j e = absurd (not_some (sym e))
-same_custom m (Named n p) (Named k q) i j e =
+same_custom m None (Some (n, p)) i j e = absurd (not_some e)
+same_custom m (Some (n, p)) None i j e = absurd (not_some (sym e))
+same_custom m (Some (n, p)) (Some (k, q)) i j e =
     let one = some_is e in
     let names = same_part n k i.0 j.0 (ap (λ (c : CustomSection). c.name) one) in
     let payloads = same_part p q i.1 j.1 (ap (λ (c : CustomSection). c.payload) one) in
-    λ i. Named (names i) (payloads i)
+    λ i. Some (names i, payloads i)
 
 same_section : {m : List ℕ} (s t : Section) → SectionInside m s → SectionInside m t → section_of m s ≡ section_of m t → s ≡ t
 same_section {m} s t i j e =
@@ -74,25 +67,25 @@ same_section {m} s t i j e =
     λ k. record { id = (e k).id; at = record { 0 = (e k).at }; contents = contents k; custom = customs k }
 
 pub begin_same : {m : List ℕ} (a b : Began) → Begins m a → Begins m b → a ≡ b
-begin_same (At v) (At w) p q = ap At (same_walk v w (got_next (p.means ∙ sym q.means)) (p.seen.0 ∙ sym q.seen.0))
-begin_same (At v) (NotBegun r) p q = absurd (not_got (sym (p.means ∙ sym q.means)))
-begin_same (NotBegun r) (At v) p q = absurd (not_got (p.means ∙ sym q.means))
-begin_same (NotBegun r) (NotBegun s) p q = ap NotBegun (same_stop (p.means ∙ sym q.means))
+begin_same (Ok v) (Ok w) p q = ap Ok (same_walk v w (got_next (p.means ∙ sym q.means)) (p.seen.0 ∙ sym q.seen.0))
+begin_same (Ok v) (Err r) p q = absurd (not_got (sym (p.means ∙ sym q.means)))
+begin_same (Err r) (Ok v) p q = absurd (not_got (p.means ∙ sym q.means))
+begin_same (Err r) (Err s) p q = ap Err (same_stop (p.means ∙ sym q.means))
 
 pub step_same : {m : List ℕ} {w : Walk} (a b : Step) → Steps m w a → Steps m w b → a ≡ b
-step_same {w = w} (ASection s v) (ASection t u) p q =
+step_same {w = w} (Ok (Some (s, v))) (Ok (Some (t, u))) p q =
     let one = p.means ∙ sym q.means in
     let sections = same_section s t p.forward.inside q.forward.inside (some_is (got_value one)) in
     let walks = same_walk v u (got_next one) (p.seen ∙ ap (seeing (seen_of w.seen)) (some_is (got_value one)) ∙ sym q.seen) in
-    λ i. ASection (sections i) (walks i)
-step_same (ASection s v) Done p q = absurd (not_some (sym (got_value (p.means ∙ sym q.means))))
-step_same (ASection s v) (Refused r) p q = absurd (not_got (sym (p.means ∙ sym q.means)))
-step_same Done (ASection t u) p q = absurd (not_some (got_value (p.means ∙ sym q.means)))
-step_same Done Done p q = refl
-step_same Done (Refused r) p q = absurd (not_got (sym (p.means ∙ sym q.means)))
-step_same (Refused r) (ASection t u) p q = absurd (not_got (p.means ∙ sym q.means))
-step_same (Refused r) Done p q = absurd (not_got (p.means ∙ sym q.means))
-step_same (Refused r) (Refused s) p q = ap Refused (same_stop (p.means ∙ sym q.means))
+    λ i. Ok (Some (sections i, walks i))
+step_same (Ok (Some (s, v))) (Ok None) p q = absurd (not_some (sym (got_value (p.means ∙ sym q.means))))
+step_same (Ok (Some (s, v))) (Err r) p q = absurd (not_got (sym (p.means ∙ sym q.means)))
+step_same (Ok None) (Ok (Some (t, u))) p q = absurd (not_some (got_value (p.means ∙ sym q.means)))
+step_same (Ok None) (Ok None) p q = refl
+step_same (Ok None) (Err r) p q = absurd (not_got (sym (p.means ∙ sym q.means)))
+step_same (Err r) (Ok (Some (t, u))) p q = absurd (not_got (p.means ∙ sym q.means))
+step_same (Err r) (Ok None) p q = absurd (not_got (p.means ∙ sym q.means))
+step_same (Err r) (Err s) p q = ap Err (same_stop (p.means ∙ sym q.means))
 
 -- one pass over a module
 same_tally : (t u : Tally) → found_of t ≡ found_of u → t ≡ u
@@ -102,17 +95,17 @@ same_tally t u e =
     λ i. record { count = (e i).count; section = sections i; payload = payloads i }
 
 pub survey_same : {m : List ℕ} {position : ℕ} {name : List ℕ} (a b : Surveyed) → Surveys m position name a → Surveys m position name b → a ≡ b
-survey_same (Surveyed_whole t) (Surveyed_whole u) p q = ap Surveyed_whole (same_tally t u (accepted_is (p.says ∙ sym q.says)))
-survey_same (Surveyed_whole t) (NotSurveyed r) p q = absurd (not_accepted (sym (p.says ∙ sym q.says)))
-survey_same (NotSurveyed r) (Surveyed_whole t) p q = absurd (not_accepted (p.says ∙ sym q.says))
-survey_same (NotSurveyed r) (NotSurveyed s) p q = ap NotSurveyed (same_judgement (p.says ∙ sym q.says))
+survey_same (Ok t) (Ok u) p q = ap Ok (same_tally t u (accepted_is (p.says ∙ sym q.says)))
+survey_same (Ok t) (Err r) p q = absurd (not_accepted (sym (p.says ∙ sym q.says)))
+survey_same (Err r) (Ok t) p q = absurd (not_accepted (p.says ∙ sym q.says))
+survey_same (Err r) (Err s) p q = ap Err (same_judgement (p.says ∙ sym q.says))
 
 -- the rules
 same_ruling : (v w : Ruling) → ruling v 0 0 [] ≡ ruling w 0 0 [] → v ≡ w
-same_ruling Fine Fine e = refl
-same_ruling Fine (Against r) e = absurd (not_got (sym e))
-same_ruling (Against r) Fine e = absurd (not_got e)
-same_ruling (Against r) (Against s) e = ap Against (told_apart r s cc)
+same_ruling (Ok _) (Ok _) e = refl
+same_ruling (Ok _) (Err r) e = absurd (not_got (sym e))
+same_ruling (Err r) (Ok _) e = absurd (not_got e)
+same_ruling (Err r) (Err s) e = ap Err (told_apart r s cc)
 
 pub id_same : {seen : Seen} {id : ℕ} (v w : Ruling) → IdRuled seen id v → IdRuled seen id w → v ≡ w
 id_same v w p q = same_ruling v w (p.says 0 0 [] ∙ sym (q.says 0 0 []))
@@ -129,13 +122,13 @@ see_same a b p q =
 
 -- what a section is called, from its row
 call_of : Option ℕ → Called
-call_of none = Other
-call_of (some row) = Row row
+call_of none = None
+call_of (some row) = Some row
 
 call_is : (c : Called) → call_of (row_called c) ≡ c
 unfolding call_of
-call_is (Row row) = refl
-call_is Other = refl
+call_is (Some row) = refl
+call_is None = refl
 
 pub called_same : {name : List ℕ} (a b : Called) → Calls name a → Calls name b → a ≡ b
 called_same a b p q = sym (call_is a) ∙ ap call_of (sym p.row_is ∙ q.row_is) ∙ call_is b

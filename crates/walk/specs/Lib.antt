@@ -1,3 +1,4 @@
+pub mod Returned
 pub mod Sections
 pub mod Steps
 pub mod Surveys

@@ -5,21 +5,21 @@ use Rattle.format.specs.Options.{map_some}
 use Rattle.format.specs.Questions.{as_place, answered}
 use Rattle.format.specs.Reading.{map_judged}
 use Rattle.format.specs.Walk.{section_count, section_at, custom_payload}
-use Rattle.format.specs.declared.Answer.{Answer}
+use Rattle.format.specs.Returned.{Answer}
 use Rattle.reading.specs.Cursors.{left}
 use Rattle.reading.specs.declared.Cursor.{Cursor}
 use Rattle.walk.specs.Sections.{Calls, IdRuled, NameRuled, Sees}
 use Rattle.walk.specs.Steps.{Begins, Steps}
 use Rattle.walk.specs.Surveys.{counted, section_answered, section_place, Surveys}
-use Rattle.walk.specs.declared.Counted.{Counted}
-use Rattle.walk.specs.declared.rules.Called.{Called}
+use Rattle.walk.specs.Returned.{Counted}
+use Rattle.walk.specs.Returned.{Called}
 use Rattle.walk.specs.declared.rules.Seen.{Seen}
-use Rattle.walk.specs.declared.rules.Ruling.{Ruling}
-use Rattle.walk.specs.declared.step.Began.{Began}
-use Rattle.walk.specs.declared.step.Step.{Step}
+use Rattle.walk.specs.Returned.{Ruling}
+use Rattle.walk.specs.Returned.{Began}
+use Rattle.walk.specs.Returned.{Step}
 use Rattle.walk.specs.declared.step.Walk.{Walk}
-use Rattle.walk.specs.declared.survey.SectionAnswer.{SectionAnswer}
-use Rattle.walk.specs.declared.survey.Surveyed.{Surveyed}
+use Rattle.walk.specs.Returned.{SectionAnswer}
+use Rattle.walk.specs.Returned.{Surveyed}
 
 -- walk
 abbrev pub WalkCount : (m : List ℕ) → Counted → Type 0

@@ -1,6 +1,6 @@
 -- Rules R3.1 to R3.5 of docs/RULES.md.
 -- What one pass over a module gathers. Assumes nothing.
-use Rattle.std.specs.Prelude.{ℕ, suc, Bool, cond, List, [], ◌∷◌, ◌≡◌, eqb, length}
+use Rattle.std.specs.Prelude.{ℕ, suc, Bool, cond, List, [], ◌∷◌, ◌≡◌, eqb, length, Ok, Err, Some, None}
 use Rattle.std.proofs.Math.Option.{Option, none, some}
 use Rattle.format.specs.Refusals.{number_of}
 use Rattle.format.specs.Reading.{Judged, accepted, refused, map_judged}
@@ -8,19 +8,16 @@ use Rattle.format.specs.Options.{map_some}
 use Rattle.format.specs.Parts.{place_of}
 use Rattle.format.specs.Questions.{answered}
 use Rattle.format.specs.Walk.{Section as AnySection, payload_of, walk, walk_from}
-use Rattle.format.specs.declared.Answer.{Answer}
+use Rattle.format.specs.Returned.{Answer}
 use Rattle.format.specs.declared.Place.{Place}
 use Rattle.walk.specs.Sections.{seen_of, custom_of, section_of}
-use Rattle.walk.specs.declared.Counted.{Counted}
-use Rattle.walk.specs.declared.Counted.TheVariants.{Count, Refused as NotCounted}
-use Rattle.walk.specs.declared.step.Custom.{Custom}
+use Rattle.walk.specs.Returned.{Counted}
+use Rattle.walk.specs.Returned.{Custom}
 use Rattle.walk.specs.declared.step.Section.{Section}
-use Rattle.walk.specs.declared.survey.SectionAnswer.{SectionAnswer}
-use Rattle.walk.specs.declared.survey.SectionAnswer.TheVariants.{None, Found as FoundAt, Refused}
+use Rattle.walk.specs.Returned.{SectionAnswer}
 use Rattle.walk.specs.declared.step.Walk.{Walk}
 use Rattle.walk.specs.declared.survey.SectionPlace.{SectionPlace}
-use Rattle.walk.specs.declared.survey.Surveyed.{Surveyed}
-use Rattle.walk.specs.declared.survey.Surveyed.TheVariants.{Done, Refused as NotSurveyed}
+use Rattle.walk.specs.Returned.{Surveyed}
 use Rattle.walk.specs.declared.survey.Tally.{Tally}
 
 -- a section's id, the offset of its id byte and the length of its contents
@@ -28,9 +25,9 @@ abbrev pub section_place : AnySection → SectionPlace
 section_place s = record { id = s.id; at = record { 0 = s.at }; length = length s.contents.bytes }
 
 abbrev pub section_answered : SectionAnswer → Judged (Option SectionPlace)
-section_answered None = accepted none
-section_answered (FoundAt p) = accepted (some p)
-section_answered (Refused r) = refused (number_of r.reason) r.offset.0
+section_answered (Ok None) = accepted none
+section_answered (Ok (Some p)) = accepted (some p)
+section_answered (Err r) = refused (number_of r.reason) r.offset.0
 
 -- what was found before stays
 abbrev pub or_found : {A : Type 0} → Judged (Option A) → Option A → Judged (Option A)
@@ -70,8 +67,8 @@ abbrev pub found_of : Tally → Found
 found_of t = record { count = t.count; section = section_answered t.section; payload = answered t.payload }
 
 abbrev pub surveyed : Surveyed → Judged Found
-surveyed (Done t) = accepted (found_of t)
-surveyed (NotSurveyed r) = refused (number_of r.reason) r.offset.0
+surveyed (Ok t) = accepted (found_of t)
+surveyed (Err r) = refused (number_of r.reason) r.offset.0
 
 pub record Tallies (m : List ℕ) (position : ℕ) (name : List ℕ) (t : Tally) (s : Section) (r : Tally) : Type 0 where
   pub says : found_of r ≡ find_more position name (found_of t) (section_of m s)
@@ -84,5 +81,5 @@ pub record Surveys (m : List ℕ) (position : ℕ) (name : List ℕ) (r : Survey
 
 -- a count, or a refusal
 abbrev pub counted : Counted → Judged ℕ
-counted (Count n) = accepted n
-counted (NotCounted r) = refused (number_of r.reason) r.offset.0
+counted (Ok n) = accepted n
+counted (Err r) = refused (number_of r.reason) r.offset.0

@@ -3,7 +3,7 @@
 
 ghost use Rattle.walk.specs.Promises.{WalkCount, WalkSectionAt, WalkCustom, WalkCustomJoined};
 
-use crate::survey::{SectionAnswer, Surveyed};
+use crate::survey::SectionAnswer;
 use format::{Answer, Refusal};
 
 pub mod called;
@@ -12,30 +12,22 @@ pub mod rules;
 pub mod step;
 pub mod survey;
 
-#[derive(Clone, Copy)]
-pub enum Counted {
-    Count(usize),
-    Refused(Refusal),
-}
+pub type Counted = Result<usize, Refusal>;
 
 // Judges a whole module, and counts its sections.
 pub fn count(m: &[u8]) -> Counted
     ensures { WalkCount m.now result }
 {
-    match survey::survey(m, 0, b"", b"") {
-        Surveyed::Refused(r) => Counted::Refused(r),
-        Surveyed::Done(found) => Counted::Count(found.count),
-    }
+    let found = survey::survey(m, 0, b"", b"")?;
+    Ok(found.count)
 }
 
 // The section at a position, counted from 0: none past the last.
 pub fn section_at(m: &[u8], position: u64) -> SectionAnswer
     ensures { WalkSectionAt m.now position result }
 {
-    match survey::survey(m, position, b"", b"") {
-        Surveyed::Refused(r) => SectionAnswer::Refused(r),
-        Surveyed::Done(found) => found.section,
-    }
+    let found = survey::survey(m, position, b"", b"")?;
+    found.section
 }
 
 // Where the payload of the first custom section of a name lies.
@@ -49,8 +41,6 @@ pub fn custom(m: &[u8], name: &[u8]) -> Answer
 pub fn custom_joined(m: &[u8], front: &[u8], rest: &[u8]) -> Answer
     ensures { WalkCustomJoined m.now front.now rest.now result }
 {
-    match survey::survey(m, 0, front, rest) {
-        Surveyed::Refused(r) => Answer::Refused(r),
-        Surveyed::Done(found) => found.payload,
-    }
+    let found = survey::survey(m, 0, front, rest)?;
+    found.payload
 }

@@ -33,13 +33,13 @@ pub fn called(s: &[u8], part: Cursor) -> Called
     ensures { WalkCalled s.now part result }
 {
     if is_called(s, part, &NAME_SECTION) {
-        return Called::Row(NAME);
+        return Some(NAME);
     }
     if is_joined(s, part, &METADATA, &BRANCH_HINT) {
-        return Called::Row(HINTS);
+        return Some(HINTS);
     }
     if is_called(s, part, &BRANCH_HINTS) {
-        return Called::Row(OLDER_HINTS);
+        return Some(OLDER_HINTS);
     }
-    Called::Other
+    None
 }

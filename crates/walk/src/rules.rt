@@ -16,17 +16,9 @@ pub struct Seen {
 }
 
 // What a section is called, as far as the rules care: its row.
-#[derive(Clone, Copy)]
-pub enum Called {
-    Row(u8),
-    Other,
-}
+pub type Called = Option<u8>;
 
-#[derive(Clone, Copy)]
-pub enum Ruling {
-    Fine,
-    Against(Reason),
-}
+pub type Ruling = Result<(), Reason>;
 
 pub const CUSTOM: u8 = 0;
 
@@ -68,20 +60,20 @@ pub fn judge_id(seen: Seen, id: u8) -> Ruling
     ensures { WalkJudgeId seen id result }
 {
     if is_unknown(id) {
-        return Ruling::Against(Reason::SectionUnknown);
+        return Err(Reason::SectionUnknown);
     }
     if id == CUSTOM {
-        return Ruling::Fine;
+        return Ok(());
     }
     if rank(id) <= seen.rank {
-        return Ruling::Against(Reason::SectionOrder);
+        return Err(Reason::SectionOrder);
     }
     if id == DATA {
         if has(seen.there, NAME) {
-            return Ruling::Against(Reason::SectionTooLate);
+            return Err(Reason::SectionTooLate);
         }
     }
-    Ruling::Fine
+    Ok(())
 }
 
 // What a custom section's row decides, once its name is read.
@@ -90,17 +82,17 @@ pub fn judge_name(seen: Seen, called: Called) -> Ruling
     ensures { WalkJudgeName seen called result }
 {
     match called {
-        Called::Other => Ruling::Fine,
-        Called::Row(row) => {
+        None => Ok(()),
+        Some(row) => {
             if has(seen.there, row) {
-                return Ruling::Against(Reason::SectionTwice);
+                return Err(Reason::SectionTwice);
             }
             if BEFORE_CODE[row as usize] {
                 if seen.code {
-                    return Ruling::Against(Reason::SectionTooLate);
+                    return Err(Reason::SectionTooLate);
                 }
             }
-            Ruling::Fine
+            Ok(())
         }
     }
 }
@@ -120,8 +112,8 @@ fn there_after(before: u8, called: Called) -> u8
     ensures { ThereAfter before called result }
 {
     match called {
-        Called::Other => before,
-        Called::Row(row) => before | (1 << row),
+        None => before,
+        Some(row) => before | (1 << row),
     }
 }
 

@@ -7,17 +7,13 @@ ghost use Rattle.walk.specs.Promises.{WalkBegin, walk_step};
 
 use crate::called::is_called;
 use crate::rows::called;
-use crate::rules::{CUSTOM, Called, Ruling, Seen, judge_id, judge_name, see};
+use crate::rules::{CUSTOM, Called, Seen, judge_id, judge_name, see};
 use format::{Offset, Reason, Refusal};
+use reading::Cursor;
 use reading::text::is_text;
-use reading::{Cursor, PartRead};
 
 // What a section is beyond its id: a custom one has a name and a payload.
-#[derive(Clone, Copy)]
-pub enum Custom {
-    None,
-    Named(Cursor, Cursor),
-}
+pub type Custom = Option<(Cursor, Cursor)>;
 
 #[derive(Clone, Copy)]
 pub struct Section {
@@ -34,47 +30,28 @@ pub struct Walk {
     pub seen: Seen,
 }
 
-#[derive(Clone, Copy)]
-pub enum Step {
-    Section(Section, Walk),
-    Done,
-    Refused(Refusal),
-}
+pub type Step = Result<Option<(Section, Walk)>, Refusal>;
 
-#[derive(Clone, Copy)]
-pub enum Began {
-    At(Walk),
-    Refused(Refusal),
-}
-
-#[derive(Clone, Copy)]
-enum CustomRead {
-    Read(Custom),
-    Refused(Refusal),
-}
+pub type Began = Result<Walk, Refusal>;
 
 // A custom section's contents begin with a name; the rest is its payload. The name is read here and not by `Cursor::name`,
 // which others call too, so that it is inlined.
-fn read_custom(m: &[u8], id: u8, contents: Cursor) -> CustomRead
+fn read_custom(m: &[u8], id: u8, contents: Cursor) -> Result<Custom, Refusal>
     requires { Inside m.now contents }
     ensures { CustomReads m.now id contents result }
 {
     if id != CUSTOM {
-        return CustomRead::Read(Custom::None);
+        return Ok(None);
     }
-    match contents.sized(m) {
-        PartRead::Refused(r) => CustomRead::Refused(r),
-        PartRead::Part(name, payload, _) => {
-            let text = name.at;
-            if is_text(m, text, name.end) {
-                return CustomRead::Read(Custom::Named(name, payload));
-            }
-            CustomRead::Refused(Refusal {
-                reason: Reason::NotText,
-                offset: Offset(text),
-            })
-        }
+    let (name, payload, _) = contents.sized(m)?;
+    let text = name.at;
+    if is_text(m, text, name.end) {
+        return Ok(Some((name, payload)));
     }
+    Err(Refusal {
+        reason: Reason::NotText,
+        offset: Offset(text),
+    })
 }
 
 // The row of a section.
@@ -82,10 +59,8 @@ fn called_so(m: &[u8], custom: Custom) -> Called
     requires { CustomInside m.now custom }
     ensures { CallsCustom m.now custom result }
 {
-    match custom {
-        Custom::None => Called::Other,
-        Custom::Named(name, _) => called(m, name),
-    }
+    let (name, _) = custom?;
+    called(m, name)
 }
 
 // Behind the size: the custom name, the rules about it, and what is known then.
@@ -93,28 +68,24 @@ fn after_size(m: &[u8], walk: Walk, id: u8, contents: Cursor, next: usize) -> St
     requires { Inside m.now contents × (walk.at < contents.at) × (walk.at < next) × (next ≤ length m.now) }
     ensures { AfterSize m.now walk id contents next result }
 {
-    match read_custom(m, id, contents) {
-        CustomRead::Refused(r) => Step::Refused(r),
-        CustomRead::Read(custom) => {
-            let at = walk.at;
-            let seen = walk.seen;
-            let called = called_so(m, custom);
-            match judge_name(seen, called) {
-                Ruling::Against(reason) => Step::Refused(Refusal {
-                    reason,
-                    offset: Offset(at),
-                }),
-                Ruling::Fine => {
-                    let section = Section {
-                        id,
-                        at: Offset(at),
-                        contents,
-                        custom,
-                    };
-                    let seen = see(seen, id, called);
-                    Step::Section(section, Walk { at: next, seen })
-                }
-            }
+    let custom = read_custom(m, id, contents)?;
+    let at = walk.at;
+    let seen = walk.seen;
+    let called = called_so(m, custom);
+    match judge_name(seen, called) {
+        Err(reason) => Err(Refusal {
+            reason,
+            offset: Offset(at),
+        }),
+        Ok(()) => {
+            let section = Section {
+                id,
+                at: Offset(at),
+                contents,
+                custom,
+            };
+            let seen = see(seen, id, called);
+            Ok(Some((section, Walk { at: next, seen })))
         }
     }
 }
@@ -135,7 +106,7 @@ impl Walk {
         ensures { WalkBegin m.now result }
     {
         if m.len() < PREAMBLE_LENGTH {
-            return Began::Refused(Refusal {
+            return Err(Refusal {
                 reason: Reason::NoPreamble,
                 offset: Offset(0),
             });
@@ -145,12 +116,12 @@ impl Walk {
             end: PREAMBLE_LENGTH,
         };
         if is_called(m, front, &PREAMBLE) {
-            return Began::At(Walk {
+            return Ok(Walk {
                 at: PREAMBLE_LENGTH,
                 seen: NOTHING,
             });
         }
-        Began::Refused(Refusal {
+        Err(Refusal {
             reason: Reason::NoPreamble,
             offset: Offset(0),
         })
@@ -162,25 +133,21 @@ impl Walk {
     {
         let at = self.at;
         if m.len() <= at {
-            return Step::Done;
+            return Ok(None);
         }
         let id = m[at];
         match judge_id(self.seen, id) {
-            Ruling::Against(reason) => Step::Refused(Refusal {
+            Err(reason) => Err(Refusal {
                 reason,
                 offset: Offset(at),
             }),
-            Ruling::Fine => {
+            Ok(()) => {
                 let rest = Cursor {
                     at: at + 1,
                     end: m.len(),
                 };
-                match rest.sized(m) {
-                    PartRead::Refused(r) => Step::Refused(r),
-                    PartRead::Part(contents, next, _) => {
-                        after_size(m, self, id, contents, next.at)
-                    }
-                }
+                let (contents, next, _) = rest.sized(m)?;
+                after_size(m, self, id, contents, next.at)
             }
         }
     }

@@ -5,7 +5,7 @@ ghost use Rattle.walk.specs.Surveys.{SectionKept, PayloadKept, Tallies, SurveysF
 ghost use Rattle.walk.specs.Promises.{WalkSurvey};
 
 use crate::called::is_joined;
-use crate::step::{Began, Custom, Section, Step, Walk};
+use crate::step::{Custom, Section, Walk};
 use format::{Answer, Offset, Place, Refusal};
 
 // A section's id, the offset of its id byte and the length of its contents.
@@ -16,12 +16,7 @@ pub struct SectionPlace {
     pub length: usize,
 }
 
-#[derive(Clone, Copy)]
-pub enum SectionAnswer {
-    None,
-    Found(SectionPlace),
-    Refused(Refusal),
-}
+pub type SectionAnswer = Result<Option<SectionPlace>, Refusal>;
 
 // What a pass has found so far: how many sections, the one at a position, and the first payload of a name.
 #[derive(Clone, Copy)]
@@ -31,31 +26,27 @@ pub struct Tally {
     pub payload: Answer,
 }
 
-#[derive(Clone, Copy)]
-pub enum Surveyed {
-    Done(Tally),
-    Refused(Refusal),
-}
+pub type Surveyed = Result<Tally, Refusal>;
 
 // The section at a position, counted from 0, if it is this one.
 fn keep_section(m: &[u8], before: SectionAnswer, here: bool, s: Section) -> SectionAnswer
     requires { SectionInside m.now s }
     ensures { SectionKept m.now before here s result }
 {
-    match before {
-        SectionAnswer::Found(p) => SectionAnswer::Found(p),
-        SectionAnswer::Refused(r) => SectionAnswer::Refused(r),
-        SectionAnswer::None => {
+    let found = before?;
+    match found {
+        Some(p) => Ok(Some(p)),
+        None => {
             if here {
                 let contents = s.contents;
                 let at = s.at;
-                return SectionAnswer::Found(SectionPlace {
+                return Ok(Some(SectionPlace {
                     id: s.id,
                     at,
                     length: contents.end - contents.at,
-                });
+                }));
             }
-            SectionAnswer::None
+            Ok(None)
         }
     }
 }
@@ -65,20 +56,20 @@ fn keep_payload(m: &[u8], before: Answer, custom: Custom, front: &[u8], rest: &[
     requires { CustomInside m.now custom }
     ensures { PayloadKept m.now before custom (front.now ++ rest.now) result }
 {
-    match before {
-        Answer::Found(p) => Answer::Found(p),
-        Answer::Refused(r) => Answer::Refused(r),
-        Answer::None => match custom {
-            Custom::None => Answer::None,
-            Custom::Named(called, payload) => {
+    let found = before?;
+    match found {
+        Some(p) => Ok(Some(p)),
+        None => match custom {
+            None => Ok(None),
+            Some((called, payload)) => {
                 if is_joined(m, called, front, rest) {
                     let length = payload.end - payload.at;
-                    return Answer::Found(Place {
+                    return Ok(Some(Place {
                         offset: Offset(payload.at),
                         length,
-                    });
+                    }));
                 }
-                Answer::None
+                Ok(None)
             }
         },
     }
@@ -109,31 +100,20 @@ fn survey_from(m: &[u8], first: Walk, position: u64, front: &[u8], rest: &[u8]) 
     let mut walk = first;
     let mut tally = Tally {
         count: 0,
-        section: SectionAnswer::None,
-        payload: Answer::None,
+        section: Ok(None),
+        payload: Ok(None),
     };
-    loop {
-        match walk.step(m) {
-            Step::Refused(r) => {
-                return Surveyed::Refused(r);
-            }
-            Step::Done => {
-                return Surveyed::Done(tally);
-            }
-            Step::Section(s, next) => {
-                tally = tallied(m, tally, s, position, front, rest);
-                walk = next;
-            }
-        }
+    while let Some((s, next)) = walk.step(m)? {
+        tally = tallied(m, tally, s, position, front, rest);
+        walk = next;
     }
+    Ok(tally)
 }
 
 // The count of sections, the section at a position, and the payload of the first custom section of a name.
 pub fn survey(m: &[u8], position: u64, front: &[u8], rest: &[u8]) -> Surveyed
     ensures { WalkSurvey m.now position front.now rest.now result }
 {
-    match Walk::begin(m) {
-        Began::Refused(r) => Surveyed::Refused(r),
-        Began::At(first) => survey_from(m, first, position, front, rest),
-    }
+    let first = Walk::begin(m)?;
+    survey_from(m, first, position, front, rest)
 }

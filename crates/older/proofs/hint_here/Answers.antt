@@ -1,11 +1,12 @@
+use Rattle.format.proofs.Nested.{handed_on}
 use Rattle.older.proofs.Steps.{hint_steps}
 use Rattle.older.proofs.hint_here.Goals as goal
 
-pub returns-in-Refused : goal.returns-in-Refused
-returns-in-Refused c = search hint_steps
+pub returns : goal.returns
+returns c = search (c.in_ok-k.ensures, c.in_ok-offset.ensures, hint_steps)
 
-pub returns-in-Refused-number : goal.returns-in-Refused-number
-returns-in-Refused-number c = search hint_steps
+pub returns-in_err-k : goal.returns-in_err-k
+returns-in_err-k c = search (c.in_err-k.ensures, hint_steps)
 
-pub returns-in-Value-number : goal.returns-in-Value-number
-returns-in-Value-number c = search hint_steps
+pub returns-in_err-offset : goal.returns-in_err-offset
+returns-in_err-offset c = rw (handed_on _ c.from_residual-in_err-offset.ensures) (search (c.in_ok-k.ensures, c.in_err-offset.ensures, hint_steps))

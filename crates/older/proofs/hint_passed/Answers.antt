@@ -1,11 +1,12 @@
+use Rattle.format.proofs.Nested.{handed_on}
 use Rattle.older.proofs.Steps.{hint_steps}
 use Rattle.older.proofs.hint_passed.Goals as goal
 
-pub returns-in-Refused : goal.returns-in-Refused
-returns-in-Refused c = search hint_steps
+pub returns : goal.returns
+returns c = search (c.in_ok-d.ensures, c.in_ok-behind.ensures, hint_steps)
 
-pub returns-in-Refused-number : goal.returns-in-Refused-number
-returns-in-Refused-number c = search hint_steps
+pub returns-in_err-d : goal.returns-in_err-d
+returns-in_err-d c = search (c.in_err-d.ensures, hint_steps)
 
-pub returns-in-Value-number : goal.returns-in-Value-number
-returns-in-Value-number c = search hint_steps
+pub returns-in_err-behind : goal.returns-in_err-behind
+returns-in_err-behind c = rw (handed_on _ c.from_residual-in_err-behind.ensures) (search (c.in_ok-d.ensures, c.in_err-behind.ensures, hint_steps))

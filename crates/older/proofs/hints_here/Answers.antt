@@ -10,8 +10,8 @@ returns-then-sought c = search vector_steps
 pub hints_passed-requires : goal.hints_passed-requires
 hints_passed-requires c = search vector_steps
 
-pub returns-in-Refused : goal.returns-in-Refused
-returns-in-Refused c = search vector_steps
+pub returns : goal.returns
+returns c = search (c.in_ok-n.ensures, vector_steps)
 
-pub returns-else-sought : goal.returns-else-sought
-returns-else-sought c = search vector_steps
+pub returns-in_err-n : goal.returns-in_err-n
+returns-in_err-n c = search (c.in_err-n.ensures, vector_steps)

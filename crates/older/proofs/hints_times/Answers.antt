@@ -1,14 +1,17 @@
+use native.Mathlib.Omega.{arith}
+use Prim.Native.Nat.{◌-◌, ◌<◌, ◌≤◌}
+use Rattle.format.proofs.Nested.{handed_on}
 use Rattle.older.proofs.Steps.{turns}
 use Rattle.older.proofs.hints_times.Goals as goal
 
-pub loop-more-init : goal.loop-more-init
-loop-more-init c = search turns
+pub loop-init : goal.loop-init
+loop-init c = record { left = c.args.n; all = omega arith; holds = search turns }
 
-pub returns-in-Refused : goal.returns-in-Refused
-returns-in-Refused c = search turns
-
-pub loop-more-preserved : goal.loop-more-preserved
-loop-more-preserved c = search turns
+pub loop-preserved : goal.loop-preserved
+loop-preserved c = let t = c.loop.invariant in let h = t.holds in let some : 0 < t.left = omega (arith, t.all, c.loop-test.true) in record { left = t.left - 1; all = omega (arith, t.all, c.loop-test.true); holds = search (c.in_ok-answer.ensures, turns) }
 
 pub returns : goal.returns
-returns c = search turns
+returns c = let t = c.loop.invariant in let h = t.holds in let none : t.left ≤ 0 = omega (arith, t.all, c.loop-test.false) in search turns
+
+pub returns-in_err-answer : goal.returns-in_err-answer
+returns-in_err-answer c = let t = c.loop.invariant in let h = t.holds in let some : 0 < t.left = omega (arith, t.all, c.loop-test.true) in rw (handed_on _ c.from_residual.ensures) (search (c.in_err-answer.ensures, turns))

@@ -1,8 +1,8 @@
 use Rattle.walk.proofs.AnswerLaws.{walk_answers}
 use Rattle.walk.proofs.custom_joined.Goals as goal
 
-pub returns-in-Refused : goal.returns-in-Refused
-returns-in-Refused c = search walk_answers
+pub returns-in_err-found : goal.returns-in_err-found
+returns-in_err-found c = search (c.in_err-found.ensures, walk_answers)
 
-pub returns-in-Done : goal.returns-in-Done
-returns-in-Done c = search walk_answers
+pub returns : goal.returns
+returns c = search (c.in_ok-found.ensures, walk_answers)

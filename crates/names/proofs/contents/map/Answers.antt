@@ -1,8 +1,8 @@
 use Rattle.names.proofs.ContentLaws.{map_steps}
 use Rattle.names.proofs.contents.map.Goals as goal
 
-pub returns-in-Refused : goal.returns-in-Refused
-returns-in-Refused c = search map_steps
+pub returns : goal.returns
+returns c = search (c.in_ok-next.was, map_steps)
 
-pub returns-in-Behind : goal.returns-in-Behind
-returns-in-Behind c = search map_steps
+pub returns-in_err-next : goal.returns-in_err-next
+returns-in_err-next c = search (c.in_err-next.was, map_steps)

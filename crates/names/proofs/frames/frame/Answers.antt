@@ -7,8 +7,8 @@ returns-then-end-at c = search frame_steps
 pub returns-then-wide-least : goal.returns-then-wide-least
 returns-then-wide-least c = search frame_steps
 
-pub returns-in-Refused : goal.returns-in-Refused
-returns-in-Refused c = search frame_steps
+pub returns : goal.returns
+returns c = search (c.in_ok-part.was, frame_steps)
 
-pub returns-in-Part : goal.returns-in-Part
-returns-in-Part c = search frame_steps
+pub returns-in_err-part : goal.returns-in_err-part
+returns-in_err-part c = search (c.in_err-part.was, frame_steps)

@@ -1,21 +1,22 @@
+use Rattle.format.proofs.Nested.{ok_some}
 use Rattle.format.specs.Bytes.{Bytes}
 use Rattle.names.proofs.TellLaws.{tell_turns}
 use Rattle.names.proofs.telling.is_canonical.Goals as goal
 
-pub loop-id-init : goal.loop-id-init
-loop-id-init c = let known : Bytes c.args.p.now = λ i. (c.type_inv.p i).fits in search (tell_turns, known)
+pub loop-read-init : goal.loop-read-init
+loop-read-init c = let known : Bytes c.args.p.now = λ i. (c.type_inv.p i).fits in search (tell_turns, known)
 
-pub returns-in-Refused : goal.returns-in-Refused
-returns-in-Refused c = search tell_turns
+pub loop-read-preserved : goal.loop-read-preserved
+loop-read-preserved c = search tell_turns
 
-pub returns-in-End : goal.returns-in-End
-returns-in-End c = search tell_turns
+pub returns-in_default : goal.returns-in_default
+returns-in_default c = search tell_turns
 
-pub loop-id-preserved : goal.loop-id-preserved
-loop-id-preserved c = search tell_turns
+pub returns-in_default-read : goal.returns-in_default-read
+returns-in_default-read c = search tell_turns
 
-pub returns-else-is_tidy : goal.returns-else-is_tidy
-returns-else-is_tidy c = search tell_turns
+pub returns-then-not-is_tidy : goal.returns-then-not-is_tidy
+returns-then-not-is_tidy c = let e = ok_some c.in-Ok.is c.in-Some.is in search tell_turns
 
-pub returns-else-shortest : goal.returns-else-shortest
-returns-else-shortest c = search tell_turns
+pub returns-then-not-shortest : goal.returns-then-not-shortest
+returns-then-not-shortest c = let e = ok_some c.in-Ok.is c.in-Some.is in search tell_turns

@@ -4,8 +4,8 @@ use Rattle.older.proofs.judging.hints.Goals as goal
 pub hints_times-requires : goal.hints_times-requires
 hints_times-requires c = search vector_steps
 
-pub returns-in-Refused : goal.returns-in-Refused
-returns-in-Refused c = search vector_steps
+pub returns : goal.returns
+returns c = search (c.in_ok-n.ensures, vector_steps)
 
-pub returns-in-Value : goal.returns-in-Value
-returns-in-Value c = search vector_steps
+pub returns-in_err-n : goal.returns-in_err-n
+returns-in_err-n c = search (c.in_err-n.ensures, vector_steps)

@@ -7,11 +7,11 @@ returns-then-has c = search row_rules
 pub returns-then-seen : goal.returns-then-seen
 returns-then-seen c = search row_rules
 
-pub returns-in-Other : goal.returns-in-Other
-returns-in-Other c = search row_rules
-
 pub returns-else-seen : goal.returns-else-seen
 returns-else-seen c = search row_rules
 
 pub returns-else-row : goal.returns-else-row
 returns-else-row c = search row_rules
+
+pub returns-in-None : goal.returns-in-None
+returns-in-None c = search row_rules

@@ -1,5 +1,5 @@
 use Rattle.walk.proofs.RuleLaws.{theres}
 use Rattle.walk.proofs.rules.there_after.Goals as goal
 
-pub returns-in-Row : goal.returns-in-Row
-returns-in-Row c = search theres
+pub returns-in-Some : goal.returns-in-Some
+returns-in-Some c = search theres

@@ -1,8 +1,8 @@
 use Rattle.walk.proofs.StepLaws.{namings}
 use Rattle.walk.proofs.step.called_so.Goals as goal
 
-pub returns-in-None : goal.returns-in-None
-returns-in-None c = search namings
+pub returns-in_err-name : goal.returns-in_err-name
+returns-in_err-name c = search (c.in_err-name.was, namings)
 
-pub returns-in-Named : goal.returns-in-Named
-returns-in-Named c = search namings
+pub returns : goal.returns
+returns c = search (c.in_ok-name.was, namings)

@@ -8,4 +8,4 @@ pub returns-in-None-custom : goal.returns-in-None-custom
 returns-in-None-custom c = search payloads_kept
 
 pub returns-else-is_joined : goal.returns-else-is_joined
-returns-else-is_joined c = search payloads_kept
+returns-else-is_joined c = search (c.in_ok-found.was, payloads_kept)

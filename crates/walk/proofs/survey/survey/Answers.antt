@@ -1,8 +1,8 @@
 use Rattle.walk.proofs.SurveyLaws.{surveys}
 use Rattle.walk.proofs.survey.survey.Goals as goal
 
-pub returns-in-Refused : goal.returns-in-Refused
-returns-in-Refused c = search surveys
+pub returns-in_err-first : goal.returns-in_err-first
+returns-in_err-first c = search (c.in_err-first.ensures, surveys)
 
-pub returns-in-At : goal.returns-in-At
-returns-in-At c = search surveys
+pub returns : goal.returns
+returns c = search (c.in_ok-first.ensures, surveys)

@@ -7,11 +7,11 @@ returns-then-m-at c = search steps
 pub after_size-requires : goal.after_size-requires
 after_size-requires c = search steps
 
-pub returns-in-Against : goal.returns-in-Against
-returns-in-Against c = search steps
+pub returns-in-Err : goal.returns-in-Err
+returns-in-Err c = search (c.in-Err.ensures, steps)
 
-pub returns-in-Refused : goal.returns-in-Refused
-returns-in-Refused c = search steps
+pub returns-in_err-contents-in-Ok : goal.returns-in_err-contents-in-Ok
+returns-in_err-contents-in-Ok c = search (c.in-Ok.ensures, c.in_err-contents-in-Ok.was, steps)
 
-pub returns-in-Part : goal.returns-in-Part
-returns-in-Part c = search steps
+pub returns-in_ok-contents-in-Ok : goal.returns-in_ok-contents-in-Ok
+returns-in_ok-contents-in-Ok c = search (c.in-Ok.ensures, c.in_ok-contents-in-Ok.ensures, steps)
