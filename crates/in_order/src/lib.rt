@@ -62,11 +62,10 @@ fn survey_hints(c: Cursor, s: &[u8], n: u32) -> HintSurvey
     ensures { SurveysHints n s.now c result }
 {
     let mut next = c;
-    let mut more = n;
     let mut rising = true;
     let mut least: u64 = 0;
     let mut length = 0;
-    while 0 < more {
+    for _ in 0..n {
         let hint = hint_here(next, s);
         let offset = hint.offset;
         rising = still_rising(rising, least, offset);
@@ -74,7 +73,6 @@ fn survey_hints(c: Cursor, s: &[u8], n: u32) -> HintSurvey
         least = offset as u64 + 1;
         length = length + KIND_LENGTH + number_length(offset);
         next = hint.next;
-        more = more - 1;
     }
     HintSurvey {
         rising,
@@ -112,12 +110,11 @@ pub fn survey(c: Cursor, s: &[u8], n: u32) -> EntrySurvey
     ensures { InOrderSurvey c s.now n result }
 {
     let mut next = c;
-    let mut more = n;
     let mut rising = true;
     let mut least: u64 = 0;
     let mut kept: u32 = 0;
     let mut length = 0;
-    while 0 < more {
+    for _ in 0..n {
         let entry = function_here(next, s);
         let function = entry.value;
         let count = number_here(entry.next, s);
@@ -128,7 +125,6 @@ pub fn survey(c: Cursor, s: &[u8], n: u32) -> EntrySurvey
         kept = kept + one_if_some(many);
         length = length + entry_length(function, many, hints.length);
         next = hints.next;
-        more = more - 1;
     }
     EntrySurvey {
         rising,
@@ -153,13 +149,11 @@ fn put_hints(out: &mut [u8], at: usize, c: Cursor, s: &[u8], n: u32) -> Put
     ensures { Puts (times older_hint n) hints_bytes s.now c out.old out.new at result }
 {
     let mut next = c;
-    let mut more = n;
     let mut to = at;
-    while 0 < more {
+    for _ in 0..n {
         let hint = hint_here(next, s);
         to = put_hint(out, to, hint.kind, hint.offset);
         next = hint.next;
-        more = more - 1;
     }
     Put { at: to, next }
 }
@@ -184,15 +178,13 @@ pub fn put_entries(out: &mut [u8], at: usize, c: Cursor, s: &[u8], n: u32) -> Pu
     ensures { InOrderPutEntries out.old at c s.now n out.new result }
 {
     let mut next = c;
-    let mut more = n;
     let mut to = at;
-    while 0 < more {
+    for _ in 0..n {
         let entry = function_here(next, s);
         let count = number_here(entry.next, s);
         let put = put_entry(out, to, entry.value, count.next, s, count.value);
         to = put.at;
         next = put.next;
-        more = more - 1;
     }
     Put { at: to, next }
 }

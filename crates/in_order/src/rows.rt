@@ -26,11 +26,10 @@ pub fn survey_rows(c: Cursor, s: &[u8], n: u32) -> RowSurvey
     ensures { InOrderSurveyRows c s.now n result }
 {
     let mut next = c;
-    let mut more = n;
     let mut rising = true;
     let mut least: u64 = 0;
     let mut rows = 0;
-    while 0 < more {
+    for _ in 0..n {
         let entry = function_here(next, s);
         let function = entry.value;
         let count = number_here(entry.next, s);
@@ -41,7 +40,6 @@ pub fn survey_rows(c: Cursor, s: &[u8], n: u32) -> RowSurvey
         least = function as u64 + 1;
         rows = rows + many as usize;
         next = hints.next;
-        more = more - 1;
     }
     RowSurvey { rising, rows, next }
 }
@@ -80,9 +78,8 @@ fn put_hint_rows(
     ensures { PutsRows (times older_hint n) (hints_rows function) s.now c (functions.old ∷ offsets.old ∷ likely.old ∷ []) (functions.new ∷ offsets.new ∷ likely.new ∷ []) at result }
 {
     let mut next = c;
-    let mut more = n;
     let mut to = at;
-    while 0 < more {
+    for _ in 0..n {
         let hint = hint_here(next, s);
         to = put_row(
             &mut *functions,
@@ -94,7 +91,6 @@ fn put_hint_rows(
             hint.kind,
         );
         next = hint.next;
-        more = more - 1;
     }
     Put { at: to, next }
 }
@@ -112,9 +108,8 @@ pub fn put_rows(
     ensures { InOrderPutRows (functions.old ∷ offsets.old ∷ likely.old ∷ []) c s.now n (functions.new ∷ offsets.new ∷ likely.new ∷ []) }
 {
     let mut next = c;
-    let mut more = n;
     let mut to = 0;
-    while 0 < more {
+    for _ in 0..n {
         let entry = function_here(next, s);
         let count = number_here(entry.next, s);
         let put = put_hint_rows(
@@ -129,6 +124,5 @@ pub fn put_rows(
         );
         to = put.at;
         next = put.next;
-        more = more - 1;
     }
 }

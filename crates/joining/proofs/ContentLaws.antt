@@ -1,4 +1,5 @@
 -- Contents of one payload or both, by kind: what stands there, what is left of it as one, and how long that is.
+use Rattle.std.specs.Prelude.{Some, None}
 use Prim.Native.Nat.{ℕ, ◌+◌, ◌-◌, ◌^◌, ◌≤◌, ◌<◌}
 use mathlib.Core.List.{List, ◌++◌}
 use mathlib.Core.Option.{Option, none, some}
@@ -29,27 +30,25 @@ use Rattle.reading.specs.Standing.{TakesPart}
 use Rattle.reading.specs.declared.Cursor.{Cursor}
 use Rattle.reading.specs.declared.again.Piece.{Piece}
 use Rattle.reading.proofs.Standing.{one_value}
-use Rattle.tables.specs.declared.Held.{Held}
-use Rattle.tables.specs.declared.Held.TheVariants.{Nothing, Part as APart}
+use Rattle.tables.specs.Returned.{Held}
 use Rattle.tables.specs.declared.stepping.Rows.{Rows}
 use Rattle.rewrite.specs.Contents.{ContentStands, KnownContent, count_of}
 use Rattle.rewrite.proofs.ContentLaws.{one_made, map_made, groups_made, whole_is, one_content, gone, stays, groups_bytes, one_known}
 use Rattle.joining.specs.Contents.{HeldContent, HeldContents, both_left, sizes_of, left_of, list_to_come, NameLeft, LeftOfBoth}
 use Rattle.joining.specs.Merges.{ShortMaps, MeasuresMaps, ShortGroups, MeasuresGroups}
 use Rattle.joining.specs.Sides.{HeldTable, HeldSmall, HeldCount, HeldRows}
-use Rattle.joining.specs.declared.contents.Left.{Left}
-use Rattle.joining.specs.declared.contents.Left.TheVariants.{Nothing as NoneLeft, Contents}
+use Rattle.joining.specs.Returned.{Left}
 use Rattle.joining.specs.declared.groups.MergedGroups.{MergedGroups}
 use Rattle.joining.specs.declared.maps.Merged.{Merged}
 use Rattle.joining.proofs.HeldLaws.{held_count, merged_bare, merged_items, maps_short, maps_count, maps_length, groups_short, groups_count, groups_length}
 
 -- A list, with its count
 module _ (count rows : ℕ) where
-  pub list_none : count ≡ 0 → NoneLeft ≡ list_to_come count rows
+  pub list_none : count ≡ 0 → None ≡ list_to_come count rows
   unfolding list_to_come
   list_none h = rw h
 
-  pub list_some : {before : ℕ} → (count ≡ 0 → ⊥) → before ≡ length (shortest count) → Contents (record { count = count; length = before + rows }) ≡ list_to_come count rows
+  pub list_some : {before : ℕ} → (count ≡ 0 → ⊥) → before ≡ length (shortest count) → Some (record { count = count; length = before + rows }) ≡ list_to_come count rows
   unfolding list_to_come
   list_some {before} h e = by_test (eqb count 0) (λ t. absurd (h (eqb-true count 0 t))) (λ t. rw (t, e))
 
@@ -60,16 +59,16 @@ pub ruleset lists_left = (list_none, list_some, list_fits, rules)
 
 -- contents that are held are one thing only
 pub one_held : {kind : _} {s : List ℕ} (held : Held) {x y : Option (Content Part)} → HeldContent kind s held x → HeldContent kind s held y → x ≡ y
-one_held Nothing a b = a.holds ∙ sym b.holds
-one_held (APart part) a b = let (c, w, is) = a.holds in let (d, v, is') = b.holds in is ∙ ap some (one_content w v) ∙ sym is'
+one_held None a b = a.holds ∙ sym b.holds
+one_held (Some part) a b = let (c, w, is) = a.holds in let (d, v, is') = b.holds in is ∙ ap some (one_content w v) ∙ sym is'
 
 pub one_left : {kind : _} {s : List ℕ} {first : Held} {o : List ℕ} {second : Held} (h k : HeldContents kind s first o second) → both_left h.ours h.theirs ≡ both_left k.ours k.theirs
 one_left {first = first} {second = second} h k = rw (one_held first h.first_holds k.first_holds, one_held second h.second_holds k.second_holds)
 
 -- they lie in a part whose size has 32 bits
 pub held_small : {kind : _} {s : List ℕ} (held : Held) {x : Option (Content Part)} → HeldContent kind s held x → HeldSmall held
-held_small Nothing h = record { small = tt }
-held_small (APart part) h = let (c, w, is) = h.holds in record { small = omega (arith, w.small, part_length w.inside) }
+held_small None h = record { small = tt }
+held_small (Some part) h = let (c, w, is) = h.holds in record { small = omega (arith, w.small, part_length w.inside) }
 
 -- Maps that are held, if they are
 abbrev pub MapIn : Option (Content Part) → Table Part → Type 0
@@ -82,8 +81,8 @@ pub record HeldMap (s : List ℕ) (held : Held) (x : Option (Content Part)) : Ty
   pub is : MapIn x inner
 
 held_map : {s : List ℕ} (held : Held) {x : Option (Content Part)} → HeldContent name_map s held x → HeldMap s held x
-held_map Nothing h = let none_there = h.holds in record { inner = nil; holds = record { holds = refl }; is = rw none_there refl }
-held_map (APart part) h = let (c, w, there) = h.holds in let m = map_made w in record { inner = m.inner; holds = record { holds = (m.next, m.stands) }; is = rw there m.is }
+held_map None h = let none_there = h.holds in record { inner = nil; holds = record { holds = refl }; is = rw none_there refl }
+held_map (Some part) h = let (c, w, there) = h.holds in let m = map_made w in record { inner = m.inner; holds = record { holds = (m.next, m.stands) }; is = rw there m.is }
 
 maps_both : (x y : Option (Content Part)) (t u : Table Part) → MapIn x t → MapIn y u → both_left x y ≡ trim (names (bare_rows (merged the_first t u)))
 unfolding bare map_table unless_empty
@@ -103,8 +102,8 @@ pub record HeldGroups (s : List ℕ) (held : Held) (x : Option (Content Part)) :
   pub is : GroupsIn x inner
 
 held_groups : {s : List ℕ} (held : Held) {x : Option (Content Part)} → HeldContent indirect_map s held x → HeldGroups s held x
-held_groups Nothing h = let none_there = h.holds in record { inner = nil; holds = record { holds = refl }; is = rw none_there refl }
-held_groups (APart part) h = let (c, w, there) = h.holds in let m = groups_made w in record { inner = m.inner; holds = record { holds = (m.next, m.stands) }; is = rw there m.is }
+held_groups None h = let none_there = h.holds in record { inner = nil; holds = record { holds = refl }; is = rw none_there refl }
+held_groups (Some part) h = let (c, w, there) = h.holds in let m = groups_made w in record { inner = m.inner; holds = record { holds = (m.next, m.stands) }; is = rw there m.is }
 
 groups_both : (x y : Option (Content Part)) (t u : Table (Table Part)) → GroupsIn x t → GroupsIn y u → both_left x y ≡ trim (names_by (bare_items (merged (merged the_first) t u)))
 unfolding bare map_table keep_rows unless_empty
@@ -225,7 +224,7 @@ pub ruleset groups_measured = (our_groups_count, their_groups_count, two_groups_
 
 -- one name
 module _ {s : List ℕ} {part : Cursor} (k : KnownContent one_name s part) where
-  pub name_is_left : {r : Piece} {b : ℕ} → TakesPart s part r → b ≡ length (shortest (r.part.end - r.part.at)) + (r.part.end - r.part.at) → NameLeft s part (Contents (record { count = 0; length = b }))
+  pub name_is_left : {r : Piece} {b : ℕ} → TakesPart s part r → b ≡ length (shortest (r.part.end - r.part.at)) + (r.part.end - r.part.at) → NameLeft s part (Some (record { count = 0; length = b }))
   unfolding bare count_of write_content
   name_is_left {r} p e =
       let m = one_made k.stands in
@@ -236,13 +235,13 @@ pub ruleset name_measured = (one_known, name_is_left, size_fits, size_ordered, r
 
 -- the separate payload's, or else the own one's
 module _ {s : List ℕ} {first : Held} {o : List ℕ} {second : Held} where
-  pub none_left_over : {kind : _} (h : HeldContents kind s first o second) → first ≡ Nothing → second ≡ Nothing → both_left h.ours h.theirs ≡ none
+  pub none_left_over : {kind : _} (h : HeldContents kind s first o second) → first ≡ None → second ≡ None → both_left h.ours h.theirs ≡ none
   none_left_over h e f =
       let p : h.ours ≡ none = rw e at h.first_holds.holds in
       let q : h.theirs ≡ none = rw f at h.second_holds.holds in
       rw (p, q)
 
-  pub none_left : {kind : _} → HeldContents kind s first o second → first ≡ Nothing → second ≡ Nothing → LeftOfBoth kind s first o second NoneLeft
+  pub none_left : {kind : _} → HeldContents kind s first o second → first ≡ None → second ≡ None → LeftOfBoth kind s first o second None
   none_left h e f = record { held = h; is = rw (none_left_over h e f) }
 
 -- where one stands, all that is left is of it
@@ -259,19 +258,19 @@ second_alone : (x y : Option (Content Part)) (c : Content Part) → x ≡ none �
 second_alone x y c e f = rw (e, f)
 
 module _ {kind : _} {s : List ℕ} {held : Held} {x : Option (Content Part)} (h : HeldContent kind s held x) where
-  held_none : held ≡ Nothing → x ≡ none
+  held_none : held ≡ None → x ≡ none
   held_none e = rw e at h.holds
 
-  held_part : {part : Cursor} → held ≡ APart part → (c : Content Part) × ContentStands kind s part c × (x ≡ some c)
+  held_part : {part : Cursor} → held ≡ Some part → (c : Content Part) × ContentStands kind s part c × (x ≡ some c)
   held_part e = rw e at h.holds
 
 module _ {kind : _} {s : List ℕ} {first : Held} {o : List ℕ} {second : Held} (h : HeldContents kind s first o second) where
-  alone_first : {part : Cursor} → first ≡ APart part → ((c : Content Part) → ContentStands kind s part c → (d : Content (List ℕ)) → join_content (bare c) d ≡ bare c) → Alone h s part
+  alone_first : {part : Cursor} → first ≡ Some part → ((c : Content Part) → ContentStands kind s part c → (d : Content (List ℕ)) → join_content (bare c) d ≡ bare c) → Alone h s part
   alone_first {part} e one =
       let (c, w, is) = held_part h.first_holds e in
       record { value = c; stands = w; is = first_alone h.ours h.theirs c is (one c w) }
 
-  alone_second : {part : Cursor} → first ≡ Nothing → second ≡ APart part → Alone h o part
+  alone_second : {part : Cursor} → first ≡ None → second ≡ Some part → Alone h o part
   alone_second {part} e f =
       let p = held_none h.first_holds e in
       let (c, w, is) = held_part h.second_holds f in
@@ -279,55 +278,55 @@ module _ {kind : _} {s : List ℕ} {first : Held} {o : List ℕ} {second : Held}
 
 -- names
 module _ {s : List ℕ} {first : Held} {o : List ℕ} {second : Held} (h : HeldContents one_name s first o second) {part : Cursor} where
-  pub our_name : first ≡ APart part → Alone h s part
+  pub our_name : first ≡ Some part → Alone h s part
   unfolding bare
   our_name e = alone_first h e (λ c w d. let m = one_made w in rw m.is refl)
 
-  pub their_name : first ≡ Nothing → second ≡ APart part → Alone h o part
+  pub their_name : first ≡ None → second ≡ Some part → Alone h o part
   their_name e f = alone_second h e f
 
-  pub our_name_stands : first ≡ APart part → KnownContent one_name s part
+  pub our_name_stands : first ≡ Some part → KnownContent one_name s part
   our_name_stands e = let a = our_name e in record { value = a.value; stands = a.stands }
 
-  pub their_name_stands : first ≡ Nothing → second ≡ APart part → KnownContent one_name o part
+  pub their_name_stands : first ≡ None → second ≡ Some part → KnownContent one_name o part
   their_name_stands e f = let a = their_name e f in record { value = a.value; stands = a.stands }
 
   name_alone : {p : List ℕ} {x : Left} → Alone h p part → NameLeft p part x → LeftOfBoth one_name s first o second x
   name_alone a n = record { held = h; is = n.is ∙ ap (λ (c : Content Part). map_some sizes_of (trim (bare c))) (one_content n.stands a.stands) ∙ ap (map_some sizes_of) (sym a.is) }
 
-  pub our_name_left : {x : Left} → first ≡ APart part → NameLeft s part x → LeftOfBoth one_name s first o second x
+  pub our_name_left : {x : Left} → first ≡ Some part → NameLeft s part x → LeftOfBoth one_name s first o second x
   our_name_left e n = name_alone (our_name e) n
 
-  pub their_name_left : {x : Left} → first ≡ Nothing → second ≡ APart part → NameLeft o part x → LeftOfBoth one_name s first o second x
+  pub their_name_left : {x : Left} → first ≡ None → second ≡ Some part → NameLeft o part x → LeftOfBoth one_name s first o second x
   their_name_left e f n = name_alone (their_name e f) n
 
 pub ruleset names_measured = (our_name_stands, their_name_stands, our_name_left, their_name_left, none_left, rules)
 
 -- kept contents
 module _ {s : List ℕ} {first : Held} {o : List ℕ} {second : Held} (h : HeldContents kept s first o second) {part : Cursor} where
-  pub our_kept : first ≡ APart part → Alone h s part
+  pub our_kept : first ≡ Some part → Alone h s part
   unfolding bare
   our_kept e = alone_first h e (λ c w d. rw (whole_is w) refl)
 
-  pub their_kept : first ≡ Nothing → second ≡ APart part → Alone h o part
+  pub their_kept : first ≡ None → second ≡ Some part → Alone h o part
   their_kept e f = alone_second h e f
 
-  pub our_kept_ordered : first ≡ APart part → part.at ≤ part.end
+  pub our_kept_ordered : first ≡ Some part → part.at ≤ part.end
   our_kept_ordered e = (our_kept e).stands.inside.ahead
 
-  pub their_kept_ordered : first ≡ Nothing → second ≡ APart part → part.at ≤ part.end
+  pub their_kept_ordered : first ≡ None → second ≡ Some part → part.at ≤ part.end
   their_kept_ordered e f = (their_kept e f).stands.inside.ahead
 
-  kept_alone : {p : List ℕ} → Alone h p part → LeftOfBoth kept s first o second (Contents (record { count = 0; length = part.end - part.at }))
+  kept_alone : {p : List ℕ} → Alone h p part → LeftOfBoth kept s first o second (Some (record { count = 0; length = part.end - part.at }))
   unfolding bare count_of write_content
   kept_alone {p} a =
       let w = a.stands in
       record { held = h; is = rw (a.is, whole_is w) (ap some (λ i. record { count = 0; length = sym (length-slice part.at part.end p w.inside.within) i })) }
 
-  pub our_kept_left : first ≡ APart part → LeftOfBoth kept s first o second (Contents (record { count = 0; length = part.end - part.at }))
+  pub our_kept_left : first ≡ Some part → LeftOfBoth kept s first o second (Some (record { count = 0; length = part.end - part.at }))
   our_kept_left e = kept_alone (our_kept e)
 
-  pub their_kept_left : first ≡ Nothing → second ≡ APart part → LeftOfBoth kept s first o second (Contents (record { count = 0; length = part.end - part.at }))
+  pub their_kept_left : first ≡ None → second ≡ Some part → LeftOfBoth kept s first o second (Some (record { count = 0; length = part.end - part.at }))
   their_kept_left e f = kept_alone (their_kept e f)
 
 pub ruleset kept_measured = (our_kept_ordered, their_kept_ordered, our_kept_left, their_kept_left, none_left, rules)

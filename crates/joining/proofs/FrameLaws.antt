@@ -1,4 +1,5 @@
 -- What comes next of two payloads, by what comes next of each; and what is to come of a payload that was accepted.
+use Rattle.std.specs.Prelude.{Option as Found, Some, None}
 use Prim.Native.Nat.{ℕ, suc, ◌+◌, ◌-◌, ◌≤◌, ◌<◌}
 use mathlib.Core.List.{List}
 use mathlib.Core.Option.{Option, none, some}
@@ -6,7 +7,6 @@ use mathlib.Core.Path.{◌≡◌, refl}
 use native.Mathlib.Omega.{arith}
 use borrow.Author.Rules.{rules}
 use borrow.Author.Tests.{ltb-true, ltb-false}
-use denote.Enum.Declared.{tag_of}
 use lib.Dec.{ltb}
 use lib.ListN.{get_or}
 use Rattle.copying.proofs.Laws.{part_length}
@@ -23,73 +23,67 @@ use Rattle.reading.specs.Cursors.{left}
 use Rattle.reading.specs.Standing.{Known, TakesPart}
 use Rattle.reading.specs.declared.Cursor.{Cursor}
 use Rattle.reading.specs.declared.again.Piece.{Piece}
-use Rattle.tables.specs.declared.Held.{Held}
-use Rattle.tables.specs.declared.Held.TheVariants.{Nothing, Part as APart}
+use Rattle.tables.specs.Returned.{Held}
 use Rattle.rewrite.specs.Subsections.{PayloadStands}
 use Rattle.rewrite.proofs.SubsectionLaws.{nothing_to_come, front, frame_known, content_known, onward}
 use Rattle.joining.specs.Contents.{HeldContent}
 use Rattle.joining.specs.Subsections.{KnownFrames, FrameStands, FrameHere, FrameTaken, SubsectionNext}
-use Rattle.joining.specs.declared.subsections.NextFrame.{NextFrame}
-use Rattle.joining.specs.declared.subsections.NextFrame.TheVariants.{End as NoFrame, Frame}
-use Rattle.joining.specs.declared.subsections.NextSubsection.TheVariants.{End, Subsection}
-use Rattle.joining.specs.contracts.subsections.NextFrame as frame_type
 
 -- A frame
 module _ {s : List ℕ} {c : Cursor} (k : KnownFrames s c) where
-  pub frame_none : c.end ≤ c.at → FrameHere s c NoFrame
+  pub frame_none : c.end ≤ c.at → FrameHere s c None
   frame_none h = record { here = h }
 
   module _ (h : c.at < c.end) where
     pub frame_contents : Known sized s (record { at = c.at + 1; end = c.end })
     frame_contents = k.known h
 
-    pub frame_some : {r : Piece} → TakesPart s (record { at = c.at + 1; end = c.end }) r → FrameHere s c (Frame (get_or s c.at 0) r.part r.next)
+    pub frame_some : {r : Piece} → TakesPart s (record { at = c.at + 1; end = c.end }) r → FrameHere s c (Some ((get_or s c.at 0), r.part, r.next))
     frame_some p = record { here = record { ahead = h; id_is = refl; contents = p } }
 
 pub ruleset framed = (frame_none, frame_contents, frame_some, rules)
 
 -- for callers
-no_frame : {s : List ℕ} {c : Cursor} (x : NextFrame) → FrameHere s c x → tag_of frame_type.the_type x ≡ 0 → c.end ≤ c.at
-no_frame NoFrame r h = r.here
-no_frame (Frame id part after) r h = absurd (omega arith)
+no_frame : {s : List ℕ} {c : Cursor} {x : Found (ℕ × Cursor × Cursor)} → FrameHere s c x → x ≡ None → c.end ≤ c.at
+no_frame r e = rw e at r.here
 
-a_frame : {s : List ℕ} {c : Cursor} {x : NextFrame} {id : ℕ} {part next : Cursor} → FrameHere s c x → x ≡ Frame id part next → FrameStands s c id part next
+a_frame : {s : List ℕ} {c : Cursor} {x : Found (ℕ × Cursor × Cursor)} {id : ℕ} {part next : Cursor} → FrameHere s c x → x ≡ Some (id, part, next) → FrameStands s c id part next
 a_frame r e = rw e at r.here
 
 frame_less : {s : List ℕ} {c : Cursor} {id : ℕ} {part next : Cursor} → FrameStands s c id part next → next.end - next.at < c.end - c.at
 frame_less {s} {c} f = let w = f.contents.stands in omega (arith, (sized_codec.sound (behind_id c).at (left s (behind_id c)) w.reads).shorter, part_length w.inside, part_length w.behind, w.same_end, w.behind.ahead, f.ahead)
 
 -- Two of them
-module _ {s : List ℕ} {c : Cursor} {o : List ℕ} {d : Cursor} {x y : NextFrame} (p : FrameHere s c x) (q : FrameHere o d y) where
-  pub both_end : tag_of frame_type.the_type x ≡ 0 → tag_of frame_type.the_type y ≡ 0 → SubsectionNext s c o d End
-  both_end g h = record { steps = (no_frame x p g, no_frame y q h) }
+module _ {s : List ℕ} {c : Cursor} {o : List ℕ} {d : Cursor} {x y : Found (ℕ × Cursor × Cursor)} (p : FrameHere s c x) (q : FrameHere o d y) where
+  pub both_end : x ≡ None → y ≡ None → SubsectionNext s c o d None
+  both_end g h = record { steps = (no_frame p g, no_frame q h) }
 
-  module _ {i : ℕ} {part next : Cursor} (e : x ≡ Frame i part next) where
-    ours : (d.at < d.end → i < get_or o d.at 0) → SubsectionNext s c o d (Subsection i (APart part) Nothing next d)
+  module _ {i : ℕ} {part next : Cursor} (e : x ≡ Some (i, part, next)) where
+    ours : (d.at < d.end → i < get_or o d.at 0) → SubsectionNext s c o d (Some (record { id = i; first = Some part; second = None; next = next; after = d }))
     ours above =
         let f = a_frame p e in
         record { steps = record { first_taken = record { taken = f }; second_taken = record { taken = (refl, above) }; fewer = omega (arith, frame_less f) } }
 
-    pub ours_alone : tag_of frame_type.the_type y ≡ 0 → SubsectionNext s c o d (Subsection i (APart part) Nothing next d)
-    ours_alone h = ours (λ l. absurd (omega (arith, no_frame y q h, l)))
+    pub ours_alone : y ≡ None → SubsectionNext s c o d (Some (record { id = i; first = Some part; second = None; next = next; after = d }))
+    ours_alone h = ours (λ l. absurd (omega (arith, no_frame q h, l)))
 
-    pub ours_first : {j : ℕ} {other after : Cursor} → y ≡ Frame j other after → i < j → SubsectionNext s c o d (Subsection i (APart part) Nothing next d)
+    pub ours_first : {j : ℕ} {other after : Cursor} → y ≡ Some (j, other, after) → i < j → SubsectionNext s c o d (Some (record { id = i; first = Some part; second = None; next = next; after = d }))
     ours_first g h = let f = a_frame q g in ours (λ l. omega (arith, f.id_is, h))
 
-  module _ {j : ℕ} {other after : Cursor} (e : y ≡ Frame j other after) where
-    theirs : (c.at < c.end → j < get_or s c.at 0) → SubsectionNext s c o d (Subsection j Nothing (APart other) c after)
+  module _ {j : ℕ} {other after : Cursor} (e : y ≡ Some (j, other, after)) where
+    theirs : (c.at < c.end → j < get_or s c.at 0) → SubsectionNext s c o d (Some (record { id = j; first = None; second = Some other; next = c; after = after }))
     theirs above =
         let f = a_frame q e in
         record { steps = record { first_taken = record { taken = (refl, above) }; second_taken = record { taken = f }; fewer = omega (arith, frame_less f) } }
 
-    pub theirs_alone : tag_of frame_type.the_type x ≡ 0 → SubsectionNext s c o d (Subsection j Nothing (APart other) c after)
-    theirs_alone h = theirs (λ l. absurd (omega (arith, no_frame x p h, l)))
+    pub theirs_alone : x ≡ None → SubsectionNext s c o d (Some (record { id = j; first = None; second = Some other; next = c; after = after }))
+    theirs_alone h = theirs (λ l. absurd (omega (arith, no_frame p h, l)))
 
-    pub theirs_first : {i : ℕ} {part next : Cursor} → x ≡ Frame i part next → j < i → SubsectionNext s c o d (Subsection j Nothing (APart other) c after)
+    pub theirs_first : {i : ℕ} {part next : Cursor} → x ≡ Some (i, part, next) → j < i → SubsectionNext s c o d (Some (record { id = j; first = None; second = Some other; next = c; after = after }))
     theirs_first g h = let f = a_frame p g in theirs (λ l. omega (arith, f.id_is, h))
 
-  module _ {i j : ℕ} {part next other after : Cursor} (e : x ≡ Frame i part next) (g : y ≡ Frame j other after) where
-    pub of_both : j ≤ i → i ≤ j → SubsectionNext s c o d (Subsection i (APart part) (APart other) next after)
+  module _ {i j : ℕ} {part next other after : Cursor} (e : x ≡ Some (i, part, next)) (g : y ≡ Some (j, other, after)) where
+    pub of_both : j ≤ i → i ≤ j → SubsectionNext s c o d (Some (record { id = i; first = Some part; second = Some other; next = next; after = after }))
     of_both h k =
         let f = a_frame p e in
         let f' : FrameStands o d i other after = rw (← same) at (a_frame q g) in
@@ -139,10 +133,10 @@ module _ {kind_of : ℕ → Kind} {s : List ℕ} {c : Cursor} {t : Table (Conten
       (λ z. rw (nothing_to_come w (ltb-false c.at c.end z)) end)
 
   pub side : {next : Cursor} (held : Held) → FrameTaken s c id held next → Side kind_of s t id held next
-  side Nothing f =
+  side None f =
       let (same, above) = f.taken in
       record { value = none; holds = record { holds = refl }; more = t; stands = rw same w; parted = (refl, above_all above) }
-  side {next} (APart part) f =
+  side {next} (Some part) f =
       let a = f.taken in
       let there : FrameThere s c (record { id = id; part = part; next = next }) = record { id_is = a.id_is; contents = a.contents } in
       let k = content_known w a.ahead there in

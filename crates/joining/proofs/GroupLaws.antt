@@ -1,10 +1,10 @@
 -- Two lists of groups as one: the loops that measure and write it.
+use Rattle.std.specs.Prelude.{Option, Some, None}
 use Prim.Native.Nat.{ℕ, suc, ◌+◌, ◌^◌, ◌≤◌, ◌<◌}
 use mathlib.Core.List.{List, [], ◌++◌}
 use mathlib.Core.Path.{◌≡◌, refl, sym, ap, ◌∙◌}
 use native.Mathlib.Omega.{arith}
 use borrow.Author.Rules.{rules}
-use denote.Enum.Declared.{tag_of}
 use lib.ListN.{length, length-append}
 use Rattle.copying.specs.Bytes.{bare_rows, rows_of, group_of, group_length, one_if_some, kept_groups, groups_of}
 use Rattle.copying.proofs.Laws.{rows_nil, groups_nil, none_kept, groups_row, kept_row, group_is, group_bytes, group_nil}
@@ -17,7 +17,7 @@ use Rattle.format.specs.Tables.{Table, nil, row, size, map_table, table}
 use Rattle.format.proofs.Laws.Numbers.{shortest_positive}
 use Rattle.reading.specs.declared.Cursor.{Cursor}
 use Rattle.reading.proofs.Standing.{one_value}
-use Rattle.tables.specs.declared.Held.{Held}
+use Rattle.tables.specs.Returned.{Held}
 use Rattle.tables.specs.declared.stepping.Rows.{Rows}
 use Rattle.writing.specs.Wrote.{Wrote}
 use Rattle.writing.proofs.Laws.{wrote_nothing, wrote_join, wrote_length}
@@ -25,12 +25,9 @@ use Rattle.writing.proofs.NumberLaws.{takes_five}
 use Rattle.joining.specs.Sides.{HeldCount, HeldRows, HeldMaps, Sides, Parted, Room}
 use Rattle.joining.specs.Steps.{behind_taken, passed_by, Taken, TakesGroups, GroupNext}
 use Rattle.joining.specs.Merges.{ShortMaps, MeasuresMaps, RoomForMaps, PutsMaps, ShortGroups, MeasuresGroups, RoomForGroups, PutsGroups, RoomForGroup, PutsGroup, ShortGroup, MeasuresGroup, RoomForHeld, PutsHeld}
-use Rattle.joining.specs.declared.rows.NextGroup.{NextGroup}
-use Rattle.joining.specs.declared.rows.NextGroup.TheVariants.{End, Group}
 use Rattle.joining.specs.declared.groups.OneGroup.{OneGroup}
 use Rattle.joining.specs.declared.groups.PutGroup.{PutGroup}
 use Rattle.joining.specs.declared.maps.Merged.{Merged}
-use Rattle.joining.specs.contracts.rows.NextGroup as group_type
 use Rattle.joining.proofs.WayLaws.{Form, Measuring, Putting, all_of, way_sides, all_sides, measuring_none, putting_none, measured_all, counted_all, measuring_on, total_short, counted_short, put_all, row_room, row_short, putting_none_all, putting_on, putting_on_all}
 use Rattle.joining.proofs.MapLaws.{rows_least}
 use Rattle.joining.proofs.HeldLaws.{held_count, held_end, held_sides, held_same, held_passed}
@@ -92,11 +89,10 @@ rows_in_group k (row i p t) =
 
 -- What comes next, for callers
 module _ {s : List ℕ} {left : Rows} {o : List ℕ} {right : Rows} where
-  no_next_group : (x : NextGroup) → GroupNext s left o right x → tag_of group_type.the_type x ≡ 0 → (left.more ≡ 0) × (right.more ≡ 0)
-  no_next_group End r h = r.steps
-  no_next_group (Group k first second) r h = absurd (omega arith)
+  no_next_group : {x : Option (ℕ × Held × Held)} → GroupNext s left o right x → x ≡ None → (left.more ≡ 0) × (right.more ≡ 0)
+  no_next_group r e = rw e at r.steps
 
-  module _ {x : NextGroup} {k : ℕ} {first second : Held} (r : GroupNext s left o right x) (e : x ≡ Group k first second) where
+  module _ {x : Option (ℕ × Held × Held)} {k : ℕ} {first second : Held} (r : GroupNext s left o right x) (e : x ≡ Some (k, first, second)) where
     next_group : TakesGroups s left o right k first second
     next_group = rw e at r.steps
 
@@ -189,13 +185,13 @@ module _ {s : List ℕ} {begun : Rows} {o : List ℕ} {begun' left right : Rows}
   pub groups_known : Sides (table sized) s left o right
   groups_known = way_sides t.so.way
 
-  module _ {x : NextGroup} (r : GroupNext s left o right x) where
-    pub groups_measured : tag_of group_type.the_type x ≡ 0 → MeasuresGroups s begun o begun' (record { kept = kept; length = total })
+  module _ {x : Option (ℕ × Held × Held)} (r : GroupNext s left o right x) where
+    pub groups_measured : x ≡ None → MeasuresGroups s begun o begun' (record { kept = kept; length = total })
     groups_measured h =
-        let (g, g') = no_next_group x r h in
+        let (g, g') = no_next_group r h in
         record { sides = all_sides t.so.way; many = counted_all groups_form t.so g g'; long = measured_all groups_form t.so g g' }
 
-    module _ {k : ℕ} {first second : Held} (e : x ≡ Group k first second) where
+    module _ {k : ℕ} {first second : Held} (e : x ≡ Some (k, first, second)) where
       pub group_short : ShortGroup k s first o second
       group_short =
           let m = (next_group r e).maps in
@@ -306,11 +302,11 @@ module _ {s : List ℕ} {begun : Rows} {o : List ℕ} {begun' : Rows} {old : Lis
   pub groups_put_length : length new ≡ length old
   groups_put_length = wrote_length t.so.so_far
 
-  module _ {x : NextGroup} (r : GroupNext s left o right x) where
-    pub groups_put : tag_of group_type.the_type x ≡ 0 → PutsGroups s begun o begun' old new start at
-    groups_put h = let (g, g') = no_next_group x r h in put_all groups_form t.so g g'
+  module _ {x : Option (ℕ × Held × Held)} (r : GroupNext s left o right x) where
+    pub groups_put : x ≡ None → PutsGroups s begun o begun' old new start at
+    groups_put h = let (g, g') = no_next_group r h in put_all groups_form t.so g g'
 
-    module _ {k : ℕ} {first second : Held} (e : x ≡ Group k first second) where
+    module _ {k : ℕ} {first second : Held} (e : x ≡ Some (k, first, second)) where
       pub held_room : RoomForHeld k s first o second new at
       held_room =
           let m = (next_group r e).maps in

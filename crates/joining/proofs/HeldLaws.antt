@@ -1,4 +1,5 @@
 -- Tables that may be missing: their counts, their rows, and how long two of them are as one.
+use Rattle.std.specs.Prelude.{Some, None}
 use Prim.Native.Nat.{ℕ, ◌+◌, ◌≤◌, ◌<◌}
 use mathlib.Core.List.{List}
 use mathlib.Core.Path.{◌≡◌, refl, sym, ap, ◌∙◌}
@@ -19,8 +20,7 @@ use Rattle.reading.specs.Cursors.{left as left_of}
 use Rattle.reading.specs.Standing.{Stands}
 use Rattle.reading.specs.declared.Cursor.{Cursor}
 use Rattle.reading.proofs.Standing.{one_value}
-use Rattle.tables.specs.declared.Held.{Held}
-use Rattle.tables.specs.declared.Held.TheVariants.{Nothing, Part as APart}
+use Rattle.tables.specs.Returned.{Held}
 use Rattle.tables.specs.declared.stepping.Rows.{Rows}
 use Rattle.tables.proofs.Accepted.{no_rows_lem, known_count, table_rows, rows_table}
 use Rattle.writing.specs.Wrote.{Wrote}
@@ -37,12 +37,12 @@ nothing_stands read s = record { inside = record { ahead = omega arith; within =
 
 module _ {A : Type 0} (read : Reader A) {s : List ℕ} {t : Table A} where
   pub held_count : (held : Held) → HeldTable read s held t → HeldCount s held
-  held_count Nothing w = record { known = tt }
-  held_count (APart c) w = record { known = known_count read w.holds.1 }
+  held_count None w = record { known = tt }
+  held_count (Some c) w = record { known = known_count read w.holds.1 }
 
   pub held_rows : (held : Held) {r : Rows} → HeldTable read s held t → HeldRows s held r → (last : Cursor) × Stands (rows read r.more 0) s r.next t last
-  held_rows Nothing w a = let none = w.holds in let is = a.opens in rw (none, is) (no_rows.next, nothing_stands read s)
-  held_rows (APart c) w a = (w.holds.0, table_rows read a.opens w.holds.1)
+  held_rows None w a = let none = w.holds in let is = a.opens in rw (none, is) (no_rows.next, nothing_stands read s)
+  held_rows (Some c) w a = (w.holds.0, table_rows read a.opens w.holds.1)
 
 module _ {A : Type 0} {read : Reader A} {s o : List ℕ} {first second : Held} {ours theirs : Table A} {left right : Rows} where
   -- side by side
@@ -54,20 +54,20 @@ module _ {A : Type 0} {read : Reader A} {s o : List ℕ} {first second : Held} {
 
 -- a map that is held ends somewhere
 pub held_end : {s : List ℕ} {t : Table Part} (held : Held) → HeldTable sized s held t → (next : Cursor) × passed_by s held t next
-held_end Nothing w = (no_rows.next, tt)
-held_end (APart c) w = w.holds
+held_end None w = (no_rows.next, tt)
+held_end (Some c) w = w.holds
 
 -- only one table can be held
 pub held_same : {A : Type 0} {read : Reader A} {s : List ℕ} {t u : Table A} (held : Held) → HeldTable read s held t → HeldTable read s held u → t ≡ u
-held_same Nothing w v = w.holds ∙ sym v.holds
-held_same (APart c) w v = one_value w.holds.1 v.holds.1
+held_same None w v = w.holds ∙ sym v.holds
+held_same (Some c) w v = one_value w.holds.1 v.holds.1
 
 -- the rows of a map were passed
 pub held_passed : {s : List ℕ} {t v : Table Part} {r : Rows} {next : Cursor} (held : Held) → HeldTable sized s held t → HeldRows s held r → Stands (rows sized r.more 0) s r.next v next → (t ≡ v) × passed_by s held t next
-held_passed {s} {t} {v} {r} {next} Nothing w a d =
+held_passed {s} {t} {v} {r} {next} None w a d =
     let none : Stands (rows sized 0 0) s no_rows.next v next = rw a.opens at d in
     (w.holds ∙ sym (no_rows_lem sized 0 none), tt)
-held_passed {s} {t} {v} {r} {next} (APart c) w a d =
+held_passed {s} {t} {v} {r} {next} (Some c) w a d =
     let there : Stands (table sized) s c v next = rows_table sized a.opens d in
     let same : t ≡ v = one_value w.holds.1 there in
     (same, rw same there)
@@ -101,14 +101,14 @@ module _ {s : List ℕ} {left : Rows} {o : List ℕ} {right : Rows} (w : Sides (
 -- one of them
 module _ {s : List ℕ} {r : Rows} where
   map_small : {t : Table Part} (held : Held) → HeldSmall held → HeldTable sized s held t → HeldRows s held r → length (rows_of t) < limit32
-  map_small Nothing i w a = let none = w.holds in rw (none, rows_nil) (omega arith)
-  map_small (APart c) i w a =
+  map_small None i w a = let none = w.holds in rw (none, rows_nil) (omega arith)
+  map_small (Some c) i w a =
       let d = table_rows sized a.opens w.holds.1 in
       omega (arith, i.small, rows_shorter r.more 0 d, number_shorter a.opens, d.behind.ahead, d.same_end, a.opens.same_end)
 
   groups_small : {t : Table (Table Part)} (held : Held) → HeldSmall held → HeldTable (table sized) s held t → HeldRows s held r → length (groups_of t) < limit32
-  groups_small Nothing i w a = let none = w.holds in rw (none, groups_nil) (omega arith)
-  groups_small (APart c) i w a =
+  groups_small None i w a = let none = w.holds in rw (none, groups_nil) (omega arith)
+  groups_small (Some c) i w a =
       let d = table_rows (table sized) a.opens w.holds.1 in
       omega (arith, i.small, groups_shorter r.more 0 d, number_shorter a.opens, d.behind.ahead, d.same_end, a.opens.same_end)
 

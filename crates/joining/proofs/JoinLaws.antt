@@ -1,4 +1,6 @@
 -- The two payloads: each judged whole, then joined.
+use Rattle.format.specs.declared.JoinRefusal.TheVariants.{Payload}
+use Rattle.std.specs.Prelude.{Ok, Err}
 use Prim.Native.Nat.{ℕ, ◌+◌, ◌-◌, ◌<◌}
 use mathlib.Core.Bool.{Bool, true, false}
 use mathlib.Core.List.{List}
@@ -6,7 +8,6 @@ use mathlib.Core.Path.{◌≡◌, refl}
 use native.Mathlib.Omega.{arith}
 use borrow.Author.Rules.{rules}
 use borrow.Author.Tests.{leb-true}
-use denote.Enum.Declared.{tag_of}
 use lib.Dec.{leb}
 use lib.ListN.{length}
 use Rattle.format.specs.Joined.{joined_contents, write_joined, join_names, JoinWrites}
@@ -17,17 +18,15 @@ use Rattle.format.specs.Names.{Kind, Content, payload, judge_names}
 use Rattle.format.specs.Parts.{Part}
 use Rattle.format.specs.Reading.{accepted, verdict, Accepted as IsAccepted}
 use Rattle.format.specs.Tables.{Table}
-use Rattle.format.specs.Verdicts.{verdict_of, refusal_in}
+use Rattle.format.specs.Verdicts.{verdict_of}
 use Rattle.format.specs.Laws.Outcomes.{judged}
 use Rattle.format.specs.Laws.PairAnswers.{join_refused}
 use Rattle.format.specs.Laws.Pairs.{separate_exactly, own_exactly}
-use Rattle.format.specs.declared.JoinWritten.{JoinWritten}
-use Rattle.format.specs.declared.JoinWritten.TheVariants.{Length as Joined, PayloadRefused}
+use Rattle.format.specs.Returned.{JoinWritten}
 use Rattle.format.specs.declared.Refusal.{Refusal}
-use Rattle.format.specs.declared.Verdict.{Verdict}
+use Rattle.format.specs.Returned.{Verdict}
 use Rattle.format.specs.declared.Whose.TheVariants.{Separate, Own}
 use Rattle.format.proofs.Tags.{judged_refused, judged_accepted}
-use Rattle.format.specs.contracts.Verdict as verdict_type
 use Rattle.reading.specs.Cursors.{over_all}
 use Rattle.reading.specs.declared.Cursor.{Cursor}
 use Rattle.reading.proofs.Laws.{left_all, over_inside}
@@ -48,19 +47,19 @@ module _ (kind_of : ℕ → Kind) (s : List ℕ) where
   whole_judged over w = rw (rw (over, left_all s) at w.reads)
 
 -- the separate one
-pub separate_refused : (kind_of : ℕ → Kind) (s o : List ℕ) (v : Verdict) → verdict_of v ≡ verdict (judge_names kind_of 0 s) → {old : List ℕ} {r : Refusal} → tag_of verdict_type.the_type v ≡ 1 → r ≡ refusal_in v → JoinWrites (join_names kind_of s o) old old (PayloadRefused Separate r)
+pub separate_refused : (kind_of : ℕ → Kind) (s o : List ℕ) (v : Verdict) → verdict_of v ≡ verdict (judge_names kind_of 0 s) → {old : List ℕ} {r : Refusal} → v ≡ Err r → JoinWrites (join_names kind_of s o) old old (Err (Payload Separate r))
 unfolding join_names
-separate_refused kind_of s o v says h is = rw is (join_refused ((separate_exactly write_joined (judge_names kind_of 0 s) (judge_names kind_of 0 o)).1 (judged_refused v (judge_names kind_of 0 s) says h)))
+separate_refused kind_of s o v says h = join_refused ((separate_exactly write_joined (judge_names kind_of 0 s) (judge_names kind_of 0 o)).1 (judged_refused v (judge_names kind_of 0 s) says h))
 
-pub is_accepted : (kind_of : ℕ → Kind) (s : List ℕ) (v : Verdict) → verdict_of v ≡ verdict (judge_names kind_of 0 s) → tag_of verdict_type.the_type v ≡ 0 → IsAccepted (judge_names kind_of 0) s
+pub is_accepted : (kind_of : ℕ → Kind) (s : List ℕ) (v : Verdict) → verdict_of v ≡ verdict (judge_names kind_of 0 s) → v ≡ Ok tt → IsAccepted (judge_names kind_of 0) s
 is_accepted kind_of s v says h = let (t, e) = judged_accepted v (judge_names kind_of 0 s) says h in record { value = t; judged = e }
 
 pub ruleset joins = (separate_refused, is_accepted, wrote_length, rules)
 
 -- then the own one
-pub own_refused : (kind_of : ℕ → Kind) (s o : List ℕ) (v : Verdict) → IsAccepted (judge_names kind_of 0) s → verdict_of v ≡ verdict (judge_names kind_of 0 o) → {old : List ℕ} {r : Refusal} → tag_of verdict_type.the_type v ≡ 1 → r ≡ refusal_in v → JoinWrites (join_names kind_of s o) old old (PayloadRefused Own r)
+pub own_refused : (kind_of : ℕ → Kind) (s o : List ℕ) (v : Verdict) → IsAccepted (judge_names kind_of 0) s → verdict_of v ≡ verdict (judge_names kind_of 0 o) → {old : List ℕ} {r : Refusal} → v ≡ Err r → JoinWrites (join_names kind_of s o) old old (Err (Payload Own r))
 unfolding join_names
-own_refused kind_of s o v a says h is = rw is (join_refused ((own_exactly write_joined (judge_names kind_of 0 s) (judge_names kind_of 0 o)).1 ((a.value, a.judged), judged_refused v (judge_names kind_of 0 o) says h)))
+own_refused kind_of s o v a says h = join_refused ((own_exactly write_joined (judge_names kind_of 0 s) (judge_names kind_of 0 o)).1 ((a.value, a.judged), judged_refused v (judge_names kind_of 0 o) says h))
 
 -- both of them
 pub record Whole (kind_of : ℕ → Kind) (s : List ℕ) (c : Cursor) : Type 0 where
@@ -101,7 +100,7 @@ module _ {kind_of : ℕ → Kind} {s o : List ℕ} {c d : Cursor} (a : IsAccepte
         room = omega (arith, short, h.room_for_both);
       }
 
-pub roomy_put : {kind_of : ℕ → Kind} {s o : List ℕ} {c d : Cursor} → c ≡ over_all s → d ≡ over_all o → {old new : List ℕ} {end : ℕ} → PutsJoined kind_of s c o d old new end → JoinWrites (join_names kind_of s o) old new (Joined end)
+pub roomy_put : {kind_of : ℕ → Kind} {s o : List ℕ} {c d : Cursor} → c ≡ over_all s → d ≡ over_all o → {old new : List ℕ} {end : ℕ} → PutsJoined kind_of s c o d old new end → JoinWrites (join_names kind_of s o) old new (Ok end)
 roomy_put over over' p = both_joined over over' (both_put p)
 
 pub ruleset joins_beside = (roomy_fits, roomy_put, own_refused, is_accepted, whole_known, both_known, both_joined, wrote_length, rules)

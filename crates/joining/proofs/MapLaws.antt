@@ -1,10 +1,10 @@
 -- Two maps as one: the loops that measure and write it.
+use Rattle.std.specs.Prelude.{Option, Some, None}
 use Prim.Native.Nat.{ℕ, ◌+◌, ◌-◌, ◌^◌, ◌≤◌, ◌<◌}
 use mathlib.Core.List.{List, ◌++◌, append_assoc}
 use mathlib.Core.Path.{◌≡◌, refl, sym, ap, ◌∙◌}
 use native.Mathlib.Omega.{arith}
 use borrow.Author.Rules.{rules}
-use denote.Enum.Declared.{tag_of}
 use lib.ListN.{length, length-append}
 use Rattle.copying.specs.Bytes.{rows_of}
 use Rattle.copying.specs.Standing.{FitsPart}
@@ -31,8 +31,6 @@ use Rattle.joining.specs.Merges.{ShortMaps, MeasuresMaps, ShortAhead, FitsText, 
 use Rattle.joining.specs.declared.maps.Merged.{Merged}
 use Rattle.joining.specs.declared.rows.Ahead.{Ahead}
 use Rattle.joining.specs.declared.rows.NextRow.{NextRow}
-use Rattle.joining.specs.declared.rows.NextRow.TheVariants.{End, Row}
-use Rattle.joining.specs.contracts.rows.NextRow as row_type
 use Rattle.joining.proofs.SideLaws.{left_known, right_known}
 use Rattle.joining.proofs.AheadLaws.{read_ready}
 use Rattle.joining.proofs.WayLaws.{Form, Measuring, Putting, way_sides, measuring_none, putting_none, measured_all, counted_all, measuring_on, total_short, counted_short, put_all, row_room, putting_on}
@@ -61,13 +59,12 @@ maps_form = record {
   count_least = rows_least;
 }
 
--- What comes next, for callers: an arm of a match that binds nothing gives the tag alone
+-- What comes next, for callers
 module _ {s : List ℕ} {left : Rows} {o : List ℕ} {right : Rows} where
-  no_next_row : (x : NextRow) → RowNext s left o right x → tag_of row_type.the_type x ≡ 0 → (left.more ≡ 0) × (right.more ≡ 0)
-  no_next_row End r h = r.steps
-  no_next_row (Row whose k part left' right') r h = absurd (omega arith)
+  no_next_row : {x : Option NextRow} → RowNext s left o right x → x ≡ None → (left.more ≡ 0) × (right.more ≡ 0)
+  no_next_row r e = rw e at r.steps
 
-  next_row : {x : NextRow} {whose : Whose} {k : ℕ} {part : Cursor} {left' right' : Rows} → RowNext s left o right x → x ≡ Row whose k part left' right' → TakesNext s left o right whose k part left' right'
+  next_row : {x : Option NextRow} {here : NextRow} → RowNext s left o right x → x ≡ Some here → TakesNext s left o right here.whose here.index here.part here.first here.second
   next_row r e = rw e at r.steps
 
 -- The rows of both that are to come, read ahead
@@ -83,30 +80,30 @@ module _ {s o : List ℕ} {ours theirs : Ahead} (b : OnBoth s o ours theirs) whe
   pub theirs_ready : Ready theirs
   theirs_ready = read_ready theirs b.second
 
-  module _ {x : NextRow} (n : NextOf ours theirs x) where
+  module _ {x : Option NextRow} (n : NextOf ours theirs x) where
     next_of : RowNext s ours.rows o theirs.rows x
     next_of = n.next s o b.first b.second b.sides
 
-    ends : tag_of row_type.the_type x ≡ 0 → (ours.rows.more ≡ 0) × (theirs.rows.more ≡ 0)
-    ends h = no_next_row x next_of h
+    ends : x ≡ None → (ours.rows.more ≡ 0) × (theirs.rows.more ≡ 0)
+    ends h = no_next_row next_of h
 
-    module _ {whose : Whose} {k : ℕ} {part : Cursor} {left' right' : Rows} (e : x ≡ Row whose k part left' right') where
-      taken : TakesNext s ours.rows o theirs.rows whose k part left' right'
+    module _ {here : NextRow} (e : x ≡ Some here) where
+      taken : TakesNext s ours.rows o theirs.rows here.whose here.index here.part here.first here.second
       taken = next_row next_of e
 
-      pub text_ordered : part.at ≤ part.end
+      pub text_ordered : here.part.at ≤ here.part.end
       text_ordered = taken.in_part.ahead
 
-      pub text_small : part.end - part.at < limit32
+      pub text_small : here.part.end - here.part.at < limit32
       text_small = let t = taken in omega (arith, t.small, part_length t.in_part)
 
-      pub ours_go : Goes s ours left'
+      pub ours_go : Goes s ours here.first
       ours_go = let t = taken in record { ahead = b.first; known = left_known t.parted.others; same = t.same_left }
 
-      pub theirs_go : Goes o theirs right'
+      pub theirs_go : Goes o theirs here.second
       theirs_go = let t = taken in record { ahead = b.second; known = right_known t.parted.others; same = t.same_right }
 
-      pub rows_fewer : {ours' theirs' : Ahead} → Reads s left' ours' → Reads o right' theirs' → ours'.rows.more + theirs'.rows.more < ours.rows.more + theirs.rows.more
+      pub rows_fewer : {ours' theirs' : Ahead} → Reads s here.first ours' → Reads o here.second theirs' → ours'.rows.more + theirs'.rows.more < ours.rows.more + theirs.rows.more
       rows_fewer p q = rw (p.same_rows, q.same_rows) taken.fewer
 
 -- Measured so far
@@ -122,8 +119,8 @@ module _ {s : List ℕ} {begun : Rows} {o : List ℕ} {begun' : Rows} {ours thei
   pub measuring_both : OnBoth s o ours theirs
   measuring_both = record { first = t.first; second = t.second; sides = way_sides t.so.way }
 
-  module _ {x : NextRow} (n : NextOf ours theirs x) where
-    pub maps_measured : tag_of row_type.the_type x ≡ 0 → MeasuresMaps s begun o begun' (record { count = count; length = total; left = ours.rows.next; right = theirs.rows.next })
+  module _ {x : Option NextRow} (n : NextOf ours theirs x) where
+    pub maps_measured : x ≡ None → MeasuresMaps s begun o begun' (record { count = count; length = total; left = ours.rows.next; right = theirs.rows.next })
     maps_measured h =
         let (g, g') = ends measuring_both n h in
         let way = t.so.way in
@@ -136,13 +133,13 @@ module _ {s : List ℕ} {begun : Rows} {o : List ℕ} {begun' : Rows} {ours thei
           long = measured_all maps_form t.so g g';
         }
 
-    module _ {whose : Whose} {k : ℕ} {part : Cursor} {left' right' : Rows} (e : x ≡ Row whose k part left' right') where
+    module _ {here : NextRow} (e : x ≡ Some here) where
       pub count_fits : count + 1 < 2 ^ 64
       count_fits = omega (arith, counted_short maps_form t.so (taken measuring_both n e).parted)
 
-      module _ {a b : ℕ} (key : a ≡ length (shortest k)) (text : b ≡ length (shortest (part.end - part.at)) + (part.end - part.at)) where
-        row_is : total + a + b ≡ total + length (one_row k (part_of (bytes_of whose s o) part))
-        row_is = omega (arith, key, text, sized_is (taken measuring_both n e).in_part, length-append (shortest k) (write_part (left_of (bytes_of whose s o) part)))
+      module _ {a b : ℕ} (key : a ≡ length (shortest here.index)) (text : b ≡ length (shortest (here.part.end - here.part.at)) + (here.part.end - here.part.at)) where
+        row_is : total + a + b ≡ total + length (one_row here.index (part_of (bytes_of here.whose s o) here.part))
+        row_is = omega (arith, key, text, sized_is (taken measuring_both n e).in_part, length-append (shortest here.index) (write_part (left_of (bytes_of here.whose s o) here.part)))
 
         pub row_fits : total + a + b < 2 ^ 64
         row_fits = omega (arith, row_is, total_short maps_form t.so (taken measuring_both n e).parted)
@@ -150,7 +147,7 @@ module _ {s : List ℕ} {begun : Rows} {o : List ℕ} {begun' : Rows} {ours thei
         pub key_fits : total + a < 2 ^ 64
         key_fits = omega (arith, row_fits)
 
-        pub maps_on : {ours' theirs' : Ahead} → Reads s left' ours' → Reads o right' theirs' → MeasuringMaps s begun o begun' ours' theirs' (count + 1) (total + a + b)
+        pub maps_on : {ours' theirs' : Ahead} → Reads s here.first ours' → Reads o here.second theirs' → MeasuringMaps s begun o begun' ours' theirs' (count + 1) (total + a + b)
         maps_on p q = rw row_is (record { so = rw (p.same_rows, q.same_rows) (measuring_on maps_form t.so (taken measuring_both n e).parted); first = p.ahead; second = q.ahead })
 
 pub ruleset measuring_maps = (maps_begin, measuring_both, ours_ready, theirs_ready, maps_measured, count_fits, row_fits, key_fits, maps_on, text_ordered, text_small, ours_go, theirs_go, rows_fewer, rules)
@@ -220,21 +217,21 @@ module _ {s : List ℕ} {begun : Rows} {o : List ℕ} {begun' : Rows} {old : Lis
   pub maps_put_length : length new ≡ length old
   maps_put_length = wrote_length t.so.so_far
 
-  module _ {x : NextRow} (n : NextOf ours theirs x) where
-    pub maps_put : tag_of row_type.the_type x ≡ 0 → PutsMaps s begun o begun' old new start at
+  module _ {x : Option NextRow} (n : NextOf ours theirs x) where
+    pub maps_put : x ≡ None → PutsMaps s begun o begun' old new start at
     maps_put h = let (g, g') = ends putting_both n h in put_all maps_form t.so g g'
 
-    module _ {whose : Whose} {k : ℕ} {part : Cursor} {left' right' : Rows} (e : x ≡ Row whose k part left' right') where
-      pub maps_room : FitsRow k whose s o part new at
+    module _ {here : NextRow} (e : x ≡ Some here) where
+      pub maps_room : FitsRow here.index here.whose s o here.part new at
       maps_room =
           let p = taken putting_both n e in
           record {
             inside = p.in_part;
             small = p.small;
-            room = rw (← length-append (shortest k) (write_part (left_of (bytes_of whose s o) part))) (row_room maps_form t.so p.parted);
+            room = rw (← length-append (shortest here.index) (write_part (left_of (bytes_of here.whose s o) here.part))) (row_room maps_form t.so p.parted);
           }
 
-      pub maps_put_on : {after : List ℕ} {next : ℕ} {ours' theirs' : Ahead} → PutsRow k whose s o part new after at next → Reads s left' ours' → Reads o right' theirs' → PuttingMaps s begun o begun' old start after next ours' theirs'
+      pub maps_put_on : {after : List ℕ} {next : ℕ} {ours' theirs' : Ahead} → PutsRow here.index here.whose s o here.part new after at next → Reads s here.first ours' → Reads o here.second theirs' → PuttingMaps s begun o begun' old start after next ours' theirs'
       maps_put_on v p q = record { so = rw (p.same_rows, q.same_rows) (putting_on maps_form t.so (taken putting_both n e).parted v.wrote); first = p.ahead; second = q.ahead }
 
 pub ruleset putting_maps = (maps_put_none, putting_both, ours_ready, theirs_ready, maps_put, maps_room, maps_put_on, ours_go, theirs_go, rows_fewer, maps_put_length, wrote_length, rules)

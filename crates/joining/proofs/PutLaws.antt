@@ -1,4 +1,5 @@
 -- Contents of one payload or both, by kind: what is left of them as one, written.
+use Rattle.std.specs.Prelude.{Some, None}
 use Prim.Native.Nat.{ℕ, ◌+◌, ◌-◌, ◌≤◌, ◌<◌}
 use mathlib.Core.List.{List, ◌++◌}
 use mathlib.Core.Option.{some}
@@ -19,8 +20,7 @@ use Rattle.names.specs.declared.kinds.Kind.{Kind}
 use Rattle.names.specs.declared.kinds.Kind.TheVariants.{OneName, NameMap, IndirectMap, Kept}
 use Rattle.reading.specs.Cursors.{part_of}
 use Rattle.reading.specs.declared.Cursor.{Cursor}
-use Rattle.tables.specs.declared.Held.{Held}
-use Rattle.tables.specs.declared.Held.TheVariants.{Nothing, Part as APart}
+use Rattle.tables.specs.Returned.{Held}
 use Rattle.tables.specs.declared.stepping.Rows.{Rows}
 use Rattle.writing.specs.Wrote.{Wrote}
 use Rattle.writing.proofs.Laws.{wrote_join, wrote_length}
@@ -116,16 +116,16 @@ module _ {s : List ℕ} {first : Held} {o : List ℕ} {second : Held} {old : Lis
 pub ruleset groups_put_all = (put_our_groups_count, put_their_groups_count, groups_count_small, groups_count_room, groups_rows_room, groups_put, wrote_length, rules)
 
 -- something is left, so one of the payloads has it
-pub not_neither : {kind : _} {s : List ℕ} {first : Held} {o : List ℕ} {second : Held} {old : List ℕ} {at : ℕ} → FitsBoth kind s first o second old at → first ≡ Nothing → second ≡ Nothing → ⊥
+pub not_neither : {kind : _} {s : List ℕ} {first : Held} {o : List ℕ} {second : Held} {old : List ℕ} {at : ℕ} → FitsBoth kind s first o second old at → first ≡ None → second ≡ None → ⊥
 not_neither f e g = not_some (sym (none_left_over f.held e g) ∙ f.is)
 
 -- the separate payload's name, or else the own one's
 module _ {s : List ℕ} {first : Held} {o : List ℕ} {second : Held} {old : List ℕ} {at : ℕ} (f : FitsBoth one_name s first o second old at) where
   module _ {part : Cursor} where
-    pub our_name_fits : first ≡ APart part → FitsContent one_name s part old at
+    pub our_name_fits : first ≡ Some part → FitsContent one_name s part old at
     our_name_fits e = let a = our_name f.held e in record { value = a.value; stands = a.stands; remains = f.remains; is = sym a.is ∙ f.is; room = f.room }
 
-    pub their_name_fits : first ≡ Nothing → second ≡ APart part → FitsContent one_name o part old at
+    pub their_name_fits : first ≡ None → second ≡ Some part → FitsContent one_name o part old at
     their_name_fits e g = let a = their_name f.held e g in record { value = a.value; stands = a.stands; remains = f.remains; is = sym a.is ∙ f.is; room = f.room }
 
     name_puts : {p : List ℕ} {new : List ℕ} {next : ℕ} → Alone f.held p part → PutsContent one_name p part old new at next → PutsBothContents one_name s first o second old new at next
@@ -133,13 +133,13 @@ module _ {s : List ℕ} {first : Held} {o : List ℕ} {second : Held} {old : Lis
         let same : w.remains ≡ f.remains = some_is (sym w.is ∙ ap (λ (c : Content Part). trim (bare c)) (one_content w.stands a.stands) ∙ sym a.is ∙ f.is) in
         record { held = f.held; remains = f.remains; is = f.is; wrote = rw same at w.wrote }
 
-    pub our_name_puts : {new : List ℕ} {next : ℕ} → first ≡ APart part → PutsContent one_name s part old new at next → PutsBothContents one_name s first o second old new at next
+    pub our_name_puts : {new : List ℕ} {next : ℕ} → first ≡ Some part → PutsContent one_name s part old new at next → PutsBothContents one_name s first o second old new at next
     our_name_puts e w = name_puts (our_name f.held e) w
 
-    pub their_name_puts : {new : List ℕ} {next : ℕ} → first ≡ Nothing → second ≡ APart part → PutsContent one_name o part old new at next → PutsBothContents one_name s first o second old new at next
+    pub their_name_puts : {new : List ℕ} {next : ℕ} → first ≡ None → second ≡ Some part → PutsContent one_name o part old new at next → PutsBothContents one_name s first o second old new at next
     their_name_puts e g w = name_puts (their_name f.held e g) w
 
-  pub no_name_puts : first ≡ Nothing → second ≡ Nothing → PutsBothContents one_name s first o second old old at at
+  pub no_name_puts : first ≡ None → second ≡ None → PutsBothContents one_name s first o second old old at at
   no_name_puts e g = absurd (not_neither f e g)
 
 pub ruleset names_put = (our_name_fits, their_name_fits, our_name_puts, their_name_puts, no_name_puts, wrote_length, rules)
@@ -161,7 +161,7 @@ module _ {s : List ℕ} {first : Held} {o : List ℕ} {second : Held} {old : Lis
     kept_puts w = record { held = f.held; remains = f.remains; is = f.is; wrote = rw kept_bytes w }
 
   module _ {part : Cursor} where
-    module _ (e : first ≡ APart part) where
+    module _ (e : first ≡ Some part) where
       pub our_kept_ordered : part.at ≤ part.end
       our_kept_ordered = (our_kept f.held e).stands.inside.ahead
 
@@ -174,7 +174,7 @@ module _ {s : List ℕ} {first : Held} {o : List ℕ} {second : Held} {old : Lis
       pub our_kept_puts : {new : List ℕ} {next : ℕ} → Wrote old new at next (take (part.end - part.at) (drop part.at s)) → PutsBothContents kept s first o second old new at next
       our_kept_puts w = kept_puts (our_kept f.held e) w
 
-    module _ (e : first ≡ Nothing) (g : second ≡ APart part) where
+    module _ (e : first ≡ None) (g : second ≡ Some part) where
       pub their_kept_ordered : part.at ≤ part.end
       their_kept_ordered = (their_kept f.held e g).stands.inside.ahead
 
@@ -187,7 +187,7 @@ module _ {s : List ℕ} {first : Held} {o : List ℕ} {second : Held} {old : Lis
       pub their_kept_puts : {new : List ℕ} {next : ℕ} → Wrote old new at next (take (part.end - part.at) (drop part.at o)) → PutsBothContents kept s first o second old new at next
       their_kept_puts w = kept_puts (their_kept f.held e g) w
 
-  pub no_kept_puts : first ≡ Nothing → second ≡ Nothing → PutsBothContents kept s first o second old old at at
+  pub no_kept_puts : first ≡ None → second ≡ None → PutsBothContents kept s first o second old old at at
   no_kept_puts e g = absurd (not_neither f e g)
 
 pub ruleset kept_put = (our_kept_ordered, our_kept_within, our_kept_room, our_kept_puts, their_kept_ordered, their_kept_within, their_kept_room, their_kept_puts, no_kept_puts, wrote_length, rules)

@@ -1,10 +1,10 @@
 -- What comes next of two tables, by what comes next of each.
+use Rattle.std.specs.Prelude.{Some, None}
 use Prim.Native.Nat.{ℕ, ◌≤◌, ◌<◌}
 use mathlib.Core.List.{List}
 use mathlib.Core.Path.{◌≡◌, refl}
 use native.Mathlib.Omega.{arith}
 use borrow.Author.Rules.{rules}
-use denote.Enum.Declared.{tag_of}
 use Rattle.copying.proofs.Laws.{part_fits}
 use Rattle.format.specs.Joined.{merged, the_first}
 use Rattle.format.specs.Numbers.{number}
@@ -16,28 +16,21 @@ use Rattle.reading.specs.Cursors.{part_of}
 use Rattle.reading.specs.Standing.{Stands, Known}
 use Rattle.reading.specs.declared.Cursor.{Cursor}
 use Rattle.tables.specs.Stepping.{behind_at, Splits, RowSteps, GroupSteps}
-use Rattle.tables.specs.declared.Held.{Held}
-use Rattle.tables.specs.declared.Held.TheVariants.{Nothing, Part as APart}
+use Rattle.tables.specs.Returned.{Held}
 use Rattle.tables.specs.declared.stepping.Rows.{Rows}
-use Rattle.tables.specs.declared.stepping.RowStep.{RowStep}
-use Rattle.tables.specs.declared.stepping.RowStep.TheVariants.{Row as ARow}
-use Rattle.tables.specs.declared.stepping.GroupStep.{GroupStep}
-use Rattle.tables.specs.declared.stepping.GroupStep.TheVariants.{Group as AGroup}
-use Rattle.tables.specs.contracts.stepping.RowStep as row_type
-use Rattle.tables.specs.contracts.stepping.GroupStep as group_type
+use Rattle.tables.specs.Returned.{RowStep}
+use Rattle.tables.specs.Returned.{GroupStep}
 use Rattle.tables.proofs.StepLaws.{no_row, a_row, no_group, a_group, group_left, group_known, group_passed}
 use Rattle.joining.specs.Sides.{no_rows, HeldCount, HeldRows, Sides, Parted}
 use Rattle.joining.specs.Steps.{RowNext, behind_taken, Taken, GroupNext}
-use Rattle.joining.specs.declared.rows.NextRow.TheVariants.{End as NoRow, Row}
-use Rattle.joining.specs.declared.rows.NextGroup.TheVariants.{End as NoGroup, Group}
 use Rattle.joining.proofs.SideLaws.{left_known, right_known, left_alone, left_first, right_alone, right_first, both_first}
 
 -- The rows of a table that may be missing
 module _ {s : List ℕ} {held : Held} where
-  pub opens_none : held ≡ Nothing → HeldRows s held no_rows
+  pub opens_none : held ≡ None → HeldRows s held no_rows
   opens_none e = rw e (record { opens = refl })
 
-  module _ {c : Cursor} (e : held ≡ APart c) where
+  module _ {c : Cursor} (e : held ≡ Some c) where
     pub count_there : HeldCount s held → Known number s c
     count_there w = rw e at w.known
 
@@ -48,11 +41,11 @@ pub ruleset opening = (opens_none, count_there, opens_part, rules)
 
 -- and those behind the next one, where it was taken
 module _ (left : Rows) (held : Held) where
-  pub none_taken : (next : Cursor) → held ≡ Nothing → left ≡ behind_taken left held next
+  pub none_taken : (next : Cursor) → held ≡ None → left ≡ behind_taken left held next
   unfolding behind_taken
   none_taken next e = rw e
 
-  module _ {c : Cursor} (e : held ≡ APart c) where
+  module _ {c : Cursor} (e : held ≡ Some c) where
     pub taken_left : Taken left held → 0 < left.more
     taken_left w = rw e at w.some_left
 
@@ -64,36 +57,36 @@ pub ruleset taking = (none_taken, taken_left, one_taken, rules)
 
 -- Rows
 module _ {s : List ℕ} {left : Rows} {o : List ℕ} {right : Rows} {x y : RowStep} (p : RowSteps s left x) (q : RowSteps o right y) where
-  pub rows_end : tag_of row_type.the_type x ≡ 0 → tag_of row_type.the_type y ≡ 0 → RowNext s left o right NoRow
-  rows_end g h = record { steps = (no_row x p g, no_row y q h) }
+  pub rows_end : x ≡ None → y ≡ None → RowNext s left o right None
+  rows_end g h = record { steps = (no_row p g, no_row q h) }
 
   module _ (w : Sides sized s left o right) where
-    module _ {i : ℕ} {part next : Cursor} {l : Rows} (e : x ≡ ARow i part next) (is : l ≡ behind_at left next) where
-      ours : Parted sized the_first s left o right i (part_of s part) (behind_at left next) right → RowNext s left o right (Row Separate i part l right)
+    module _ {i : ℕ} {part next : Cursor} {l : Rows} (e : x ≡ Some (i, part, next)) (is : l ≡ behind_at left next) where
+      ours : Parted sized the_first s left o right i (part_of s part) (behind_at left next) right → RowNext s left o right (Some (record { whose = Separate; index = i; part = part; first = l; second = right }))
       ours d =
           let t = a_row p e in
           rw is (record { steps = record { parted = d; in_part = t.in_part; small = part_fits t.splits.value; fewer = omega (arith, t.splits.some_left); same_left = λ n. absurd (omega (arith, n, t.splits.some_left)); same_right = λ _. refl } })
 
-      pub ours_alone : tag_of row_type.the_type y ≡ 0 → RowNext s left o right (Row Separate i part l right)
-      ours_alone h = ours (left_alone w the_first (a_row p e).splits (no_row y q h))
+      pub ours_alone : y ≡ None → RowNext s left o right (Some (record { whose = Separate; index = i; part = part; first = l; second = right }))
+      ours_alone h = ours (left_alone w the_first (a_row p e).splits (no_row q h))
 
-      pub ours_first : {j : ℕ} {other after : Cursor} → y ≡ ARow j other after → i < j → RowNext s left o right (Row Separate i part l right)
+      pub ours_first : {j : ℕ} {other after : Cursor} → y ≡ Some (j, other, after) → i < j → RowNext s left o right (Some (record { whose = Separate; index = i; part = part; first = l; second = right }))
       ours_first f h = ours (left_first w the_first (a_row p e).splits (a_row q f).splits h)
 
-    module _ {j : ℕ} {other after : Cursor} {r : Rows} (f : y ≡ ARow j other after) (is : r ≡ behind_at right after) where
-      theirs : Parted sized the_first s left o right j (part_of o other) left (behind_at right after) → RowNext s left o right (Row Own j other left r)
+    module _ {j : ℕ} {other after : Cursor} {r : Rows} (f : y ≡ Some (j, other, after)) (is : r ≡ behind_at right after) where
+      theirs : Parted sized the_first s left o right j (part_of o other) left (behind_at right after) → RowNext s left o right (Some (record { whose = Own; index = j; part = other; first = left; second = r }))
       theirs d =
           let t = a_row q f in
           rw is (record { steps = record { parted = d; in_part = t.in_part; small = part_fits t.splits.value; fewer = omega (arith, t.splits.some_left); same_left = λ _. refl; same_right = λ n. absurd (omega (arith, n, t.splits.some_left)) } })
 
-      pub theirs_alone : tag_of row_type.the_type x ≡ 0 → RowNext s left o right (Row Own j other left r)
-      theirs_alone h = theirs (right_alone w the_first (a_row q f).splits (no_row x p h))
+      pub theirs_alone : x ≡ None → RowNext s left o right (Some (record { whose = Own; index = j; part = other; first = left; second = r }))
+      theirs_alone h = theirs (right_alone w the_first (a_row q f).splits (no_row p h))
 
-      pub theirs_first : {i : ℕ} {part next : Cursor} → x ≡ ARow i part next → j < i → RowNext s left o right (Row Own j other left r)
+      pub theirs_first : {i : ℕ} {part next : Cursor} → x ≡ Some (i, part, next) → j < i → RowNext s left o right (Some (record { whose = Own; index = j; part = other; first = left; second = r }))
       theirs_first e h = theirs (right_first w the_first (a_row q f).splits (a_row p e).splits h)
 
-  module _ {i j : ℕ} {part next other after : Cursor} {l r : Rows} (e : x ≡ ARow i part next) (f : y ≡ ARow j other after) where
-    pub of_both : j ≤ i → i ≤ j → l ≡ behind_at left next → r ≡ behind_at right after → RowNext s left o right (Row Separate i part l r)
+  module _ {i j : ℕ} {part next other after : Cursor} {l r : Rows} (e : x ≡ Some (i, part, next)) (f : y ≡ Some (j, other, after)) where
+    pub of_both : j ≤ i → i ≤ j → l ≡ behind_at left next → r ≡ behind_at right after → RowNext s left o right (Some (record { whose = Separate; index = i; part = part; first = l; second = r }))
     of_both g h is is' =
         let t = a_row p e in
         let u = a_row q f in
@@ -101,12 +94,12 @@ module _ {s : List ℕ} {left : Rows} {o : List ℕ} {right : Rows} {x y : RowSt
 
 -- Groups
 module _ {s : List ℕ} {left : Rows} {o : List ℕ} {right : Rows} {x y : GroupStep} (p : GroupSteps s left x) (q : GroupSteps o right y) where
-  pub groups_end : tag_of group_type.the_type x ≡ 0 → tag_of group_type.the_type y ≡ 0 → GroupNext s left o right NoGroup
-  groups_end g h = record { steps = (no_group x p g, no_group y q h) }
+  pub groups_end : x ≡ None → y ≡ None → GroupNext s left o right None
+  groups_end g h = record { steps = (no_group p g, no_group q h) }
 
   module _ (w : Sides (table sized) s left o right) where
-    module _ {i : ℕ} {place : Cursor} (e : x ≡ AGroup i place) where
-      our_group : ((next : Cursor) → Splits (table sized) s left i place (group_known p e).value next → Parted (table sized) (merged the_first) s left o right i (group_known p e).value (behind_at left next) right) → GroupNext s left o right (Group i (APart place) Nothing)
+    module _ {i : ℕ} {place : Cursor} (e : x ≡ Some (i, place)) where
+      our_group : ((next : Cursor) → Splits (table sized) s left i place (group_known p e).value next → Parted (table sized) (merged the_first) s left o right i (group_known p e).value (behind_at left next) right) → GroupNext s left o right (Some (i, (Some place), None))
       unfolding behind_taken
       our_group d =
           let g = group_known p e in
@@ -120,14 +113,14 @@ module _ {s : List ℕ} {left : Rows} {o : List ℕ} {right : Rows} {x y : Group
             };
           }
 
-      pub our_group_alone : tag_of group_type.the_type y ≡ 0 → GroupNext s left o right (Group i (APart place) Nothing)
-      our_group_alone h = our_group (λ next d. left_alone w (merged the_first) d (no_group y q h))
+      pub our_group_alone : y ≡ None → GroupNext s left o right (Some (i, (Some place), None))
+      our_group_alone h = our_group (λ next d. left_alone w (merged the_first) d (no_group q h))
 
-      pub our_group_first : {j : ℕ} {other : Cursor} → y ≡ AGroup j other → i < j → GroupNext s left o right (Group i (APart place) Nothing)
+      pub our_group_first : {j : ℕ} {other : Cursor} → y ≡ Some (j, other) → i < j → GroupNext s left o right (Some (i, (Some place), None))
       our_group_first f h = our_group (λ next d. left_first w (merged the_first) d (a_group q f).splits h)
 
-    module _ {j : ℕ} {other : Cursor} (f : y ≡ AGroup j other) where
-      their_group : ((next : Cursor) → Splits (table sized) o right j other (group_known q f).value next → Parted (table sized) (merged the_first) s left o right j (group_known q f).value left (behind_at right next)) → GroupNext s left o right (Group j Nothing (APart other))
+    module _ {j : ℕ} {other : Cursor} (f : y ≡ Some (j, other)) where
+      their_group : ((next : Cursor) → Splits (table sized) o right j other (group_known q f).value next → Parted (table sized) (merged the_first) s left o right j (group_known q f).value left (behind_at right next)) → GroupNext s left o right (Some (j, None, (Some other)))
       unfolding behind_taken
       their_group d =
           let g = group_known q f in
@@ -141,14 +134,14 @@ module _ {s : List ℕ} {left : Rows} {o : List ℕ} {right : Rows} {x y : Group
             };
           }
 
-      pub their_group_alone : tag_of group_type.the_type x ≡ 0 → GroupNext s left o right (Group j Nothing (APart other))
-      their_group_alone h = their_group (λ next d. right_alone w (merged the_first) d (no_group x p h))
+      pub their_group_alone : x ≡ None → GroupNext s left o right (Some (j, None, (Some other)))
+      their_group_alone h = their_group (λ next d. right_alone w (merged the_first) d (no_group p h))
 
-      pub their_group_first : {i : ℕ} {place : Cursor} → x ≡ AGroup i place → j < i → GroupNext s left o right (Group j Nothing (APart other))
+      pub their_group_first : {i : ℕ} {place : Cursor} → x ≡ Some (i, place) → j < i → GroupNext s left o right (Some (j, None, (Some other)))
       their_group_first e h = their_group (λ next d. right_first w (merged the_first) d (a_group p e).splits h)
 
-  module _ {i j : ℕ} {place other : Cursor} (e : x ≡ AGroup i place) (f : y ≡ AGroup j other) where
-    pub group_of_both : j ≤ i → i ≤ j → GroupNext s left o right (Group i (APart place) (APart other))
+  module _ {i j : ℕ} {place other : Cursor} (e : x ≡ Some (i, place)) (f : y ≡ Some (j, other)) where
+    pub group_of_both : j ≤ i → i ≤ j → GroupNext s left o right (Some (i, (Some place), (Some other)))
     unfolding behind_taken
     group_of_both a b =
         let g = group_known p e in

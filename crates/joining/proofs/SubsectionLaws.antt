@@ -1,4 +1,5 @@
 -- The way through the subsections of two payloads that were accepted, measured.
+use Rattle.std.specs.Prelude.{Option as Found, Some, None}
 use Prim.Native.Nat.{ℕ, ◌+◌, ◌*◌, ◌-◌, ◌^◌, ◌≤◌, ◌<◌}
 use mathlib.Core.Bool.{true, false}
 use mathlib.Core.List.{List}
@@ -8,7 +9,6 @@ use native.Mathlib.Nat.{zero-add}
 use native.Mathlib.Omega.{arith}
 use borrow.Author.Rules.{rules}
 use borrow.Author.Tests.{lt-ltb, le-ltb}
-use denote.Enum.Declared.{tag_of}
 use lib.Dec.{ltb}
 use lib.ListN.{length, length-append}
 use Rattle.copying.proofs.Laws.{part_length}
@@ -30,46 +30,35 @@ use Rattle.names.specs.Contents.{kind_meant}
 use Rattle.names.specs.declared.kinds.Kind.{Kind}
 use Rattle.reading.specs.Cursors.{left}
 use Rattle.reading.specs.declared.Cursor.{Cursor}
-use Rattle.tables.specs.declared.Held.{Held}
-use Rattle.tables.specs.declared.Held.TheVariants.{Nothing, Part as APart}
+use Rattle.tables.specs.Returned.{Held}
 use Rattle.joining.specs.Contents.{HeldContent, HeldContents, both_left, sizes_of, left_of, LeftOfBoth}
 use Rattle.joining.specs.Subsections.{KnownFrames, FrameTaken, TakesSubsection, SubsectionNext, length_left, length_of, total_of, KnownSubsection, MeasuresSubsection, Payloads, MeasuresJoined}
-use Rattle.joining.specs.declared.contents.Left.{Left}
-use Rattle.joining.specs.declared.contents.Left.TheVariants.{Nothing as NoneLeft, Contents}
+use Rattle.joining.specs.Returned.{Left, Total}
 use Rattle.joining.specs.declared.contents.Sizes.{Sizes}
 use Rattle.joining.specs.declared.subsections.NextSubsection.{NextSubsection}
-use Rattle.joining.specs.declared.subsections.NextSubsection.TheVariants.{End, Subsection}
-use Rattle.joining.specs.declared.subsections.Total.{Total}
-use Rattle.joining.specs.declared.subsections.Total.TheVariants.{Length, TooLarge}
-use Rattle.joining.specs.contracts.subsections.NextSubsection as next_type
-use Rattle.joining.specs.contracts.subsections.Total as total_type
 use Rattle.joining.proofs.ContentLaws.{one_left}
 use Rattle.rewrite.proofs.SubsectionLaws.{nothing_to_come}
 use Rattle.joining.proofs.FrameLaws.{frames_known, PartedBy, side}
 
 -- what a total is tells it apart
-pub length_is : {n m : ℕ} → Length n ≡ Length m → n ≡ m
+pub length_is : {n m : ℕ} → Some n ≡ Some m → n ≡ m
 length_is e = cc
 
-pub not_large : {n : ℕ} → Length n ≡ TooLarge → ⊥
+pub not_large : {n : ℕ} → Some n ≡ None → ⊥
 not_large e = let z : ◌≡◌ {A = ℕ} 0 1 = cc in omega arith
-
-pub as_large : (r : Total) → tag_of total_type.the_type r ≡ 1 → r ≡ TooLarge
-as_large (Length n) h = absurd (omega arith)
-as_large TooLarge h = refl
 
 -- A subsection's length
 module _ (x : Left) where
-  pub length_none : x ≡ NoneLeft → Length 0 ≡ length_left x
+  pub length_none : x ≡ None → Some 0 ≡ length_left x
   unfolding length_left
   length_none e = rw e
 
-  module _ {z : Sizes} (e : x ≡ Contents z) where
-    pub length_large : limit32 ≤ z.length → TooLarge ≡ length_left x
+  module _ {z : Sizes} (e : x ≡ Some z) where
+    pub length_large : limit32 ≤ z.length → None ≡ length_left x
     unfolding length_left
     length_large h = rw (e, le-ltb z.length limit32 h)
 
-    pub length_small : {n : ℕ} → z.length < limit32 → n ≡ length (shortest z.length) + z.length → Length (1 + n) ≡ length_left x
+    pub length_small : {n : ℕ} → z.length < limit32 → n ≡ length (shortest z.length) + z.length → Some (1 + n) ≡ length_left x
     unfolding length_left
     length_small h q = rw (e, lt-ltb z.length limit32 h, q)
 
@@ -80,10 +69,10 @@ pub ruleset lengths_left = (length_none, length_large, length_small, length_fits
 
 length_left_of : (x : Left) (b : Option (Content (List ℕ))) → left_of x ≡ map_some sizes_of b → length_left x ≡ length_of b
 unfolding length_left length_of
-length_left_of NoneLeft none e = refl
-length_left_of NoneLeft (some d) e = absurd (not_some e)
-length_left_of (Contents z) none e = absurd (not_some (sym e))
-length_left_of (Contents z) (some d) e = let same : z ≡ sizes_of d = some_is e in rw same
+length_left_of None none e = refl
+length_left_of None (some d) e = absurd (not_some e)
+length_left_of (Some z) none e = absurd (not_some (sym e))
+length_left_of (Some z) (some d) e = let same : z ≡ sizes_of d = some_is e in rw same
 
 pub sub_known : {kind_of : ℕ → AnyKind} {id : ℕ} {s : List ℕ} {first : Held} {o : List ℕ} {second : Held} (kind : Kind) → KnownSubsection kind_of id s first o second → kind_meant kind ≡ kind_of id → HeldContents (kind_meant kind) s first o second
 sub_known kind k is = rw is k.held
@@ -97,7 +86,7 @@ module _ {kind_of : ℕ → AnyKind} {id : ℕ} {s : List ℕ} {first : Held} {o
 pub ruleset subsection_measured = (sub_known, sub_measured, rules)
 
 -- what it adds
-sub_length : (b : Option (Content (List ℕ))) (id : ℕ) (t : Table (Content (List ℕ))) {n : ℕ} → length_of b ≡ Length n → length (write_subsections (row_if id b t)) ≡ n + length (write_subsections t)
+sub_length : (b : Option (Content (List ℕ))) (id : ℕ) (t : Table (Content (List ℕ))) {n : ℕ} → length_of b ≡ Some n → length (write_subsections (row_if id b t)) ≡ n + length (write_subsections t)
 unfolding length_of write_subsections write_part
 sub_length none id t e = let n_is = length_is e in omega (arith, n_is)
 sub_length (some d) id t {n} e =
@@ -105,7 +94,7 @@ sub_length (some d) id t {n} e =
     (λ z. let n_is : 1 + (length (shortest (length (write_content d))) + length (write_content d)) ≡ n = length_is (rw z at e) in simp length-append (omega (arith, n_is)))
     (λ z. absurd (not_large (sym (rw z at e))))
 
-sub_fits : (b : Option (Content (List ℕ))) (id : ℕ) (t : Table (Content (List ℕ))) {n : ℕ} → length_of b ≡ Length n → all_fit (row_if id b t) ≡ all_fit t
+sub_fits : (b : Option (Content (List ℕ))) (id : ℕ) (t : Table (Content (List ℕ))) {n : ℕ} → length_of b ≡ Some n → all_fit (row_if id b t) ≡ all_fit t
 unfolding length_of all_fit
 sub_fits none id t e = refl
 sub_fits (some d) id t e =
@@ -113,7 +102,7 @@ sub_fits (some d) id t e =
     (λ z. rw z)
     (λ z. absurd (not_large (sym (rw z at e))))
 
-sub_large : (b : Option (Content (List ℕ))) (id : ℕ) (t : Table (Content (List ℕ))) → length_of b ≡ TooLarge → all_fit (row_if id b t) ≡ false
+sub_large : (b : Option (Content (List ℕ))) (id : ℕ) (t : Table (Content (List ℕ))) → length_of b ≡ None → all_fit (row_if id b t) ≡ false
 unfolding length_of all_fit
 sub_large none id t e = absurd (not_large e)
 sub_large (some d) id t e =
@@ -129,11 +118,11 @@ joined_step id none (some d) t t' u u' p q h = let (same, above) = p in rw (same
 joined_step id (some c) none t t' u u' p q h = let (same, above) = q in rw (same, p) (ap (keep_rows trim) (merge_before join_content id (bare c) (map_table bare t') above))
 joined_step id (some c) (some d) t t' u u' p q h = rw (p, q) (joined_both id id (bare c) (bare d) (map_table bare t') (map_table bare u') refl)
 
-held_nothing : {kind : _} {s : List ℕ} (held : Held) {x : Option (Content Part)} → HeldContent kind s held x → x ≡ none → held ≡ Nothing
-held_nothing Nothing h e = refl
-held_nothing (APart part) h e = let (c, w, is) = h.holds in absurd (not_some (sym e ∙ is))
+held_nothing : {kind : _} {s : List ℕ} (held : Held) {x : Option (Content Part)} → HeldContent kind s held x → x ≡ none → held ≡ None
+held_nothing None h e = refl
+held_nothing (Some part) h e = let (c, w, is) = h.holds in absurd (not_some (sym e ∙ is))
 
-none_taken : {s : List ℕ} {c : Cursor} {id : ℕ} {held : Held} {next : Cursor} → FrameTaken s c id held next → held ≡ Nothing → next ≡ c
+none_taken : {s : List ℕ} {c : Cursor} {id : ℕ} {held : Held} {next : Cursor} → FrameTaken s c id held next → held ≡ None → next ≡ c
 none_taken f e = let taken = rw e at f.taken in taken.0
 
 -- both as one
@@ -188,22 +177,21 @@ pub record MeasuringJoined (kind_of : ℕ → AnyKind) (s : List ℕ) (c : Curso
 pub joined_begin : {kind_of : ℕ → AnyKind} {s : List ℕ} {c : Cursor} {o : List ℕ} {d : Cursor} → Payloads kind_of s c o d → length s * 1 < 2 ^ 63 → length o * 1 < 2 ^ 63 → MeasuringJoined kind_of s c o d c d 0
 joined_begin p h h' = record { all = p; come = p; so_far = zero-add (length (write_subsections (joined_of p))); fits = refl; short = joined_short p h h' }
 
--- for callers: an arm of a match that binds nothing gives the tag alone
-pub no_next : {s : List ℕ} {c : Cursor} {o : List ℕ} {d : Cursor} (x : NextSubsection) → SubsectionNext s c o d x → tag_of next_type.the_type x ≡ 0 → (c.end ≤ c.at) × (d.end ≤ d.at)
-no_next End r h = r.steps
-no_next (Subsection id first second next after) r h = absurd (omega arith)
+-- for callers
+pub no_next : {s : List ℕ} {c : Cursor} {o : List ℕ} {d : Cursor} {x : Found NextSubsection} → SubsectionNext s c o d x → x ≡ None → (c.end ≤ c.at) × (d.end ≤ d.at)
+no_next r e = rw e at r.steps
 
-pub a_next : {s : List ℕ} {c : Cursor} {o : List ℕ} {d : Cursor} {x : NextSubsection} {id : ℕ} {first second : Held} {next after : Cursor} → SubsectionNext s c o d x → x ≡ Subsection id first second next after → TakesSubsection s c o d id first second next after
+pub a_next : {s : List ℕ} {c : Cursor} {o : List ℕ} {d : Cursor} {x : Found NextSubsection} {sub : NextSubsection} → SubsectionNext s c o d x → x ≡ Some sub → TakesSubsection s c o d sub.id sub.first sub.second sub.next sub.after
 a_next r e = rw e at r.steps
 
-pub joined_less : {s : List ℕ} {c : Cursor} {o : List ℕ} {d : Cursor} {x : NextSubsection} {id : ℕ} {first second : Held} {next after : Cursor} → SubsectionNext s c o d x → x ≡ Subsection id first second next after → (next.end - next.at) + (after.end - after.at) < (c.end - c.at) + (d.end - d.at)
+pub joined_less : {s : List ℕ} {c : Cursor} {o : List ℕ} {d : Cursor} {x : Found NextSubsection} {sub : NextSubsection} → SubsectionNext s c o d x → x ≡ Some sub → (sub.next.end - sub.next.at) + (sub.after.end - sub.after.at) < (c.end - c.at) + (d.end - d.at)
 joined_less r e = (a_next r e).fewer
 
-total_is : (t : Table (Content (List ℕ))) {n : ℕ} → all_fit t ≡ true → n ≡ length (write_subsections t) → Length n ≡ total_of t
+total_is : (t : Table (Content (List ℕ))) {n : ℕ} → all_fit t ≡ true → n ≡ length (write_subsections t) → Some n ≡ total_of t
 unfolding total_of
 total_is t h e = rw (h, e)
 
-total_large : (t : Table (Content (List ℕ))) → all_fit t ≡ false → TooLarge ≡ total_of t
+total_large : (t : Table (Content (List ℕ))) → all_fit t ≡ false → None ≡ total_of t
 unfolding total_of
 total_large t h = rw h
 
@@ -214,44 +202,44 @@ module _ {kind_of : ℕ → AnyKind} {s : List ℕ} {c : Cursor} {o : List ℕ} 
   pub theirs_known : KnownFrames o theirs
   theirs_known = frames_known t.come.second_stands
 
-  module _ (x : NextSubsection) (r : SubsectionNext s ours o theirs x) where
-    pub joined_done : tag_of next_type.the_type x ≡ 0 → MeasuresJoined kind_of s c o d (Length total)
+  module _ (x : Found NextSubsection) (r : SubsectionNext s ours o theirs x) where
+    pub joined_done : x ≡ None → MeasuresJoined kind_of s c o d (Some total)
     unfolding all_fit write_subsections
     joined_done h =
-        let (g, g') = no_next x r h in
+        let (g, g') = no_next r h in
         let nothing = none_to_come t.come g g' in
         let empty : length (write_subsections (joined_of t.come)) ≡ 0 = rw nothing in
         record { both = t.all; is = total_is (joined_of t.all) (t.fits ∙ rw nothing) (omega (arith, empty, t.so_far)) }
 
-    module _ {id : ℕ} {first second : Held} {next after : Cursor} (e : x ≡ Subsection id first second next after) where
-      goes_on : Goes t.come id first second next after
+    module _ {sub : NextSubsection} (e : x ≡ Some sub) where
+      goes_on : Goes t.come sub.id sub.first sub.second sub.next sub.after
       goes_on = goes t.come (a_next r e)
 
-      pub joined_held : KnownSubsection kind_of id s first o second
+      pub joined_held : KnownSubsection kind_of sub.id s sub.first o sub.second
       joined_held = record { held = goes_on.held }
 
-      module _ {y : Total} (m : MeasuresSubsection kind_of id s first o second y) where
+      module _ {y : Total} (m : MeasuresSubsection kind_of sub.id s sub.first o sub.second y) where
         added : y ≡ length_of (both_left goes_on.held.ours goes_on.held.theirs)
         added = m.is ∙ ap length_of (one_left m.held goes_on.held)
 
-        pub joined_large : tag_of total_type.the_type y ≡ 1 → MeasuresJoined kind_of s c o d TooLarge
+        pub joined_large : y ≡ None → MeasuresJoined kind_of s c o d None
         joined_large h =
             let g = goes_on in
-            let large = sub_large (both_left g.held.ours g.held.theirs) id (joined_of g.on) (sym added ∙ as_large y h) in
+            let large = sub_large (both_left g.held.ours g.held.theirs) sub.id (joined_of g.on) (sym added ∙ h) in
             record { both = t.all; is = total_large (joined_of t.all) (t.fits ∙ ap all_fit g.parted ∙ large) }
 
-        module _ {n : ℕ} (f : y ≡ Length n) where
+        module _ {n : ℕ} (f : y ≡ Some n) where
           longer : length (write_subsections (joined_of t.come)) ≡ n + length (write_subsections (joined_of goes_on.on))
-          longer = let g = goes_on in ap (λ z. length (write_subsections z)) g.parted ∙ sub_length (both_left g.held.ours g.held.theirs) id (joined_of g.on) (sym added ∙ f)
+          longer = let g = goes_on in ap (λ z. length (write_subsections z)) g.parted ∙ sub_length (both_left g.held.ours g.held.theirs) sub.id (joined_of g.on) (sym added ∙ f)
 
-          pub joined_more : MeasuringJoined kind_of s c o d next after (total + n)
+          pub joined_more : MeasuringJoined kind_of s c o d sub.next sub.after (total + n)
           joined_more =
               let g = goes_on in
               record {
                 all = t.all;
                 come = g.on;
                 so_far = omega (arith, longer, t.so_far);
-                fits = t.fits ∙ ap all_fit g.parted ∙ sub_fits (both_left g.held.ours g.held.theirs) id (joined_of g.on) (sym added ∙ f);
+                fits = t.fits ∙ ap all_fit g.parted ∙ sub_fits (both_left g.held.ours g.held.theirs) sub.id (joined_of g.on) (sym added ∙ f);
                 short = t.short;
               }
 

@@ -1,4 +1,6 @@
 -- The subsections of two payloads that were accepted, written as one; and the whole of both.
+use Rattle.format.specs.declared.JoinRefusal.TheVariants.{Output}
+use Rattle.std.specs.Prelude.{Option as Found, Ok, Err, Some, None}
 use Prim.Native.Nat.{ℕ, ◌+◌, ◌-◌, ◌≤◌, ◌<◌}
 use mathlib.Core.Bool.{true, false}
 use mathlib.Core.List.{List, [], ◌∷◌, ◌++◌, append_assoc, append-nil}
@@ -7,7 +9,6 @@ use mathlib.Core.Path.{◌≡◌, refl, sym, ap, ◌∙◌}
 use native.Mathlib.Omega.{arith}
 use borrow.Author.Rules.{rules}
 use borrow.Author.Tests.{ltb-true}
-use denote.Enum.Declared.{tag_of}
 use lib.Dec.{ltb}
 use lib.ListN.{length, length-append}
 use Rattle.format.specs.Canonical.{row_if, write_part, write_content, write_subsections}
@@ -21,32 +22,24 @@ use Rattle.format.specs.Laws.Options.{some_is, not_some}
 use Rattle.format.specs.Laws.Outcomes.{by_test, on_both}
 use Rattle.format.specs.Laws.Outputs.{writes_refused, writes_short}
 use Rattle.format.specs.Laws.PairAnswers.{join_writes}
-use Rattle.format.specs.declared.JoinWritten.TheVariants.{Length as Joined, Refused as NotJoined}
 use Rattle.format.specs.declared.Reason.TheVariants.{OutputTooShort, SubsectionTooLarge}
-use Rattle.format.specs.declared.Written.TheVariants.{Length as Written, Refused as NotWritten}
 use Rattle.names.specs.Contents.{kind_meant}
 use Rattle.names.specs.declared.kinds.Kind.{Kind}
 use Rattle.reading.specs.declared.Cursor.{Cursor}
-use Rattle.tables.specs.declared.Held.{Held}
+use Rattle.tables.specs.Returned.{Held}
 use Rattle.writing.specs.Wrote.{Wrote}
 use Rattle.writing.proofs.Laws.{wrote_nothing, wrote_join, wrote_length, writes_wrote}
 use Rattle.rewrite.specs.Contents.{count_of}
 use Rattle.rewrite.specs.Subsections.{sub_bytes}
 use Rattle.joining.specs.Contents.{HeldContents, both_left, sizes_of, left_of, LeftOfBoth, FitsBoth, CountsBoth, PutsBothContents}
 use Rattle.joining.specs.Subsections.{KnownFrames, SubsectionNext, total_of, SmallLeft, RoomForHead, PutsHead, FitsSubsection, PutsSubsection, Payloads, MeasuresJoined, FitsJoined, PutsJoined, Joins}
-use Rattle.joining.specs.declared.contents.Left.{Left}
-use Rattle.joining.specs.declared.contents.Left.TheVariants.{Nothing as NoneLeft, Contents}
+use Rattle.joining.specs.Returned.{Left, Total}
 use Rattle.joining.specs.declared.contents.Sizes.{Sizes}
 use Rattle.joining.specs.declared.subsections.NextSubsection.{NextSubsection}
-use Rattle.joining.specs.declared.subsections.NextSubsection.TheVariants.{Subsection}
-use Rattle.joining.specs.declared.subsections.Total.{Total}
-use Rattle.joining.specs.declared.subsections.Total.TheVariants.{Length, TooLarge}
-use Rattle.joining.specs.contracts.subsections.NextSubsection as next_type
-use Rattle.joining.specs.contracts.subsections.Total as total_type
 use Rattle.joining.proofs.ContentLaws.{one_left}
 use Rattle.joining.proofs.PutLaws.{one_remains}
 use Rattle.joining.proofs.FrameLaws.{frames_known}
-use Rattle.joining.proofs.SubsectionLaws.{length_is, not_large, as_large, joined_of, Goes, goes, none_to_come, no_next, a_next, joined_less}
+use Rattle.joining.proofs.SubsectionLaws.{length_is, not_large, joined_of, Goes, goes, none_to_come, no_next, a_next, joined_less}
 
 -- A subsection's id and size
 module _ {size : ℕ} {old : List ℕ} {at : ℕ} (f : RoomForHead size old at) where
@@ -72,11 +65,11 @@ record Remains (b : Option (Content (List ℕ))) (z : Sizes) : Type 0 where
   count_is : z.count ≡ count_of remains
   length_is : z.length ≡ length (write_content remains)
 
-nothing_left : (x : Left) (b : Option (Content (List ℕ))) → left_of x ≡ map_some sizes_of b → x ≡ NoneLeft → b ≡ none
+nothing_left : (x : Left) (b : Option (Content (List ℕ))) → left_of x ≡ map_some sizes_of b → x ≡ None → b ≡ none
 nothing_left x none told e = refl
 nothing_left x (some d) told e = absurd (not_some (rw e at told))
 
-something_left : (x : Left) (b : Option (Content (List ℕ))) {z : Sizes} → left_of x ≡ map_some sizes_of b → x ≡ Contents z → Remains b z
+something_left : (x : Left) (b : Option (Content (List ℕ))) {z : Sizes} → left_of x ≡ map_some sizes_of b → x ≡ Some z → Remains b z
 something_left x none told e = absurd (not_some (sym (rw e at told)))
 something_left x (some d) {z} told e =
     let q : z ≡ sizes_of d = some_is (rw e at told) in
@@ -96,10 +89,10 @@ module _ {kind_of : ℕ → AnyKind} {id : ℕ} {s : List ℕ} {first : Held} {o
   told : left_of x ≡ map_some sizes_of what
   told = there.is ∙ ap (map_some sizes_of) (one_left there.held f.held)
 
-  pub sub_nothing : x ≡ NoneLeft → PutsSubsection kind_of id s first o second old old at at
+  pub sub_nothing : x ≡ None → PutsSubsection kind_of id s first o second old old at at
   sub_nothing e = record { held = f.held; wrote = rw (nothing_left x what told e) (wrote_nothing (omega (arith, f.room))) }
 
-  module _ {z : Sizes} (e : x ≡ Contents z) where
+  module _ {z : Sizes} (e : x ≡ Some z) where
     left_here : Remains what z
     left_here = something_left x what told e
 
@@ -172,44 +165,44 @@ module _ {kind_of : ℕ → AnyKind} {s : List ℕ} {c : Cursor} {o : List ℕ} 
   pub putting_length : length new ≡ length old
   putting_length = wrote_length t.so_far
 
-  module _ (x : NextSubsection) (r : SubsectionNext s ours o theirs x) where
-    pub putting_done : tag_of next_type.the_type x ≡ 0 → PutsJoined kind_of s c o d old new place
+  module _ (x : Found NextSubsection) (r : SubsectionNext s ours o theirs x) where
+    pub putting_done : x ≡ None → PutsJoined kind_of s c o d old new place
     unfolding write_subsections
     putting_done h =
-        let (g, g') = no_next x r h in
+        let (g, g') = no_next r h in
         let nothing : write_subsections (joined_of t.come) ≡ [] = rw (none_to_come t.come g g') in
         let done_is : t.done ≡ write_subsections (joined_of t.all) = sym (append-nil t.done) ∙ rw (← nothing) t.fine in
         record { both = t.all; fit = t.fit_all; wrote = rw done_is at t.so_far }
 
-    module _ {id : ℕ} {first second : Held} {next after : Cursor} (e : x ≡ Subsection id first second next after) where
-      goes_on : Goes t.come id first second next after
+    module _ {sub : NextSubsection} (e : x ≡ Some sub) where
+      goes_on : Goes t.come sub.id sub.first sub.second sub.next sub.after
       goes_on = goes t.come (a_next r e)
 
       abbrev here : Option (Content (List ℕ))
       here = both_left goes_on.held.ours goes_on.held.theirs
 
-      ahead : (t.done ++ sub_bytes id here) ++ write_subsections (joined_of goes_on.on) ≡ write_subsections (joined_of t.all)
+      ahead : (t.done ++ sub_bytes sub.id here) ++ write_subsections (joined_of goes_on.on) ≡ write_subsections (joined_of t.all)
       ahead =
-          let split : write_subsections (joined_of t.come) ≡ sub_bytes id here ++ write_subsections (joined_of goes_on.on) = ap write_subsections goes_on.parted ∙ row_bytes id here (joined_of goes_on.on) in
-          append_assoc t.done (sub_bytes id here) (write_subsections (joined_of goes_on.on)) ∙ rw (← split) t.fine
+          let split : write_subsections (joined_of t.come) ≡ sub_bytes sub.id here ++ write_subsections (joined_of goes_on.on) = ap write_subsections goes_on.parted ∙ row_bytes sub.id here (joined_of goes_on.on) in
+          append_assoc t.done (sub_bytes sub.id here) (write_subsections (joined_of goes_on.on)) ∙ rw (← split) t.fine
 
-      fit_here : all_fit (row_if id here (joined_of goes_on.on)) ≡ true
+      fit_here : all_fit (row_if sub.id here (joined_of goes_on.on)) ≡ true
       fit_here = ap all_fit (sym goes_on.parted) ∙ t.fit
 
-      pub putting_room : FitsSubsection kind_of id s first o second new place
+      pub putting_room : FitsSubsection kind_of sub.id s sub.first o sub.second new place
       putting_room =
-          let lengths = ap length (sym ahead) ∙ length-append (t.done ++ sub_bytes id here) (write_subsections (joined_of goes_on.on)) in
-          record { held = goes_on.held; small = row_small id here (joined_of goes_on.on) fit_here; room = omega (arith, lengths, length-append t.done (sub_bytes id here), t.room, t.so_far.next_is, wrote_length t.so_far) }
+          let lengths = ap length (sym ahead) ∙ length-append (t.done ++ sub_bytes sub.id here) (write_subsections (joined_of goes_on.on)) in
+          record { held = goes_on.held; small = row_small sub.id here (joined_of goes_on.on) fit_here; room = omega (arith, lengths, length-append t.done (sub_bytes sub.id here), t.room, t.so_far.next_is, wrote_length t.so_far) }
 
-      pub putting_more : {last : List ℕ} {place' : ℕ} → PutsSubsection kind_of id s first o second new last place place' → PuttingJoined kind_of s c o d old last place' next after
+      pub putting_more : {last : List ℕ} {place' : ℕ} → PutsSubsection kind_of sub.id s sub.first o sub.second new last place place' → PuttingJoined kind_of s c o d old last place' sub.next sub.after
       putting_more p =
           record {
             all = t.all;
             come = goes_on.on;
-            done = t.done ++ sub_bytes id here;
+            done = t.done ++ sub_bytes sub.id here;
             so_far = wrote_join t.so_far (rw (one_left p.held goes_on.held) at p.wrote);
             fine = ahead;
-            fit = row_fits id here (joined_of goes_on.on) fit_here;
+            fit = row_fits sub.id here (joined_of goes_on.on) fit_here;
             fit_all = t.fit_all;
             room = t.room;
           }
@@ -217,14 +210,14 @@ module _ {kind_of : ℕ → AnyKind} {s : List ℕ} {c : Cursor} {o : List ℕ} 
 pub ruleset joined_written = (putting_begin, ours_known, theirs_known, putting_length, putting_done, putting_room, putting_more, joined_less, wrote_length, rules)
 
 -- The whole of both: too large, too long, or written
-total_fits : (t : Table (Content (List ℕ))) {n : ℕ} → Length n ≡ total_of t → (all_fit t ≡ true) × (n ≡ length (write_subsections t))
+total_fits : (t : Table (Content (List ℕ))) {n : ℕ} → Some n ≡ total_of t → (all_fit t ≡ true) × (n ≡ length (write_subsections t))
 unfolding total_of
 total_fits t e =
     by_test (all_fit t)
     (λ z. (z, length_is (rw z at e)))
     (λ z. absurd (not_large (rw z at e)))
 
-total_not : (t : Table (Content (List ℕ))) → TooLarge ≡ total_of t → all_fit t ≡ false
+total_not : (t : Table (Content (List ℕ))) → None ≡ total_of t → all_fit t ≡ false
 unfolding total_of
 total_not t e =
     by_test (all_fit t)
@@ -232,13 +225,13 @@ total_not t e =
     (λ z. z)
 
 module _ {kind_of : ℕ → AnyKind} {s : List ℕ} {c : Cursor} {o : List ℕ} {d : Cursor} {x : Total} (m : MeasuresJoined kind_of s c o d x) where
-  pub both_large : {old : List ℕ} → tag_of total_type.the_type x ≡ 1 → Joins kind_of s c o d old old (NotJoined (record { reason = SubsectionTooLarge; offset = record { 0 = 0 } }))
+  pub both_large : {old : List ℕ} → x ≡ None → Joins kind_of s c o d old old (Err (Output (record { reason = SubsectionTooLarge; offset = record { 0 = 0 } })))
   unfolding write_joined
   both_large h =
-      let large = total_not (joined_of m.both) (sym (as_large x h) ∙ m.is) in
-      record { both = m.both; writes = join_writes (NotWritten (record { reason = SubsectionTooLarge; offset = record { 0 = 0 } })) refl (writes_refused (rw large)) }
+      let large = total_not (joined_of m.both) (sym h ∙ m.is) in
+      record { both = m.both; writes = join_writes (Err (record { reason = SubsectionTooLarge; offset = record { 0 = 0 } })) refl (writes_refused (rw large)) }
 
-  module _ {needed : ℕ} (e : x ≡ Length needed) where
+  module _ {needed : ℕ} (e : x ≡ Some needed) where
     both_fit : (all_fit (joined_of m.both) ≡ true) × (needed ≡ length (write_subsections (joined_of m.both)))
     both_fit = total_fits (joined_of m.both) (sym e ∙ m.is)
 
@@ -246,18 +239,18 @@ module _ {kind_of : ℕ → AnyKind} {s : List ℕ} {c : Cursor} {o : List ℕ} 
     unfolding write_joined
     both_wanted = rw both_fit.0
 
-    pub both_short : {old : List ℕ} → length old < needed → Joins kind_of s c o d old old (NotJoined (record { reason = OutputTooShort; offset = record { 0 = needed } }))
+    pub both_short : {old : List ℕ} → length old < needed → Joins kind_of s c o d old old (Err (Output (record { reason = OutputTooShort; offset = record { 0 = needed } })))
     both_short h =
         let (fit, is) = both_fit in
-        record { both = m.both; writes = rw is (join_writes (NotWritten (record { reason = OutputTooShort; offset = record { 0 = length (write_subsections (joined_of m.both)) } })) refl (writes_short both_wanted (rw is at h))) }
+        record { both = m.both; writes = rw is (join_writes (Err (record { reason = OutputTooShort; offset = record { 0 = length (write_subsections (joined_of m.both)) } })) refl (writes_short both_wanted (rw is at h))) }
 
     pub both_room : {old : List ℕ} → needed ≤ length old → FitsJoined kind_of s c o d old
     both_room h = let (fit, is) = both_fit in record { both = m.both; fit = fit; room = rw is at h }
 
-pub both_put : {kind_of : ℕ → AnyKind} {s : List ℕ} {c : Cursor} {o : List ℕ} {d : Cursor} {old new : List ℕ} {end : ℕ} → PutsJoined kind_of s c o d old new end → Joins kind_of s c o d old new (Joined end)
+pub both_put : {kind_of : ℕ → AnyKind} {s : List ℕ} {c : Cursor} {o : List ℕ} {d : Cursor} {old new : List ℕ} {end : ℕ} → PutsJoined kind_of s c o d old new end → Joins kind_of s c o d old new (Ok end)
 unfolding write_joined
 both_put {end = end} p =
     let wanted : write_joined p.both.ours p.both.theirs ≡ accepted (write_subsections (joined_of p.both)) = rw p.fit in
-    record { both = p.both; writes = join_writes (Written end) refl (writes_wrote wanted p.wrote) }
+    record { both = p.both; writes = join_writes (Ok end) refl (writes_wrote wanted p.wrote) }
 
 pub ruleset both_written = (both_large, both_short, both_room, both_put, wrote_length, rules)

@@ -1,12 +1,11 @@
 -- The first row that is to come of a map, read ahead. Assumes nothing.
-use Rattle.std.specs.Prelude.{ℕ, ◌<◌, List, ◌≡◌}
+use Rattle.std.specs.Prelude.{ℕ, ◌<◌, List, ◌≡◌, Option, Some, None}
 use Rattle.format.specs.Parts.{sized}
 use Rattle.format.specs.Tables.{rows}
 use Rattle.reading.specs.Standing.{Known}
 use Rattle.tables.specs.Stepping.{RowSteps}
 use Rattle.tables.specs.declared.stepping.Rows.{Rows}
-use Rattle.tables.specs.declared.stepping.RowStep.{RowStep}
-use Rattle.tables.specs.declared.stepping.RowStep.TheVariants.{End, Row}
+use Rattle.tables.specs.Returned.{RowStep}
 use Rattle.joining.specs.Sides.{Sides}
 use Rattle.joining.specs.Steps.{RowNext}
 use Rattle.joining.specs.declared.rows.Ahead.{Ahead}
@@ -32,12 +31,12 @@ pub record Goes (s : List ℕ) (before : Ahead) (left : Rows) : Type 0 where
 
 -- a row that was read ahead is to come
 abbrev pub ReadyStep : Rows → RowStep → Type 0
-ReadyStep left End = Unit {0}
-ReadyStep left (Row k part next) = 0 < left.more
+ReadyStep left None = Unit {0}
+ReadyStep left (Some (k, part, next)) = 0 < left.more
 
 pub record Ready (a : Ahead) : Type 0 where
   pub some_left : ReadyStep a.rows a.step
 
 -- What comes next of two maps, whatever bytes their rows were read in
-pub record NextOf (left right : Ahead) (r : NextRow) : Type 0 where
+pub record NextOf (left right : Ahead) (r : Option NextRow) : Type 0 where
   pub next : (s o : List ℕ) → ReadAhead s left → ReadAhead o right → Sides sized s left.rows o right.rows → RowNext s left.rows o right.rows r

@@ -1,5 +1,5 @@
 -- The contents of a subsection that one of the payloads has, or both: what is left of them as one, and what a write leaves of that. Assumes nothing.
-use Rattle.std.specs.Prelude.{ℕ, ◌+◌, ◌≤◌, ◌<◌, cond, List, ◌≡◌, eqb, length}
+use Rattle.std.specs.Prelude.{ℕ, ◌+◌, ◌≤◌, ◌<◌, cond, List, ◌≡◌, eqb, length, Some, None}
 use Rattle.std.proofs.Math.Option.{Option, none, some}
 use Rattle.format.specs.Canonical.{bare, trim, write_content}
 use Rattle.format.specs.Joined.{join_content}
@@ -8,18 +8,16 @@ use Rattle.format.specs.Numbers.{shortest, limit32}
 use Rattle.format.specs.Options.{map_some}
 use Rattle.format.specs.Parts.{Part}
 use Rattle.reading.specs.declared.Cursor.{Cursor}
-use Rattle.tables.specs.declared.Held.{Held}
-use Rattle.tables.specs.declared.Held.TheVariants.{Nothing, Part as APart}
+use Rattle.tables.specs.Returned.{Held}
 use Rattle.writing.specs.Wrote.{Wrote}
 use Rattle.rewrite.specs.Contents.{ContentStands, count_of}
 use Rattle.joining.specs.declared.contents.Sizes.{Sizes}
-use Rattle.joining.specs.declared.contents.Left.{Left}
-use Rattle.joining.specs.declared.contents.Left.TheVariants.{Nothing as NoneLeft, Contents}
+use Rattle.joining.specs.Returned.{Left}
 
 -- the contents that are held, if they are
 abbrev pub ContentHeld : Kind → List ℕ → Held → Option (Content Part) → Type 0
-ContentHeld kind s Nothing x = x ≡ none
-ContentHeld kind s (APart part) x = (c : Content Part) × ContentStands kind s part c × (x ≡ some c)
+ContentHeld kind s None x = x ≡ none
+ContentHeld kind s (Some part) x = (c : Content Part) × ContentStands kind s part c × (x ≡ some c)
 
 pub record HeldContent (kind : Kind) (s : List ℕ) (held : Held) (x : Option (Content Part)) : Type 0 where
   pub holds : ContentHeld kind s held x
@@ -42,12 +40,12 @@ abbrev pub sizes_of : Content (List ℕ) → Sizes
 sizes_of d = record { count = count_of d; length = length (write_content d) }
 
 abbrev pub left_of : Left → Option Sizes
-left_of NoneLeft = none
-left_of (Contents x) = some x
+left_of None = none
+left_of (Some x) = some x
 
 -- a list with its count before it, if it has anything
 unfoldable pub list_to_come : (count rows : ℕ) → Left
-list_to_come count rows = cond (eqb count 0) NoneLeft (Contents (record { count = count; length = length (shortest count) + rows }))
+list_to_come count rows = cond (eqb count 0) None (Some (record { count = count; length = length (shortest count) + rows }))
 
 -- what is left of one name
 pub record NameLeft (s : List ℕ) (part : Cursor) (r : Left) : Type 0 where

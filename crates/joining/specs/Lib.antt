@@ -1,3 +1,4 @@
+pub mod Returned
 pub mod Sides
 pub mod Steps
 pub mod Ahead

@@ -11,7 +11,7 @@ use Rattle.format.specs.declared.Whose.{Whose}
 use Rattle.reading.specs.Cursors.{Inside, left as left_of}
 use Rattle.reading.specs.Standing.{Stands}
 use Rattle.reading.specs.declared.Cursor.{Cursor}
-use Rattle.tables.specs.declared.Held.{Held}
+use Rattle.tables.specs.Returned.{Held}
 use Rattle.tables.specs.declared.stepping.Rows.{Rows}
 use Rattle.writing.specs.Wrote.{Wrote}
 use Rattle.joining.specs.Sides.{HeldMaps, Sides, Short, Room, PutsBoth, two_parts}

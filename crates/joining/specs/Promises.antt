@@ -3,7 +3,7 @@ use Rattle.std.specs.Prelude.{ℕ, List}
 use Rattle.format.specs.Joined.{join_names, JoinWrites}
 use Rattle.format.specs.Names.{kind_in}
 use Rattle.format.specs.declared.Edition.{Edition}
-use Rattle.format.specs.declared.JoinWritten.{JoinWritten}
+use Rattle.format.specs.Returned.{JoinWritten}
 
 -- joining
 abbrev pub JoiningJoin : (separate own : List ℕ) (edition : Edition) (old : List ℕ) → List ℕ → JoinWritten → Type 0

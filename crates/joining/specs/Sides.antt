@@ -1,5 +1,5 @@
 -- Two tables that were accepted, side by side: the separate payload's and the module's own. Assumes nothing.
-use Rattle.std.specs.Prelude.{ℕ, ◌+◌, ◌-◌, ◌≤◌, ◌<◌, List, ◌≡◌, length}
+use Rattle.std.specs.Prelude.{ℕ, ◌+◌, ◌-◌, ◌≤◌, ◌<◌, List, ◌≡◌, length, Some, None}
 use Rattle.format.specs.Joined.{merged}
 use Rattle.format.specs.Numbers.{number, limit32}
 use Rattle.format.specs.Parts.{Part, sized}
@@ -7,8 +7,7 @@ use Rattle.format.specs.Reading.{Reader}
 use Rattle.format.specs.Tables.{Table, nil, row, rows, table}
 use Rattle.reading.specs.Standing.{Stands, Known}
 use Rattle.reading.specs.declared.Cursor.{Cursor}
-use Rattle.tables.specs.declared.Held.{Held}
-use Rattle.tables.specs.declared.Held.TheVariants.{Nothing, Part as APart}
+use Rattle.tables.specs.Returned.{Held}
 use Rattle.tables.specs.declared.stepping.Rows.{Rows}
 use Rattle.writing.specs.Wrote.{Wrote}
 
@@ -18,31 +17,31 @@ no_rows = record { next = record { at = 0; end = 0 }; more = 0 }
 
 -- the table that is held
 abbrev pub TableHeld : {A : Type 0} → Reader A → List ℕ → Held → Table A → Type 0
-TableHeld read s Nothing t = t ≡ nil
-TableHeld read s (APart c) t = (next : Cursor) × Stands (table read) s c t next
+TableHeld read s None t = t ≡ nil
+TableHeld read s (Some c) t = (next : Cursor) × Stands (table read) s c t next
 
 pub record HeldTable {A : Type 0} (read : Reader A) (s : List ℕ) (held : Held) (t : Table A) : Type 0 where
   pub holds : TableHeld read s held t
 
 -- it lies in a part whose size has 32 bits
 abbrev pub SmallHeld : Held → Type 0
-SmallHeld Nothing = Unit {0}
-SmallHeld (APart c) = c.end - c.at < limit32
+SmallHeld None = Unit {0}
+SmallHeld (Some c) = c.end - c.at < limit32
 
 pub record HeldSmall (held : Held) : Type 0 where
   pub small : SmallHeld held
 
 -- the count of a table, which stands where the table does, and its rows
 abbrev pub CountHeld : List ℕ → Held → Type 0
-CountHeld s Nothing = Unit {0}
-CountHeld s (APart c) = Known number s c
+CountHeld s None = Unit {0}
+CountHeld s (Some c) = Known number s c
 
 pub record HeldCount (s : List ℕ) (held : Held) : Type 0 where
   pub known : CountHeld s held
 
 abbrev pub RowsHeld : List ℕ → Held → Rows → Type 0
-RowsHeld s Nothing r = r ≡ no_rows
-RowsHeld s (APart c) r = Stands number s c r.more r.next
+RowsHeld s None r = r ≡ no_rows
+RowsHeld s (Some c) r = Stands number s c r.more r.next
 
 pub record HeldRows (s : List ℕ) (held : Held) (r : Rows) : Type 0 where
   pub opens : RowsHeld s held r

@@ -1,5 +1,5 @@
 -- The subsections of two payloads that were accepted, side by side: what comes next, how long all are as one, and what a write leaves of that. Assumes nothing.
-use Rattle.std.specs.Prelude.{ℕ, ◌+◌, ◌-◌, ◌≤◌, ◌<◌, true, cond, List, ◌∷◌, ◌≡◌, ltb, length, get_or}
+use Rattle.std.specs.Prelude.{ℕ, ◌+◌, ◌-◌, ◌≤◌, ◌<◌, true, cond, List, ◌∷◌, ◌≡◌, ltb, length, get_or, Option as Found, Some, None}
 use Rattle.std.proofs.Math.Option.{Option, none, some}
 use Rattle.format.specs.Canonical.{write_content, write_subsections}
 use Rattle.format.specs.Joined.{joined_contents, all_fit, write_joined, JoinWrites}
@@ -8,24 +8,17 @@ use Rattle.format.specs.Numbers.{shortest, limit32}
 use Rattle.format.specs.Pairs.{agreed}
 use Rattle.format.specs.Parts.{Part, sized}
 use Rattle.format.specs.Tables.{Table}
-use Rattle.format.specs.declared.JoinWritten.{JoinWritten}
+use Rattle.format.specs.Returned.{JoinWritten}
 use Rattle.names.specs.Frames.{behind_id}
 use Rattle.reading.specs.Cursors.{Inside}
 use Rattle.reading.specs.Standing.{Known, TakesPart}
 use Rattle.reading.specs.declared.Cursor.{Cursor}
-use Rattle.tables.specs.declared.Held.{Held}
-use Rattle.tables.specs.declared.Held.TheVariants.{Nothing, Part as APart}
+use Rattle.tables.specs.Returned.{Held}
 use Rattle.writing.specs.Wrote.{Wrote}
 use Rattle.rewrite.specs.Subsections.{sub_bytes, PayloadStands}
 use Rattle.joining.specs.Contents.{HeldContents, both_left}
-use Rattle.joining.specs.declared.subsections.NextFrame.{NextFrame}
-use Rattle.joining.specs.declared.subsections.NextFrame.TheVariants.{End as NoFrame, Frame}
 use Rattle.joining.specs.declared.subsections.NextSubsection.{NextSubsection}
-use Rattle.joining.specs.declared.subsections.NextSubsection.TheVariants.{End as NoSubsection, Subsection}
-use Rattle.joining.specs.declared.subsections.Total.{Total}
-use Rattle.joining.specs.declared.subsections.Total.TheVariants.{Length, TooLarge}
-use Rattle.joining.specs.declared.contents.Left.{Left}
-use Rattle.joining.specs.declared.contents.Left.TheVariants.{Nothing as NoneLeft, Contents}
+use Rattle.joining.specs.Returned.{Left, Total}
 
 -- a subsection begins here, unless here is the end
 pub record KnownFrames (s : List ℕ) (c : Cursor) : Type 0 where
@@ -38,17 +31,17 @@ pub record FrameStands (s : List ℕ) (c : Cursor) (id : ℕ) (part next : Curso
   pub id_is : id ≡ get_or s c.at 0
   pub contents : TakesPart s (behind_id c) (record { part = part; next = next })
 
-abbrev pub IsFrameHere : List ℕ → Cursor → NextFrame → Type 0
-IsFrameHere s c NoFrame = c.end ≤ c.at
-IsFrameHere s c (Frame id part next) = FrameStands s c id part next
+abbrev pub IsFrameHere : List ℕ → Cursor → Found (ℕ × Cursor × Cursor) → Type 0
+IsFrameHere s c None = c.end ≤ c.at
+IsFrameHere s c (Some (id, part, next)) = FrameStands s c id part next
 
-pub record FrameHere (s : List ℕ) (c : Cursor) (r : NextFrame) : Type 0 where
+pub record FrameHere (s : List ℕ) (c : Cursor) (r : Found (ℕ × Cursor × Cursor)) : Type 0 where
   pub here : IsFrameHere s c r
 
 -- the subsection of an id is taken here, or the next id here is above it
 abbrev pub IsFrameTaken : List ℕ → Cursor → ℕ → Held → Cursor → Type 0
-IsFrameTaken s c id Nothing next = (next ≡ c) × (c.at < c.end → id < get_or s c.at 0)
-IsFrameTaken s c id (APart part) next = FrameStands s c id part next
+IsFrameTaken s c id None next = (next ≡ c) × (c.at < c.end → id < get_or s c.at 0)
+IsFrameTaken s c id (Some part) next = FrameStands s c id part next
 
 pub record FrameTaken (s : List ℕ) (c : Cursor) (id : ℕ) (held : Held) (next : Cursor) : Type 0 where
   pub taken : IsFrameTaken s c id held next
@@ -60,21 +53,21 @@ module _ (s : List ℕ) (c : Cursor) (o : List ℕ) (d : Cursor) where
     pub second_taken : FrameTaken o d id second after
     pub fewer : (next.end - next.at) + (after.end - after.at) < (c.end - c.at) + (d.end - d.at)
 
-  abbrev pub IsSubsectionNext : NextSubsection → Type 0
-  IsSubsectionNext NoSubsection = (c.end ≤ c.at) × (d.end ≤ d.at)
-  IsSubsectionNext (Subsection id first second next after) = TakesSubsection id first second next after
+  abbrev pub IsSubsectionNext : Found NextSubsection → Type 0
+  IsSubsectionNext None = (c.end ≤ c.at) × (d.end ≤ d.at)
+  IsSubsectionNext (Some sub) = TakesSubsection sub.id sub.first sub.second sub.next sub.after
 
-  pub record SubsectionNext (r : NextSubsection) : Type 0 where
+  pub record SubsectionNext (r : Found NextSubsection) : Type 0 where
     pub steps : IsSubsectionNext r
 
 -- How long a subsection is with its id and its size; nothing where nothing is left of it
 unfoldable pub length_left : Left → Total
-length_left NoneLeft = Length 0
-length_left (Contents x) = cond (ltb x.length limit32) (Length (1 + (length (shortest x.length) + x.length))) TooLarge
+length_left None = Some 0
+length_left (Some x) = cond (ltb x.length limit32) (Some (1 + (length (shortest x.length) + x.length))) None
 
 unfoldable pub length_of : Option (Content (List ℕ)) → Total
-length_of none = Length 0
-length_of (some d) = cond (ltb (length (write_content d)) limit32) (Length (1 + (length (shortest (length (write_content d))) + length (write_content d)))) TooLarge
+length_of none = Some 0
+length_of (some d) = cond (ltb (length (write_content d)) limit32) (Some (1 + (length (shortest (length (write_content d))) + length (write_content d)))) None
 
 -- it is not too large
 abbrev pub SmallLeft : Option (Content (List ℕ)) → Type 0
@@ -90,7 +83,7 @@ pub record PutsHead (id size : ℕ) (old new : List ℕ) (at next : ℕ) : Type 
   pub wrote : Wrote old new at next (id ∷ shortest size)
 
 unfoldable pub total_of : Table (Content (List ℕ)) → Total
-total_of t = cond (all_fit t) (Length (length (write_subsections t))) TooLarge
+total_of t = cond (all_fit t) (Some (length (write_subsections t))) None
 
 -- Everything from here on is said over a table of ids
 module _ (kind_of : ℕ → Kind) where

@@ -24,11 +24,7 @@ pub struct Sizes {
 }
 
 // What is left of contents once nothing empty stays.
-#[derive(Clone, Copy)]
-pub enum Left {
-    Nothing,
-    Contents(Sizes),
-}
+pub type Left = Option<Sizes>;
 
 // A list with its count before it, if it has anything.
 fn list_left(count: usize, rows: usize) -> Left
@@ -36,11 +32,11 @@ fn list_left(count: usize, rows: usize) -> Left
     ensures { result ≡ list_to_come count rows }
 {
     if count == 0 {
-        return Left::Nothing;
+        return None;
     }
     let before = count_length(count);
     let length = before + rows;
-    Left::Contents(Sizes { count, length })
+    Some(Sizes { count, length })
 }
 
 // Two name maps.
@@ -69,7 +65,7 @@ fn name_left(s: &[u8], part: Cursor) -> Left
     let name = part_here(part, s);
     let text = name.part;
     let length = sized_length(text.end - text.at);
-    Left::Contents(Sizes { count: 0, length })
+    Some(Sizes { count: 0, length })
 }
 
 // The separate payload's name, or else the own one's.
@@ -78,10 +74,10 @@ fn names_left(s: &[u8], first: Held, o: &[u8], second: Held) -> Left
     ensures { LeftOfBoth one_name s.now first o.now second result }
 {
     match first {
-        Held::Part(part) => name_left(s, part),
-        Held::Nothing => match second {
-            Held::Part(part) => name_left(o, part),
-            Held::Nothing => Left::Nothing,
+        Some(part) => name_left(s, part),
+        None => match second {
+            Some(part) => name_left(o, part),
+            None => None,
         },
     }
 }
@@ -92,16 +88,16 @@ fn kept_left(s: &[u8], first: Held, o: &[u8], second: Held) -> Left
     ensures { LeftOfBoth kept s.now first o.now second result }
 {
     match first {
-        Held::Part(part) => {
+        Some(part) => {
             let length = part.end - part.at;
-            Left::Contents(Sizes { count: 0, length })
+            Some(Sizes { count: 0, length })
         }
-        Held::Nothing => match second {
-            Held::Part(part) => {
+        None => match second {
+            Some(part) => {
                 let length = part.end - part.at;
-                Left::Contents(Sizes { count: 0, length })
+                Some(Sizes { count: 0, length })
             }
-            Held::Nothing => Left::Nothing,
+            None => None,
         },
     }
 }
@@ -175,11 +171,11 @@ fn put_names(out: &mut [u8], at: usize, s: &[u8], first: Held, o: &[u8], second:
     ensures { PutsBothContents one_name s.now first o.now second out.old out.new at result }
 {
     match first {
-        Held::Part(part) => put_name(out, at, s, part),
-        Held::Nothing => match second {
-            Held::Part(part) => put_name(out, at, o, part),
+        Some(part) => put_name(out, at, s, part),
+        None => match second {
+            Some(part) => put_name(out, at, o, part),
             // never asked for
-            Held::Nothing => at,
+            None => at,
         },
     }
 }
@@ -190,19 +186,19 @@ fn put_kept(out: &mut [u8], at: usize, s: &[u8], first: Held, o: &[u8], second: 
     ensures { PutsBothContents kept s.now first o.now second out.old out.new at result }
 {
     match first {
-        Held::Part(part) => {
+        Some(part) => {
             let from = part.at;
             let to = part.end;
             put_bytes(out, at, &s[from..to])
         }
-        Held::Nothing => match second {
-            Held::Part(part) => {
+        None => match second {
+            Some(part) => {
                 let from = part.at;
                 let to = part.end;
                 put_bytes(out, at, &o[from..to])
             }
             // never asked for
-            Held::Nothing => at,
+            None => at,
         },
     }
 }

@@ -5,7 +5,7 @@ ghost use Rattle.format.specs.Numbers.{shortest};
 ghost use Rattle.joining.specs.Merges.{ShortGroup, MeasuresGroup, ShortGroups, MeasuresGroups, RoomForGroup, PutsGroup, RoomForHeld, PutsHeld, RoomForGroups, PutsGroups};
 
 use crate::maps::{merged_length, put_merged};
-use crate::rows::{NextGroup, behind_taken, next_group, rows_of};
+use crate::rows::{behind_taken, next_group, rows_of};
 use reading::Cursor;
 use tables::Held;
 use tables::stepping::Rows;
@@ -100,20 +100,14 @@ pub fn groups_length(left: Rows, s: &[u8], right: Rows, o: &[u8]) -> MergedGroup
     let mut theirs = right;
     let mut kept: usize = 0;
     let mut length: usize = 0;
-    loop {
-        match next_group(ours, s, theirs, o) {
-            NextGroup::End => {
-                return MergedGroups { kept, length };
-            }
-            NextGroup::Group(index, first, second) => {
-                let group = one_group_length(index, first, s, second, o);
-                length = length + group.length;
-                kept = kept + group.one;
-                ours = behind_taken(ours, first, group.left);
-                theirs = behind_taken(theirs, second, group.right);
-            }
-        }
+    while let Some((index, first, second)) = next_group(ours, s, theirs, o) {
+        let group = one_group_length(index, first, s, second, o);
+        length = length + group.length;
+        kept = kept + group.one;
+        ours = behind_taken(ours, first, group.left);
+        theirs = behind_taken(theirs, second, group.right);
     }
+    MergedGroups { kept, length }
 }
 
 // A group with its index and its count before it. Without entries it is left out.
@@ -172,17 +166,11 @@ pub fn put_groups(out: &mut [u8], at: usize, left: Rows, s: &[u8], right: Rows, 
     let mut ours = left;
     let mut theirs = right;
     let mut to = at;
-    loop {
-        match next_group(ours, s, theirs, o) {
-            NextGroup::End => {
-                return to;
-            }
-            NextGroup::Group(index, first, second) => {
-                let group = put_one_group(out, to, index, first, s, second, o);
-                to = group.at;
-                ours = behind_taken(ours, first, group.left);
-                theirs = behind_taken(theirs, second, group.right);
-            }
-        }
+    while let Some((index, first, second)) = next_group(ours, s, theirs, o) {
+        let group = put_one_group(out, to, index, first, s, second, o);
+        to = group.at;
+        ours = behind_taken(ours, first, group.left);
+        theirs = behind_taken(theirs, second, group.right);
     }
+    to
 }

@@ -13,7 +13,7 @@ ghost use Rattle.joining.specs.Roomy.{Roomy};
 ghost use Rattle.joining.specs.Promises.{JoiningJoin};
 
 use crate::subsections::{TOO_LARGE, put_both, put_joined};
-use format::{Edition, JoinWritten, Verdict, Whose, refusal_of};
+use format::{Edition, JoinRefusal, JoinWritten, Whose};
 use names::judging::judge;
 use reading::Cursor;
 
@@ -35,15 +35,14 @@ fn join_beside(separate: &[u8], own: &[u8], edition: Edition, out: &mut [u8]) ->
     requires { Accepted (judge_names (kind_in edition) 0) separate.now }
     ensures { JoiningJoin separate.now own.now edition out.old out.new result }
 {
-    let verdict = judge(own, edition);
-    let Verdict::Accepted = verdict else {
-        return JoinWritten::PayloadRefused(Whose::Own, refusal_of(verdict));
-    };
+    if let Err(r) = judge(own, edition) {
+        return Err(JoinRefusal::Payload(Whose::Own, r));
+    }
     let first = Cursor::over(separate);
     let second = Cursor::over(own);
     if is_roomy(separate.len(), own.len(), out.len()) {
         let end = put_joined(out, separate, first, own, second, edition);
-        return JoinWritten::Length(end);
+        return Ok(end);
     }
     put_both(separate, first, own, second, edition, out)
 }
@@ -52,9 +51,8 @@ fn join_beside(separate: &[u8], own: &[u8], edition: Edition, out: &mut [u8]) ->
 pub fn join(separate: &[u8], own: &[u8], edition: Edition, out: &mut [u8]) -> JoinWritten
     ensures { JoiningJoin separate.now own.now edition out.old out.new result }
 {
-    let verdict = judge(separate, edition);
-    let Verdict::Accepted = verdict else {
-        return JoinWritten::PayloadRefused(Whose::Separate, refusal_of(verdict));
-    };
+    if let Err(r) = judge(separate, edition) {
+        return Err(JoinRefusal::Payload(Whose::Separate, r));
+    }
     join_beside(separate, own, edition, out)
 }

@@ -1,7 +1,7 @@
 // Two maps as one, in its fewest bytes: how long it is, and written into an output.
 ghost use Rattle.joining.specs.Merges.{ShortMaps, MeasuresMaps, ShortAhead, FitsText, PutsText, FitsRow, PutsRow, RoomForMaps, PutsMaps, RoomAhead};
 
-use crate::rows::{Ahead, NextRow, next_row, onward, read_ahead};
+use crate::rows::{Ahead, next_row, onward, read_ahead};
 use copying::{put_part, sized_length};
 use format::Whose;
 use reading::Cursor;
@@ -26,29 +26,24 @@ fn ahead_length(left: Ahead, s: &[u8], right: Ahead, o: &[u8]) -> Merged
     let mut theirs = right;
     let mut count: usize = 0;
     let mut length: usize = 0;
-    loop {
-        match next_row(ours, theirs) {
-            NextRow::End => {
-                let left = ours.rows;
-                let right = theirs.rows;
-                let left = left.next;
-                let right = right.next;
-                return Merged {
-                    count,
-                    length,
-                    left,
-                    right,
-                };
-            }
-            NextRow::Row(_, index, part, first, second) => {
-                let key = number_length(index);
-                let text = sized_length(part.end - part.at);
-                length = length + key + text;
-                count = count + 1;
-                ours = onward(ours, first, s);
-                theirs = onward(theirs, second, o);
-            }
-        }
+    while let Some(row) = next_row(ours, theirs) {
+        let part = row.part;
+        let key = number_length(row.index);
+        let text = sized_length(part.end - part.at);
+        length = length + key + text;
+        count = count + 1;
+        ours = onward(ours, row.first, s);
+        theirs = onward(theirs, row.second, o);
+    }
+    let left = ours.rows;
+    let right = theirs.rows;
+    let left = left.next;
+    let right = right.next;
+    Merged {
+        count,
+        length,
+        left,
+        right,
     }
 }
 
@@ -98,18 +93,12 @@ fn put_ahead(out: &mut [u8], at: usize, left: Ahead, s: &[u8], right: Ahead, o: 
     let mut ours = left;
     let mut theirs = right;
     let mut to = at;
-    loop {
-        match next_row(ours, theirs) {
-            NextRow::End => {
-                return to;
-            }
-            NextRow::Row(whose, index, part, first, second) => {
-                to = put_row(out, to, index, whose, part, s, o);
-                ours = onward(ours, first, s);
-                theirs = onward(theirs, second, o);
-            }
-        }
+    while let Some(row) = next_row(ours, theirs) {
+        to = put_row(out, to, row.index, row.whose, row.part, s, o);
+        ours = onward(ours, row.first, s);
+        theirs = onward(theirs, row.second, o);
     }
+    to
 }
 
 // The rows of both, one after the other.

@@ -9,7 +9,7 @@ ghost use Rattle.joining.specs.Steps.{behind_taken, Taken, GroupNext};
 use format::Whose;
 use reading::Cursor;
 use tables::Held;
-use tables::stepping::{GroupStep, RowStep, Rows, behind, group_step, row_step, rows_here};
+use tables::stepping::{RowStep, Rows, behind, group_step, row_step, rows_here};
 
 // The rows of a map that are to come, and the first of them, which is read ahead: of two maps only one row is taken at a time, and the other need not be read again.
 #[derive(Clone, Copy)]
@@ -20,16 +20,12 @@ pub struct Ahead {
 
 // What comes next of two maps: whose row it is, its index and its text, and the rows that are to come of each.
 #[derive(Clone, Copy)]
-pub enum NextRow {
-    End,
-    Row(Whose, u32, Cursor, Rows, Rows),
-}
-
-// What comes next of two lists of groups: the group's index, and where its map stands in each, if it does.
-#[derive(Clone, Copy)]
-pub enum NextGroup {
-    End,
-    Group(u32, Held, Held),
+pub struct NextRow {
+    pub whose: Whose,
+    pub index: u32,
+    pub part: Cursor,
+    pub first: Rows,
+    pub second: Rows,
 }
 
 const NO_ROWS: Rows = Rows {
@@ -43,8 +39,8 @@ pub fn rows_of(table: Held, s: &[u8]) -> Rows
     ensures { HeldRows s.now table result }
 {
     match table {
-        Held::Nothing => NO_ROWS,
-        Held::Part(c) => rows_here(c, s),
+        None => NO_ROWS,
+        Some(c) => rows_here(c, s),
     }
 }
 
@@ -54,8 +50,8 @@ pub fn behind_taken(left: Rows, taken: Held, next: Cursor) -> Rows
     ensures { result ≡ behind_taken left taken next }
 {
     match taken {
-        Held::Nothing => left,
-        Held::Part(_) => behind(left, next),
+        None => left,
+        Some(_) => behind(left, next),
     }
 }
 
@@ -81,7 +77,7 @@ pub fn onward(before: Ahead, rows: Rows, s: &[u8]) -> Ahead
 }
 
 // The next row of two maps. Where both have it, it is the separate payload's.
-pub fn next_row(left: Ahead, right: Ahead) -> NextRow
+pub fn next_row(left: Ahead, right: Ahead) -> Option<NextRow>
     requires ready { Ready left }
     requires ready_2 { Ready right }
     ensures { NextOf left right result }
@@ -91,48 +87,76 @@ pub fn next_row(left: Ahead, right: Ahead) -> NextRow
     let first = left.step;
     let second = right.step;
     match first {
-        RowStep::End => match second {
-            RowStep::End => NextRow::End,
-            RowStep::Row(j, other, after) => {
-                NextRow::Row(Whose::Own, j, other, ours, behind(theirs, after))
-            }
+        None => match second {
+            None => None,
+            Some((j, other, after)) => Some(NextRow {
+                whose: Whose::Own,
+                index: j,
+                part: other,
+                first: ours,
+                second: behind(theirs, after),
+            }),
         },
-        RowStep::Row(i, part, next) => match second {
-            RowStep::End => NextRow::Row(Whose::Separate, i, part, behind(ours, next), theirs),
-            RowStep::Row(j, other, after) => {
+        Some((i, part, next)) => match second {
+            None => Some(NextRow {
+                whose: Whose::Separate,
+                index: i,
+                part,
+                first: behind(ours, next),
+                second: theirs,
+            }),
+            Some((j, other, after)) => {
                 if i < j {
-                    return NextRow::Row(Whose::Separate, i, part, behind(ours, next), theirs);
+                    return Some(NextRow {
+                        whose: Whose::Separate,
+                        index: i,
+                        part,
+                        first: behind(ours, next),
+                        second: theirs,
+                    });
                 }
                 if j < i {
-                    return NextRow::Row(Whose::Own, j, other, ours, behind(theirs, after));
+                    return Some(NextRow {
+                        whose: Whose::Own,
+                        index: j,
+                        part: other,
+                        first: ours,
+                        second: behind(theirs, after),
+                    });
                 }
-                let onward = behind(theirs, after);
-                NextRow::Row(Whose::Separate, i, part, behind(ours, next), onward)
+                let whose = Whose::Separate;
+                Some(NextRow {
+                    whose,
+                    index: i,
+                    part,
+                    first: behind(ours, next),
+                    second: behind(theirs, after),
+                })
             }
         },
     }
 }
 
-// The next group of two lists of groups.
-pub fn next_group(left: Rows, s: &[u8], right: Rows, o: &[u8]) -> NextGroup
+// The next group of two lists of groups: its index, and where its map stands in each, if it does.
+pub fn next_group(left: Rows, s: &[u8], right: Rows, o: &[u8]) -> Option<(u32, Held, Held)>
     requires { Sides (table sized) s.now left o.now right }
     ensures { GroupNext s.now left o.now right result }
 {
     match group_step(left, s) {
-        GroupStep::End => match group_step(right, o) {
-            GroupStep::End => NextGroup::End,
-            GroupStep::Group(j, other) => NextGroup::Group(j, Held::Nothing, Held::Part(other)),
+        None => match group_step(right, o) {
+            None => None,
+            Some((j, other)) => Some((j, None, Some(other))),
         },
-        GroupStep::Group(i, place) => match group_step(right, o) {
-            GroupStep::End => NextGroup::Group(i, Held::Part(place), Held::Nothing),
-            GroupStep::Group(j, other) => {
+        Some((i, place)) => match group_step(right, o) {
+            None => Some((i, Some(place), None)),
+            Some((j, other)) => {
                 if i < j {
-                    return NextGroup::Group(i, Held::Part(place), Held::Nothing);
+                    return Some((i, Some(place), None));
                 }
                 if j < i {
-                    return NextGroup::Group(j, Held::Nothing, Held::Part(other));
+                    return Some((j, None, Some(other)));
                 }
-                NextGroup::Group(i, Held::Part(place), Held::Part(other))
+                Some((i, Some(place), Some(other)))
             }
         },
     }

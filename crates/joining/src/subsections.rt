@@ -5,7 +5,7 @@ ghost use Rattle.joining.specs.Subsections.{KnownFrames, FrameHere, SubsectionNe
 
 use crate::contents::{Left, contents_left, put_contents};
 use copying::sized_length;
-use format::{Edition, JoinWritten, Offset, Reason, Refusal};
+use format::{Edition, JoinRefusal, JoinWritten, Offset, Reason, Refusal};
 use names::kinds::kind_of;
 use reading::Cursor;
 use reading::again::part_here;
@@ -17,69 +17,90 @@ const ID_LENGTH: usize = 1;
 // Contents of so many bytes or more have no size number.
 pub const TOO_LARGE: usize = 1 << 32;
 
-// What comes next of a payload: a subsection's id, where its contents lie, and the cursor behind it.
-#[derive(Clone, Copy)]
-pub enum NextFrame {
-    End,
-    Frame(u8, Cursor, Cursor),
-}
-
 // What comes next of two payloads: a subsection's id, where its contents lie in each, if they do, and the cursors behind it.
 #[derive(Clone, Copy)]
-pub enum NextSubsection {
-    End,
-    Subsection(u8, Held, Held, Cursor, Cursor),
+pub struct NextSubsection {
+    pub id: u8,
+    pub first: Held,
+    pub second: Held,
+    pub next: Cursor,
+    pub after: Cursor,
 }
 
 // How long something is, if none of its subsections is too large.
-#[derive(Clone, Copy)]
-pub enum Total {
-    Length(usize),
-    TooLarge,
-}
+pub type Total = Option<usize>;
 
-// The subsection that begins here, if one does: it was accepted.
-fn frame_here(s: &[u8], c: Cursor) -> NextFrame
+// The subsection that begins here, if one does: its id, where its contents lie, and the cursor behind it. It was accepted.
+fn frame_here(s: &[u8], c: Cursor) -> Option<(u8, Cursor, Cursor)>
     requires { KnownFrames s.now c }
     ensures { FrameHere s.now c result }
 {
     let at = c.at;
     let end = c.end;
     if end <= at {
-        return NextFrame::End;
+        return None;
     }
     let id = s[at];
     let rest = Cursor { at: at + 1, end };
     let contents = part_here(rest, s);
     let part = contents.part;
     let next = contents.next;
-    NextFrame::Frame(id, part, next)
+    Some((id, part, next))
 }
 
 // The next subsection of two payloads, of the lesser id; of both where they have the same.
-fn next_subsection(s: &[u8], c: Cursor, o: &[u8], d: Cursor) -> NextSubsection
+fn next_subsection(s: &[u8], c: Cursor, o: &[u8], d: Cursor) -> Option<NextSubsection>
     requires known_frames { KnownFrames s.now c }
     requires known_frames_2 { KnownFrames o.now d }
     ensures { SubsectionNext s.now c o.now d result }
 {
-    let none = Held::Nothing;
     match frame_here(s, c) {
-        NextFrame::End => match frame_here(o, d) {
-            NextFrame::End => NextSubsection::End,
-            NextFrame::Frame(j, other, after) => {
-                NextSubsection::Subsection(j, none, Held::Part(other), c, after)
-            }
+        None => match frame_here(o, d) {
+            None => None,
+            Some((j, other, after)) => Some(NextSubsection {
+                id: j,
+                first: None,
+                second: Some(other),
+                next: c,
+                after,
+            }),
         },
-        NextFrame::Frame(i, part, next) => match frame_here(o, d) {
-            NextFrame::End => NextSubsection::Subsection(i, Held::Part(part), none, next, d),
-            NextFrame::Frame(j, other, after) => {
+        Some((i, part, next)) => match frame_here(o, d) {
+            None => Some(NextSubsection {
+                id: i,
+                first: Some(part),
+                second: None,
+                next,
+                after: d,
+            }),
+            Some((j, other, after)) => {
                 if i < j {
-                    return NextSubsection::Subsection(i, Held::Part(part), none, next, d);
+                    return Some(NextSubsection {
+                        id: i,
+                        first: Some(part),
+                        second: None,
+                        next,
+                        after: d,
+                    });
                 }
                 if j < i {
-                    return NextSubsection::Subsection(j, none, Held::Part(other), c, after);
+                    return Some(NextSubsection {
+                        id: j,
+                        first: None,
+                        second: Some(other),
+                        next: c,
+                        after,
+                    });
                 }
-                NextSubsection::Subsection(i, Held::Part(part), Held::Part(other), next, after)
+                let first = Some(part);
+                let second = Some(other);
+                Some(NextSubsection {
+                    id: i,
+                    first,
+                    second,
+                    next,
+                    after,
+                })
             }
         },
     }
@@ -90,13 +111,13 @@ fn left_length(left: Left) -> Total
     ensures { result ≡ length_left left }
 {
     match left {
-        Left::Nothing => Total::Length(0),
-        Left::Contents(sizes) => {
+        None => Some(0),
+        Some(sizes) => {
             if TOO_LARGE <= sizes.length {
-                return Total::TooLarge;
+                return None;
             }
             let contents = sized_length(sizes.length);
-            Total::Length(ID_LENGTH + contents)
+            Some(ID_LENGTH + contents)
         }
     }
 }
@@ -125,22 +146,13 @@ fn joined_length(s: &[u8], c: Cursor, o: &[u8], d: Cursor, edition: Edition) -> 
     let mut ours = c;
     let mut theirs = d;
     let mut length: usize = 0;
-    loop {
-        match next_subsection(s, ours, o, theirs) {
-            NextSubsection::End => {
-                return Total::Length(length);
-            }
-            NextSubsection::Subsection(id, first, second, next, after) => {
-                let total = subsection_length(edition, id, s, first, o, second);
-                let Total::Length(size) = total else {
-                    return Total::TooLarge;
-                };
-                length = length + size;
-                ours = next;
-                theirs = after;
-            }
-        }
+    while let Some(sub) = next_subsection(s, ours, o, theirs) {
+        let size = subsection_length(edition, sub.id, s, sub.first, o, sub.second)?;
+        length = length + size;
+        ours = sub.next;
+        theirs = sub.after;
     }
+    Some(length)
 }
 
 // A subsection's id and the size of its contents.
@@ -168,8 +180,8 @@ fn put_subsection(
 {
     let kind = kind_of(edition, id);
     match contents_left(kind, s, first, o, second) {
-        Left::Nothing => at,
-        Left::Contents(sizes) => {
+        None => at,
+        Some(sizes) => {
             let contents = put_head(out, at, id, sizes.length);
             put_contents(out, contents, kind, s, first, o, second, sizes.count)
         }
@@ -191,18 +203,12 @@ pub fn put_joined(
     let mut ours = c;
     let mut theirs = d;
     let mut place: usize = 0;
-    loop {
-        match next_subsection(s, ours, o, theirs) {
-            NextSubsection::End => {
-                return place;
-            }
-            NextSubsection::Subsection(id, first, second, next, after) => {
-                place = put_subsection(out, place, edition, id, s, first, o, second);
-                ours = next;
-                theirs = after;
-            }
-        }
+    while let Some(sub) = next_subsection(s, ours, o, theirs) {
+        place = put_subsection(out, place, edition, sub.id, s, sub.first, o, sub.second);
+        ours = sub.next;
+        theirs = sub.after;
     }
+    place
 }
 
 // The whole of both. It is measured first, so that nothing is stored where a subsection is too large or the output too short.
@@ -218,18 +224,18 @@ pub fn put_both(
     ensures { Joins (kind_in edition) s.now c o.now d out.old out.new result }
 {
     let total = joined_length(s, c, o, d, edition);
-    let Total::Length(needed) = total else {
-        return JoinWritten::Refused(Refusal {
+    let Some(needed) = total else {
+        return Err(JoinRefusal::Output(Refusal {
             reason: Reason::SubsectionTooLarge,
             offset: Offset(0),
-        });
+        }));
     };
     if out.len() < needed {
-        return JoinWritten::Refused(Refusal {
+        return Err(JoinRefusal::Output(Refusal {
             reason: Reason::OutputTooShort,
             offset: Offset(needed),
-        });
+        }));
     }
     let end = put_joined(out, s, c, o, d, edition);
-    JoinWritten::Length(end)
+    Ok(end)
 }

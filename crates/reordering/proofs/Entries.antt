@@ -1,7 +1,8 @@
 -- Entries that stand at a cursor, written anew: in order already, or in any order.
+use Rattle.std.specs.Prelude.{Ok, Err}
 use Prim.Native.Nat.{ℕ, ◌+◌, ◌^◌, ◌≤◌, ◌<◌}
 use mathlib.Core.List.{List, ◌++◌}
-use mathlib.Core.Logic.{◌⊎◌, ⊎_elim}
+use mathlib.Core.Logic.{⊎_elim}
 use mathlib.Core.Path.{◌≡◌, sym, ap, ◌∙◌}
 use native.Mathlib.Omega.{arith}
 use borrow.Author.Rules.{rules}
@@ -17,7 +18,6 @@ use Rattle.format.specs.Tables.{nil}
 use Rattle.format.proofs.Laws.OlderInOrder.{in_order_written}
 use Rattle.format.specs.Laws.Outputs.{writes_refused, writes_short}
 use Rattle.format.specs.declared.Reason.TheVariants.{SubsectionTooLarge, OutputTooShort}
-use Rattle.format.specs.declared.Written.TheVariants.{Length, Refused}
 use Rattle.in_order.specs.declared.EntrySurvey.{EntrySurvey}
 use Rattle.out_of_order.specs.Backward.{ReadyPut}
 use Rattle.out_of_order.specs.Gathering.{Windowed, entries_here, falling_here}
@@ -56,7 +56,7 @@ module _ {n : ℕ} {s : List ℕ} {c : Cursor} {found : EntrySurvey} (ready : Re
     needed_is = let e = ap length written ∙ length-append (shortest found.kept) (entries_bytes es) in omega (arith, e, long, ready.surveyed.long)
 
     module _ (old : List ℕ) where
-      pub rising_long : most < size + found.length → RewritesEntries n s c old old (Refused (record { reason = SubsectionTooLarge; offset = record { 0 = 0 } }))
+      pub rising_long : most < size + found.length → RewritesEntries n s c old old (Err (record { reason = SubsectionTooLarge; offset = record { 0 = 0 } }))
       rising_long h = record {
         value = es;
         next = found.next;
@@ -68,7 +68,7 @@ module _ {n : ℕ} {s : List ℕ} {c : Cursor} {found : EntrySurvey} (ready : Re
         wanted : not_too_long (write_older (sorted_from nil es)) ≡ accepted (write_older (sorted_from nil es))
         wanted = not_long (write_older (sorted_from nil es)) (let e = needed_is in omega (arith, e, small))
 
-        pub rising_short : length old < size + found.length → RewritesEntries n s c old old (Refused (record { reason = OutputTooShort; offset = record { 0 = size + found.length } }))
+        pub rising_short : length old < size + found.length → RewritesEntries n s c old old (Err (record { reason = OutputTooShort; offset = record { 0 = size + found.length } }))
         rising_short h = record {
           value = es;
           next = found.next;
@@ -89,7 +89,7 @@ module _ {n : ℕ} {s : List ℕ} {c : Cursor} {found : EntrySurvey} (ready : Re
               room = let l = wrote_length count in omega (arith, l, count.next_is, room, long, ready.surveyed.long);
             }
 
-            pub rising_put : {new : List ℕ} {r : Put} → Puts (times older_entry n) entries_bytes s c mid new at r → RewritesEntries n s c old new (Length r.at)
+            pub rising_put : {new : List ℕ} {r : Put} → Puts (times older_entry n) entries_bytes s c mid new at r → RewritesEntries n s c old new (Ok r.at)
             rising_put p =
                 let same : p.value ≡ es = one_value p.stands ready.surveyed.stands in
                 let bytes : shortest found.kept ++ entries_bytes p.value ≡ write_older (sorted_from nil es) = ap (λ v. shortest found.kept ++ entries_bytes v) same ∙ sym written in
@@ -124,21 +124,21 @@ module _ (n : ℕ) {s : List ℕ} {c : Cursor} (known : Known (times older_entry
     short_so h = let e = is in ⊎_elim (λ q. e ∙ q) (λ q. absurd (let l = q.0 in omega (arith, l, e, h))) (measured_so src)
 
     module _ (old : List ℕ) where
-      pub unordered_long : most < needed → RewritesEntries n s c old old (Refused (record { reason = SubsectionTooLarge; offset = record { 0 = 0 } }))
+      pub unordered_long : most < needed → RewritesEntries n s c old old (Err (record { reason = SubsectionTooLarge; offset = record { 0 = 0 } }))
       unordered_long h = record { value = entries_here n s c; next = src.last; stands = src.stands; writes = writes_refused (too_long bytes (long_so h)) }
 
       module _ (small : needed ≤ most) where
         wanted' : not_too_long bytes ≡ accepted bytes
         wanted' = not_long bytes (let e = short_so small in omega (arith, e, small))
 
-        pub unordered_short : length old < needed → RewritesEntries n s c old old (Refused (record { reason = OutputTooShort; offset = record { 0 = needed } }))
+        pub unordered_short : length old < needed → RewritesEntries n s c old old (Err (record { reason = OutputTooShort; offset = record { 0 = needed } }))
         unordered_short h = record { value = entries_here n s c; next = src.last; stands = src.stands; writes = rw (short_so small) (writes_short wanted' (rw (short_so small) at h)) }
 
         module _ (room : needed ≤ length old) where
           pub unordered_room : {keys orders : List ℕ} → length keys ≡ 2048 → length orders ≡ 2048 → ReadyPut old needed keys orders n s c
           unordered_room k o = record { known = known; window = windowed k o; whole = is; short = small; within = room }
 
-          pub unordered_put : {new : List ℕ} → Wrote old new 0 needed bytes → RewritesEntries n s c old new (Length needed)
+          pub unordered_put : {new : List ℕ} → Wrote old new 0 needed bytes → RewritesEntries n s c old new (Ok needed)
           unordered_put w = record { value = entries_here n s c; next = src.last; stands = src.stands; writes = writes_wrote wanted' w }
 
 pub ruleset unordered_steps = (unordered_ready, unordered_long, unordered_short, unordered_room, unordered_put, rules)

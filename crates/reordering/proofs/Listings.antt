@@ -1,4 +1,5 @@
 -- A payload listed: refused, or its entries stand where it begins, and their rows are put, or one of the lists is too short.
+use Rattle.std.specs.Prelude.{Ok, Err, Some}
 use Prim.Native.Nat.{ℕ, ◌+◌, ◌^◌, ◌<◌}
 use mathlib.Core.Bool.{Bool, true, false, ◌&&◌}
 use mathlib.Core.List.{List, [], ◌∷◌}
@@ -6,7 +7,6 @@ use mathlib.Core.Option.{some}
 use mathlib.Core.Path.{◌≡◌, refl, sym, ap, ◌∙◌}
 use native.Mathlib.Nat.{zero-add}
 use borrow.Author.Rules.{rules}
-use denote.Enum.Declared.{tag_of}
 use lib.Dec.{leb}
 use lib.ListN.{length}
 use Rattle.format.specs.Entries.{Listed, group_rows, older_rows, older_columns, fit_each, Lists}
@@ -16,14 +16,11 @@ use Rattle.format.specs.Reading.{accepted, verdict}
 use Rattle.format.specs.Tables.{nil}
 use Rattle.format.specs.Verdicts.{verdict_of}
 use Rattle.format.proofs.Laws.Entries.{lists_refused, lists_short}
-use Rattle.format.specs.declared.Answer.{Answer}
-use Rattle.format.specs.declared.Answer.TheVariants.{Found, Refused}
+use Rattle.format.specs.Returned.{Answer}
 use Rattle.format.specs.declared.Hint.{Hint}
 use Rattle.format.specs.declared.Reason.TheVariants.{OutputTooShort}
 use Rattle.format.specs.declared.Refusal.{Refusal}
-use Rattle.format.specs.declared.Verdict.{Verdict}
-use Rattle.format.specs.declared.Verdict.TheVariants.{Refused as NotAccepted}
-use Rattle.format.specs.contracts.Verdict as verdict_type
+use Rattle.format.specs.Returned.{Verdict}
 use Rattle.in_order.specs.Rows.{entries_rows, SurveysRows, FitsRows, PutsAll}
 use Rattle.in_order.proofs.InOrder.{in_order_rows}
 use Rattle.in_order.specs.declared.rows.RowSurvey.{RowSurvey}
@@ -57,10 +54,10 @@ module _ (fs os ks : List ℕ) (rows : ℕ) {fit : Bool} (told : fit ≡ (leb ro
 
 -- 13, or all rows
 module _ {es : List (Listed Hint)} {rows : ℕ} (many : rows ≡ length es) {fs os ks : List ℕ} {fit : Bool} (told : fit ≡ (leb rows (length fs) && leb rows (length os)) && leb rows (length ks)) where
-  rows_short : fit ≡ false → {r : Answer} → r ≡ Refused (record { reason = OutputTooShort; offset = record { 0 = rows } }) → Lists older_columns (accepted (some es)) (fs ∷ os ∷ ks ∷ []) (fs ∷ os ∷ ks ∷ []) r
+  rows_short : fit ≡ false → {r : Answer} → r ≡ Err (record { reason = OutputTooShort; offset = record { 0 = rows } }) → Lists older_columns (accepted (some es)) (fs ∷ os ∷ ks ∷ []) (fs ∷ os ∷ ks ∷ []) r
   rows_short e q = rw (q, many) (lists_short refl (rw many at (fit_told fs os ks rows told) ∙ e))
 
-  rows_all : fit ≡ true → {r : Answer} → r ≡ Found (record { offset = record { 0 = 0 }; length = rows }) → {lists : List (List ℕ)} → Columns es 0 rows older_columns (fs ∷ os ∷ ks ∷ []) lists → Lists older_columns (accepted (some es)) (fs ∷ os ∷ ks ∷ []) lists r
+  rows_all : fit ≡ true → {r : Answer} → r ≡ Ok (Some (record { offset = record { 0 = 0 }; length = rows })) → {lists : List (List ℕ)} → Columns es 0 rows older_columns (fs ∷ os ∷ ks ∷ []) lists → Lists older_columns (accepted (some es)) (fs ∷ os ∷ ks ∷ []) lists r
   rows_all e q w = rw q (lists_all refl many (room_told fs os ks rows told e) w)
 
 -- In order
@@ -75,7 +72,7 @@ module _ {n : ℕ} {s : List ℕ} {c : Cursor} {rows : ℕ} (ready : RisingRows 
   its_many = ready.many ∙ ap length (sym its_rows)
 
   module _ {fs os ks : List ℕ} {fit : Bool} (told : fit ≡ (leb rows (length fs) && leb rows (length os)) && leb rows (length ks)) where
-    pub rising_short : fit ≡ false → {r : Answer} → r ≡ Refused (record { reason = OutputTooShort; offset = record { 0 = rows } }) → ListsEntries n s c (fs ∷ os ∷ ks ∷ []) (fs ∷ os ∷ ks ∷ []) r
+    pub rising_short : fit ≡ false → {r : Answer} → r ≡ Err (record { reason = OutputTooShort; offset = record { 0 = rows } }) → ListsEntries n s c (fs ∷ os ∷ ks ∷ []) (fs ∷ os ∷ ks ∷ []) r
     rising_short e q = record { value = es; next = ready.next; stands = ready.stands; listing = rows_short its_many told e q }
 
     module _ (e : fit ≡ true) where
@@ -84,7 +81,7 @@ module _ {n : ℕ} {s : List ℕ} {c : Cursor} {rows : ℕ} (ready : RisingRows 
           let room : rows ≡ 0 + length (entries_rows es) = ready.many ∙ sym (zero-add (length (entries_rows es))) in
           record { value = es; next = ready.next; stands = ready.stands; room = rw room at (room_told fs os ks rows told e) }
 
-      pub rising_put : {lists : List (List ℕ)} → PutsAll n s c (fs ∷ os ∷ ks ∷ []) lists → {r : Answer} → r ≡ Found (record { offset = record { 0 = 0 }; length = rows }) → ListsEntries n s c (fs ∷ os ∷ ks ∷ []) lists r
+      pub rising_put : {lists : List (List ℕ)} → PutsAll n s c (fs ∷ os ∷ ks ∷ []) lists → {r : Answer} → r ≡ Ok (Some (record { offset = record { 0 = 0 }; length = rows })) → ListsEntries n s c (fs ∷ os ∷ ks ∷ []) lists r
       rising_put {lists} p q =
           let same : p.value ≡ es = one_value p.stands ready.stands in
           let its : Columns (entries_rows es) 0 (length (entries_rows es)) older_columns (fs ∷ os ∷ ks ∷ []) lists = rw (← same) p.put in
@@ -115,10 +112,10 @@ module _ {n : ℕ} {s : List ℕ} {c : Cursor} {rows : ℕ} {keys orders : List 
     counted_room e = record { known = ready.known; window = ready.window; whole = ready.many; fits = room_told fs os ks rows told e }
 
     module _ {r : Answer} where
-      pub counted_short : fit ≡ false → r ≡ Refused (record { reason = OutputTooShort; offset = record { 0 = rows } }) → ListsEntries n s c (fs ∷ os ∷ ks ∷ []) (fs ∷ os ∷ ks ∷ []) r
+      pub counted_short : fit ≡ false → r ≡ Err (record { reason = OutputTooShort; offset = record { 0 = rows } }) → ListsEntries n s c (fs ∷ os ∷ ks ∷ []) (fs ∷ os ∷ ks ∷ []) r
       counted_short e q = record { value = entries_here n s c; next = src.last; stands = src.stands; listing = rows_short here_many told e q }
 
-      pub counted_put : fit ≡ true → {lists : List (List ℕ)} → Columns (rows_here n s c) 0 rows older_columns (fs ∷ os ∷ ks ∷ []) lists → r ≡ Found (record { offset = record { 0 = 0 }; length = rows }) → ListsEntries n s c (fs ∷ os ∷ ks ∷ []) lists r
+      pub counted_put : fit ≡ true → {lists : List (List ℕ)} → Columns (rows_here n s c) 0 rows older_columns (fs ∷ os ∷ ks ∷ []) lists → r ≡ Ok (Some (record { offset = record { 0 = 0 }; length = rows })) → ListsEntries n s c (fs ∷ os ∷ ks ∷ []) lists r
       counted_put e p q = record { value = entries_here n s c; next = src.last; stands = src.stands; listing = rows_all here_many told e q (rw rows_are at p) }
 
 pub ruleset counted_lists = (counted_room, counted_short, counted_put, rules)
@@ -135,11 +132,11 @@ pub ruleset payload_lists = (payload_count, payload_entries, payload_rising, pay
 
 -- A payload that was judged
 module _ (p : List ℕ) (j : Verdict) (says : verdict_of j ≡ verdict (judge_older 0 p)) where
-  pub list_refused : {r : Refusal} → j ≡ NotAccepted r → {lists : List (List ℕ)} → Lists older_columns (older_rows p) lists lists (Refused r)
+  pub list_refused : {r : Refusal} → j ≡ Err r → {lists : List (List ℕ)} → Lists older_columns (older_rows p) lists lists (Err r)
   unfolding older_rows
   list_refused e = lists_refused (rw (not_accepted p j says e))
 
-  pub list_whole : tag_of verdict_type.the_type j ≡ 0 → {c : Cursor} → c ≡ over_all p → {lists lists' : List (List ℕ)} {r : Answer} → ListsOlder p c lists lists' r → Lists older_columns (older_rows p) lists lists' r
+  pub list_whole : j ≡ Ok tt → {c : Cursor} → c ≡ over_all p → {lists lists' : List (List ℕ)} {r : Answer} → ListsOlder p c lists lists' r → Lists older_columns (older_rows p) lists lists' r
   unfolding older_rows
   list_whole h over w =
       let a = was_accepted p j says h in

@@ -1,4 +1,5 @@
 -- A payload that was judged: refused, or its entries stand where it begins and are written anew; and whether it is its own rewriting.
+use Rattle.std.specs.Prelude.{Ok, Err}
 use Prim.Native.Nat.{ℕ, ◌+◌, ◌^◌, ◌≤◌, ◌<◌}
 use mathlib.Core.Bool.{Bool, true, false}
 use mathlib.Core.List.{List}
@@ -6,7 +7,6 @@ use mathlib.Core.Path.{◌≡◌, refl, sym, ap, ◌∙◌}
 use native.Mathlib.Omega.{arith}
 use borrow.Author.Rules.{rules}
 use borrow.Author.Tests.{eqb-true, eqb-false}
-use denote.Enum.Declared.{tag_of}
 use lib.Dec.{eqb}
 use lib.ListN.{length, length-append}
 use lib.Seq.{slice}
@@ -27,12 +27,9 @@ use Rattle.format.specs.Laws.Outcomes.{false_true, by_test, ended, got_value, go
 use Rattle.format.specs.Laws.Outputs.{writes_refused}
 use Rattle.format.proofs.Laws.Passing.{number_passes}
 use Rattle.format.specs.declared.Refusal.{Refusal}
-use Rattle.format.specs.declared.Verdict.{Verdict}
-use Rattle.format.specs.declared.Verdict.TheVariants.{Refused as NotAccepted}
-use Rattle.format.specs.declared.Written.{Written}
-use Rattle.format.specs.declared.Written.TheVariants.{Refused}
+use Rattle.format.specs.Returned.{Verdict}
+use Rattle.format.specs.Returned.{Written}
 use Rattle.format.proofs.Tags.{judged_accepted}
-use Rattle.format.specs.contracts.Verdict as verdict_type
 use Rattle.in_order.specs.Standing.{Surveys}
 use Rattle.in_order.specs.declared.EntrySurvey.{EntrySurvey}
 use Rattle.in_order.proofs.Laws.{counted_shorter}
@@ -104,11 +101,11 @@ pub ruleset payload_steps = (payload_count, payload_entries, payload_rising, pay
 
 -- A payload that was judged
 module _ (p : List ℕ) (j : Verdict) (says : verdict_of j ≡ verdict (judge_older 0 p)) where
-  module _ {r : Refusal} (e : j ≡ NotAccepted r) where
+  module _ {r : Refusal} (e : j ≡ Err r) where
     pub not_accepted : judge_older 0 p ≡ refused (number_of r.reason) r.offset.0
     not_accepted = (refused_exactly (λ _. tt) (judge_older 0 p)).0 (sym says ∙ ap verdict_of e)
 
-    pub older_refused : {old : List ℕ} → Writes (canonical_older p) old old (Refused r)
+    pub older_refused : {old : List ℕ} → Writes (canonical_older p) old old (Err r)
     unfolding canonical_older
     older_refused = writes_refused (rw not_accepted)
 
@@ -116,7 +113,7 @@ module _ (p : List ℕ) (j : Verdict) (says : verdict_of j ≡ verdict (judge_ol
     unfolding older_is_canonical canonical_older is_its_rewriting
     older_not = rw not_accepted
 
-  module _ (h : tag_of verdict_type.the_type j ≡ 0) where
+  module _ (h : j ≡ Ok tt) where
     pub was_accepted : Accepted (judge_older 0) p
     was_accepted = let (v, e) = judged_accepted j (judge_older 0 p) says h in record { value = v; judged = e }
 

@@ -6,7 +6,7 @@ use Rattle.format.specs.Older.{OlderEntry, times, vector, older_entry, sorted_fr
 use Rattle.format.specs.OlderInOrder.{rising_entries}
 use Rattle.format.specs.Reading.{accepted}
 use Rattle.format.specs.Tables.{nil}
-use Rattle.format.specs.declared.Answer.{Answer}
+use Rattle.format.specs.Returned.{Answer}
 use Rattle.in_order.specs.Rows.{entries_rows}
 use Rattle.out_of_order.specs.Gathering.{Windowed}
 use Rattle.out_of_order.specs.Rows.{rows_here}

@@ -4,8 +4,8 @@ use Rattle.format.specs.Entries.{older_rows, older_columns, Lists}
 use Rattle.format.specs.Older.{canonical_older}
 use Rattle.format.specs.Outputs.{Writes}
 use Rattle.format.specs.Telling.{older_is_canonical}
-use Rattle.format.specs.declared.Answer.{Answer}
-use Rattle.format.specs.declared.Written.{Written}
+use Rattle.format.specs.Returned.{Answer}
+use Rattle.format.specs.Returned.{Written}
 
 -- reordering
 abbrev pub ReorderingCanonical : (p old : List ℕ) → List ℕ → Written → Type 0

@@ -6,7 +6,7 @@ use Rattle.format.specs.Outputs.{Writes}
 use Rattle.format.specs.Reading.{Accepted}
 use Rattle.format.specs.Tables.{nil}
 use Rattle.format.specs.Telling.{older_is_canonical}
-use Rattle.format.specs.declared.Written.{Written}
+use Rattle.format.specs.Returned.{Written}
 use Rattle.in_order.specs.Standing.{Surveys}
 use Rattle.in_order.specs.declared.EntrySurvey.{EntrySurvey}
 use Rattle.reading.specs.Cursors.{over_all}

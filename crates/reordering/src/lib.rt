@@ -8,7 +8,7 @@ ghost use Rattle.reading.specs.Standing.{Known};
 ghost use Rattle.reordering.specs.Promises.{ReorderingCanonical, ReorderingIsCanonical};
 ghost use Rattle.reordering.specs.Rewritten.{ReadyRising, RewritesEntries, RewritesOlder, TellsOlder};
 
-use format::{Offset, Reason, Refusal, Verdict, Written};
+use format::{Offset, Reason, Refusal, Written};
 use in_order::{EntrySurvey, put_entries, survey};
 use out_of_order::{measure, put};
 use reading::Cursor;
@@ -30,10 +30,8 @@ const TOO_LONG: Refusal = Refusal {
 pub fn canonical(p: &[u8], out: &mut [u8]) -> Written
     ensures { ReorderingCanonical p.now out.old out.new result }
 {
-    match older::judge(p) {
-        Verdict::Refused(r) => Written::Refused(r),
-        Verdict::Accepted => put_payload(p, Cursor::over(p), out),
-    }
+    older::judge(p)?;
+    put_payload(p, Cursor::over(p), out)
 }
 
 // Whether a payload is its own canonical form: it is in order, and comes out as long as it is.
@@ -41,8 +39,8 @@ pub fn is_canonical(p: &[u8]) -> bool
     ensures { ReorderingIsCanonical p.now result }
 {
     match older::judge(p) {
-        Verdict::Refused(_) => false,
-        Verdict::Accepted => tells(p, Cursor::over(p)),
+        Err(_) => false,
+        Ok(()) => tells(p, Cursor::over(p)),
     }
 }
 
@@ -68,17 +66,17 @@ fn put_rising(p: &[u8], c: Cursor, n: u32, found: EntrySurvey, out: &mut [u8]) -
 {
     let needed = number_length(found.kept) + found.length;
     if MOST < needed {
-        return Written::Refused(TOO_LONG);
+        return Err(TOO_LONG);
     }
     if out.len() < needed {
-        return Written::Refused(Refusal {
+        return Err(Refusal {
             reason: Reason::OutputTooShort,
             offset: Offset(needed),
         });
     }
     let at = put_number(out, 0, found.kept);
     let all = put_entries(out, at, c, p, n);
-    Written::Length(all.at)
+    Ok(all.at)
 }
 
 // Entries that are not. They are measured first, so that nothing is stored where the output is too short.
@@ -90,16 +88,16 @@ fn put_unordered(p: &[u8], c: Cursor, n: u32, out: &mut [u8]) -> Written
     let mut orders = [0u64; WINDOW];
     let needed = measure(&mut keys, &mut orders, c, p, n);
     if MOST < needed {
-        return Written::Refused(TOO_LONG);
+        return Err(TOO_LONG);
     }
     if out.len() < needed {
-        return Written::Refused(Refusal {
+        return Err(Refusal {
             reason: Reason::OutputTooShort,
             offset: Offset(needed),
         });
     }
     put(out, needed, &mut keys, &mut orders, c, p, n);
-    Written::Length(needed)
+    Ok(needed)
 }
 
 // Whether a payload that was accepted is its own canonical form.

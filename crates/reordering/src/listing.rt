@@ -1,14 +1,13 @@
 // Every pair of hints of the older edition once, by function and offset, with the hint that answers: a row each in three lent lists.
-ghost use Rattle.std.specs.Prelude.{◌&&◌, [], ◌∷◌, ◌≡◌, leb};
+ghost use Rattle.std.specs.Prelude.{◌&&◌, [], ◌∷◌, ◌≡◌, leb, Ok, Err, Some};
 ghost use Rattle.format.specs.Older.{times, vector, older_entry};
-ghost use Rattle.format.specs.declared.Answer.TheVariants.{Found, Refused};
 ghost use Rattle.format.specs.declared.Reason.TheVariants.{OutputTooShort};
 ghost use Rattle.reading.specs.Standing.{Known};
 ghost use Rattle.reordering.specs.Listed.{RisingRows, CountedRows, ListsEntries, ListsOlder};
 ghost use Rattle.reordering.specs.Promises.{ReorderingList};
 
 use crate::WINDOW;
-use format::{Answer, Offset, Place, Reason, Refusal, Verdict};
+use format::{Answer, Offset, Place, Reason, Refusal};
 use in_order::rows::survey_rows;
 use out_of_order::rows::count_rows;
 use reading::Cursor;
@@ -16,19 +15,19 @@ use reading::again::number_here;
 
 // So many rows, all of them in the lists.
 fn listed(rows: usize) -> Answer
-    ensures { result ≡ Found (record { offset = record { 0 = 0 }; length = rows }) }
+    ensures { result ≡ Ok (Some (record { offset = record { 0 = 0 }; length = rows })) }
 {
-    Answer::Found(Place {
+    Ok(Some(Place {
         offset: Offset(0),
         length: rows,
-    })
+    }))
 }
 
 // So many rows, for which one of the lists is too short.
 fn too_short(rows: usize) -> Answer
-    ensures { result ≡ Refused (record { reason = OutputTooShort; offset = record { 0 = rows } }) }
+    ensures { result ≡ Err (record { reason = OutputTooShort; offset = record { 0 = rows } }) }
 {
-    Answer::Refused(Refusal {
+    Err(Refusal {
         reason: Reason::OutputTooShort,
         offset: Offset(rows),
     })
@@ -45,10 +44,8 @@ fn do_fit(rows: usize, functions: usize, offsets: usize, likely: usize) -> bool
 pub fn list(p: &[u8], functions: &mut [u32], offsets: &mut [u32], likely: &mut [u32]) -> Answer
     ensures { ReorderingList p.now (functions.old ∷ offsets.old ∷ likely.old ∷ []) (functions.new ∷ offsets.new ∷ likely.new ∷ []) result }
 {
-    match older::judge(p) {
-        Verdict::Refused(r) => Answer::Refused(r),
-        Verdict::Accepted => list_payload(p, Cursor::over(p), functions, offsets, likely),
-    }
+    older::judge(p)?;
+    list_payload(p, Cursor::over(p), functions, offsets, likely)
 }
 
 // A payload that was accepted.

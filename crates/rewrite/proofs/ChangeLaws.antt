@@ -1,10 +1,10 @@
 -- The subsections that come out as they are, up to the first that does not.
+use Rattle.std.specs.Prelude.{Some, None}
 use Prim.Native.Nat.{ℕ, ◌+◌, ◌-◌, ◌≤◌, ◌<◌}
 use mathlib.Core.List.{List, [], ◌++◌, append_assoc}
 use mathlib.Core.Path.{◌≡◌, refl, sym, ap, ◌∙◌}
 use native.Mathlib.Omega.{arith}
 use borrow.Author.Rules.{rules}
-use denote.Enum.Declared.{tag_of}
 use lib.ListN.{length, take, drop, length-append}
 use lib.Seq.{slice_empty, take_at, take-take}
 use Rattle.format.specs.Bytes.{Bytes}
@@ -25,19 +25,16 @@ use Rattle.names.specs.Frames.{behind_id, KnownFrame, FrameStands}
 use Rattle.names.specs.declared.kinds.Kind.{Kind}
 use Rattle.rewrite.specs.Contents.{ContentStands, KnownContent, left_of, Trims}
 use Rattle.rewrite.specs.Subsections.{length_left, sub_bytes, PayloadStands, KnownPayload, UnchangedHere, FindsChanged}
-use Rattle.rewrite.specs.declared.contents.Left.{Left}
+use Rattle.rewrite.specs.Returned.{Left}
 use Rattle.names.specs.declared.frames.Framed.{Framed}
-use Rattle.rewrite.specs.declared.subsections.Changed.{Changed}
-use Rattle.rewrite.specs.declared.subsections.Changed.TheVariants.{Nothing, Subsection}
-use Rattle.rewrite.specs.contracts.subsections.Changed as changed_type
+use Rattle.rewrite.specs.Returned.{Changed}
 use Rattle.rewrite.proofs.PutLaws.{left_shorter, left_same}
 use Rattle.rewrite.proofs.WholeLaws.{bytes_left}
 use Rattle.rewrite.proofs.SubsectionLaws.{names_nil, measured_length, trims_small, nothing_to_come, first_is, frame_known, frame_less, content_known, onward}
 
 -- for callers
-pub none_changed : {kind_of : ℕ → AnyKind} {s : List ℕ} {c : Cursor} (x : Changed) → FindsChanged kind_of s c x → tag_of changed_type.the_type x ≡ 0 → UnchangedHere kind_of s c
-none_changed Nothing f h = f.finds
-none_changed (Subsection at frame left) f h = absurd (omega arith)
+pub none_changed : {kind_of : ℕ → AnyKind} {s : List ℕ} {c : Cursor} (x : Changed) → FindsChanged kind_of s c x → x ≡ None → UnchangedHere kind_of s c
+none_changed x f h = (rw h at f).finds
 
 -- the front of what a cursor has left
 front_left : (s : List ℕ) (c : Cursor) (n : ℕ) (x y : List ℕ) → c.at + n ≤ c.end → length x ≡ n → x ++ y ≡ left s c → x ≡ left s (record { at = c.at; end = c.at + n })
@@ -87,7 +84,7 @@ pub passed_none : {kind_of : ℕ → AnyKind} {s : List ℕ} {c : Cursor} → Kn
 passed_none k h = record { all = k.value; whole = k.stands; to_come_lem = k.value; here = k.stands; same_end = refl; done = []; same = refl; joined = refl; bytes = h }
 
 module _ {kind_of : ℕ → AnyKind} {s : List ℕ} {c next : Cursor} (t : Passing kind_of s c next) where
-  pub passed_all : next.end ≤ next.at → FindsChanged kind_of s c Nothing
+  pub passed_all : next.end ≤ next.at → FindsChanged kind_of s c None
   passed_all h =
       let at_end : next.at ≡ next.end = omega (arith, t.here.inside.ahead) in
       let empty : left s next ≡ [] = rw at_end (slice_empty next.end s) in
@@ -135,7 +132,7 @@ module _ {kind_of : ℕ → AnyKind} {s : List ℕ} {c next : Cursor} (t : Passi
                 bytes = t.bytes;
               }
 
-          pub pass_no_more : FindsChanged kind_of s c (Subsection next.at r x)
+          pub pass_no_more : FindsChanged kind_of s c (Some (next.at, r, x))
           pass_no_more =
               let o = onward t.here h f stands_here in
               let added : List ℕ = sub_bytes r.id (trim (bare w.value)) in

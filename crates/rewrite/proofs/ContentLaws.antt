@@ -1,11 +1,11 @@
 -- Contents that were accepted, by kind: what stands there, what is left of it, and how long that is.
+use Rattle.std.specs.Prelude.{Some, None}
 use Prim.Native.Nat.{ℕ, ◌+◌, ◌-◌, ◌^◌, ◌≤◌, ◌<◌}
 use mathlib.Core.List.{List, ◌++◌}
 use mathlib.Core.Option.{none, some}
 use mathlib.Core.Path.{◌≡◌, refl, sym, ap, ◌∙◌}
 use native.Mathlib.Omega.{arith}
 use borrow.Author.Rules.{rules}
-use denote.Enum.Declared.{tag_of}
 use lib.ListN.{length, length-append}
 use lib.Seq.{length-slice}
 use Rattle.format.specs.Reading.{Reader, filling}
@@ -34,9 +34,7 @@ use Rattle.rewrite.specs.Contents.{ContentStands, KnownContent, count_of, Trims}
 use Rattle.names.specs.Contents.{kind_meant}
 use Rattle.names.specs.declared.kinds.Kind.{Kind as KindHere}
 use Rattle.names.specs.declared.kinds.Kind.TheVariants.{OneName, NameMap, IndirectMap, Kept}
-use Rattle.rewrite.specs.declared.contents.Left.{Left}
-use Rattle.rewrite.specs.declared.contents.Left.TheVariants.{Nothing, Contents}
-use Rattle.rewrite.specs.contracts.contents.Left as left_type
+use Rattle.rewrite.specs.Returned.{Left}
 
 -- What stands in a part of each kind, read again without its checks
 pub record Made {A : Type 0} (read : Reader A) (make : A → Content Part) (s : List ℕ) (part : Cursor) (c : Content Part) : Type 0 where
@@ -122,16 +120,12 @@ pub groups_bytes : (t : Table (Table Part)) → write_content (names_by (kept_gr
 unfolding write_content write_table groups_of
 groups_bytes t = refl
 
-pub as_nothing : (x : Left) → tag_of left_type.the_type x ≡ 0 → x ≡ Nothing
-as_nothing Nothing h = refl
-as_nothing (Contents z) h = absurd (omega arith)
-
 -- MEASURED: one name
 module _ {s : List ℕ} {part : Cursor} (k : KnownContent one_name s part) where
   pub one_known : Known sized s part
   one_known = made_known (one_made k.stands)
 
-  pub one_left : {r : Piece} {b : ℕ} → TakesPart s part r → b ≡ length (shortest (r.part.end - r.part.at)) + (r.part.end - r.part.at) → Trims one_name s part (Contents (record { count = 0; length = b }))
+  pub one_left : {r : Piece} {b : ℕ} → TakesPart s part r → b ≡ length (shortest (r.part.end - r.part.at)) + (r.part.end - r.part.at) → Trims one_name s part (Some (record { count = 0; length = b }))
   unfolding bare count_of write_content
   one_left {r} p e =
       let m = one_made k.stands in
@@ -149,7 +143,7 @@ module _ {s : List ℕ} {part : Cursor} (k : KnownContent name_map s part) where
     pub map_known : Known (rows sized n 0) s d
     map_known = record { value = _; next = _; stands = map_rows i k.stands }
 
-    pub map_nothing : n ≡ 0 → Trims name_map s part Nothing
+    pub map_nothing : n ≡ 0 → Trims name_map s part None
     map_nothing h =
         let m = map_made k.stands in
         record { value = k.value; stands = k.stands; is = rw (m.is, map_gone m.inner (rows_count n 0 (map_rows i k.stands) ∙ h)) }
@@ -158,7 +152,7 @@ module _ {s : List ℕ} {part : Cursor} (k : KnownContent name_map s part) where
       pub map_fits : part.end < 2 ^ 64 → a + r.length < 2 ^ 64
       map_fits h = omega (arith, number_shorter i, rows_shorter n 0 w.stands, w.long, w.stands.behind.ahead, w.stands.same_end, i.same_end)
 
-      pub map_left : (n ≡ 0 → ⊥) → Trims name_map s part (Contents (record { count = n; length = a + r.length }))
+      pub map_left : (n ≡ 0 → ⊥) → Trims name_map s part (Some (record { count = n; length = a + r.length }))
       unfolding count_of
       map_left h =
           let m = map_made k.stands in
@@ -186,7 +180,7 @@ module _ {s : List ℕ} {part : Cursor} (k : KnownContent indirect_map s part) w
       groups_same : w.value ≡ (groups_made k.stands).inner
       groups_same = one_value w.stands (groups_rows i k.stands)
 
-      pub groups_nothing : r.kept ≡ 0 → Trims indirect_map s part Nothing
+      pub groups_nothing : r.kept ≡ 0 → Trims indirect_map s part None
       groups_nothing h =
           let m = groups_made k.stands in
           record { value = k.value; stands = k.stands; is = rw (m.is, groups_gone m.inner (rw (← groups_same, ← w.many) h)) }
@@ -196,7 +190,7 @@ module _ {s : List ℕ} {part : Cursor} (k : KnownContent indirect_map s part) w
         pub groups_fits : part.end < 2 ^ 64 → a + r.length < 2 ^ 64
         groups_fits h = omega (arith, shortest_mono r.kept n (rw (← w.many) at (groups_few n 0 w.stands)), number_shorter i, groups_shorter n 0 w.stands, w.long, w.stands.behind.ahead, w.stands.same_end, i.same_end)
 
-        pub groups_left : (r.kept ≡ 0 → ⊥) → Trims indirect_map s part (Contents (record { count = r.kept; length = a + r.length }))
+        pub groups_left : (r.kept ≡ 0 → ⊥) → Trims indirect_map s part (Some (record { count = r.kept; length = a + r.length }))
         unfolding count_of
         groups_left h =
             let m = groups_made k.stands in
@@ -224,7 +218,7 @@ module _ {s : List ℕ} {part : Cursor} (kind : KindHere) (k : KnownContent (kin
   pub left_ordered : part.at ≤ part.end
   left_ordered = k.stands.inside.ahead
 
-  pub left_kept : kind ≡ Kept → Trims (kind_meant kind) s part (Contents (record { count = 0; length = part.end - part.at }))
+  pub left_kept : kind ≡ Kept → Trims (kind_meant kind) s part (Some (record { count = 0; length = part.end - part.at }))
   unfolding bare count_of write_content
   left_kept e =
       let z : ContentStands kept s part k.value = rw e at k.stands in

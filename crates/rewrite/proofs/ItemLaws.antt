@@ -1,10 +1,10 @@
 -- Metadata that stands at a cursor: its count and its functions, how long they are written anew, and the two ways to end.
+use Rattle.std.specs.Prelude.{Ok, Err}
 use Prim.Native.Nat.{ℕ, ◌+◌, ◌-◌, ◌^◌, ◌≤◌, ◌<◌}
 use mathlib.Core.List.{List, [], ◌++◌}
 use mathlib.Core.Path.{◌≡◌, refl, ap, ◌∙◌}
 use native.Mathlib.Omega.{arith}
 use borrow.Author.Rules.{rules}
-use denote.Enum.Declared.{tag_of}
 use lib.ListN.{length, length-append}
 use lib.Seq.{slice}
 use Rattle.format.specs.Reading.{got, Reader, filling, accepted, verdict}
@@ -23,8 +23,7 @@ use Rattle.format.proofs.Laws.Codecs.{sized_codec}
 use Rattle.format.proofs.Laws.Unchanged.{functions_tight}
 use Rattle.format.specs.declared.Reason.TheVariants.{OutputTooShort}
 use Rattle.format.specs.declared.Refusal.{Refusal}
-use Rattle.format.specs.declared.Written.{Written}
-use Rattle.format.specs.declared.Written.TheVariants.{Length, Refused}
+use Rattle.format.specs.Returned.{Written}
 use Rattle.copying.specs.Bytes.{kept_groups, groups_of}
 use Rattle.reading.specs.Standing.{Stands, Known}
 use Rattle.copying.specs.Standing.{Fits, Puts, MeasuresGroups}
@@ -33,10 +32,9 @@ use Rattle.copying.specs.declared.Put.{Put}
 use Rattle.tables.proofs.Accepted.{table_passable, known_count, table_rows, rows_table}
 use Rattle.reading.proofs.Standing.{stand, one_value}
 use Rattle.copying.proofs.Laws.{part_length, number_shorter, groups_count, groups_shorter}
-use Rattle.format.specs.Verdicts.{verdict_of, refusal_in}
-use Rattle.format.specs.declared.Verdict.{Verdict}
+use Rattle.format.specs.Verdicts.{verdict_of}
+use Rattle.format.specs.Returned.{Verdict}
 use Rattle.format.proofs.Tags.{judged_refused, judged_accepted}
-use Rattle.format.specs.contracts.Verdict as verdict_type
 use Rattle.reading.specs.Cursors.{over_all, left}
 use Rattle.reading.specs.declared.Cursor.{Cursor}
 use Rattle.reading.proofs.Laws.{left_all, over_inside}
@@ -77,7 +75,7 @@ module _ {s : List ℕ} {c : Cursor} (known : Known (table (table sized)) s c) w
           omega (arith, long, measured.long, fewer, number_shorter count, groups_shorter n 0 measured.stands, measured.stands.behind.ahead, ends)
 
       module _ (old : List ℕ) where
-        pub items_short : length old < size_length + g.length → RewritesItems s c old old (Refused (record { reason = OutputTooShort; offset = record { 0 = size_length + g.length } }))
+        pub items_short : length old < size_length + g.length → RewritesItems s c old old (Err (record { reason = OutputTooShort; offset = record { 0 = size_length + g.length } }))
         items_short h = record { value = measured.value; next = g.next; stands = items_stand; writes = rw (← items_long) (writes_short refl (rw items_long h)) }
 
         -- as long as they are, they are what they are
@@ -85,7 +83,7 @@ module _ {s : List ℕ} {c : Cursor} (known : Known (table (table sized)) s c) w
           pub items_whole_room : size_length + g.length ≤ length old → FitsWhole s c old 0
           items_whole_room room = record { inside = known.stands.inside; room = omega (arith, room, same) }
 
-          pub items_whole : {new : List ℕ} {end : ℕ} → PutsWhole s c old new 0 end → RewritesItems s c old new (Length end)
+          pub items_whole : {new : List ℕ} {end : ℕ} → PutsWhole s c old new 0 end → RewritesItems s c old new (Ok end)
           items_whole p =
               let is = functions_tight sized_codec c.at (left s c) p.bytes items_stand.reads (omega (arith, items_long, same, part_length items_stand.inside)) in
               record { value = measured.value; next = g.next; stands = items_stand; writes = writes_wrote refl (rw (← is) at p.wrote) }
@@ -94,7 +92,7 @@ module _ {s : List ℕ} {c : Cursor} (known : Known (table (table sized)) s c) w
           pub items_groups_room : Fits (rows (table sized) n 0) groups_of s d mid first
           items_groups_room = record { value = measured.value; next = g.next; stands = measured.stands; room = omega (arith, room, long, measured.long, wrote.next_is, wrote_length wrote) }
 
-          pub items_put : {new : List ℕ} {r : Put} → Puts (rows (table sized) n 0) groups_of s d mid new first r → RewritesItems s c old new (Length r.at)
+          pub items_put : {new : List ℕ} {r : Put} → Puts (rows (table sized) n 0) groups_of s d mid new first r → RewritesItems s c old new (Ok r.at)
           items_put p =
               let same : p.value ≡ measured.value = one_value p.stands measured.stands in
               let bytes : shortest g.kept ++ groups_of p.value ≡ rewrite_metadata measured.value = rw (same, items_bytes measured.value, measured.many) in
@@ -104,11 +102,11 @@ pub ruleset item_steps = (items_count, items_ordered, items_groups, items_fit, i
 
 -- A payload that was judged: refused, or its functions stand where it begins
 module _ (item : Reader Part) (p : List ℕ) (j : Verdict) (says : verdict_of j ≡ verdict (judge_metadata item 0 p)) where
-  payload_refused : {old : List ℕ} {r : Refusal} → tag_of verdict_type.the_type j ≡ 1 → r ≡ refusal_in j → Writes (canonical_of item p) old old (Refused r)
+  payload_refused : {old : List ℕ} {r : Refusal} → j ≡ Err r → Writes (canonical_of item p) old old (Err r)
   unfolding canonical_of
-  payload_refused h is = rw is (writes_refused ((refused_exactly rewrite_metadata (judge_metadata item 0 p)).1 (judged_refused j (judge_metadata item 0 p) says h)))
+  payload_refused e = writes_refused ((refused_exactly rewrite_metadata (judge_metadata item 0 p)).1 (judged_refused j (judge_metadata item 0 p) says e))
 
-  module _ (lax : Laxer item sized) (h : tag_of verdict_type.the_type j ≡ 0) where
+  module _ (lax : Laxer item sized) (h : j ≡ Ok tt) where
     -- read without the item's checks, what was accepted stands there
     payload_stands : (v : Table (Table Part)) × (judge_metadata item 0 p ≡ accepted v) × (next : Cursor) × Stands (table (table sized)) p (over_all p) v next
     unfolding judge_metadata metadata
@@ -132,26 +130,26 @@ module _ (item : Reader Part) (p : List ℕ) (j : Verdict) (says : verdict_of j 
 -- of any format, and hints
 module _ (p : List ℕ) (j : Verdict) where
   module _ (says : verdict_of j ≡ verdict (judge_metadata any_item 0 p)) where
-    pub any_refused : {old : List ℕ} {r : Refusal} → tag_of verdict_type.the_type j ≡ 1 → r ≡ refusal_in j → Writes (canonical_metadata p) old old (Refused r)
+    pub any_refused : {old : List ℕ} {r : Refusal} → j ≡ Err r → Writes (canonical_metadata p) old old (Err r)
     unfolding canonical_metadata
-    any_refused h is = payload_refused any_item p j says h is
+    any_refused e = payload_refused any_item p j says e
 
-    pub any_known : tag_of verdict_type.the_type j ≡ 0 → {c : Cursor} → c ≡ over_all p → Known (table (table sized)) p c
+    pub any_known : j ≡ Ok tt → {c : Cursor} → c ≡ over_all p → Known (table (table sized)) p c
     any_known h over = payload_known any_item p j says any_laxer h over
 
-    pub any_written : tag_of verdict_type.the_type j ≡ 0 → {c : Cursor} → c ≡ over_all p → {old new : List ℕ} {r : Written} → RewritesItems p c old new r → Writes (canonical_metadata p) old new r
+    pub any_written : j ≡ Ok tt → {c : Cursor} → c ≡ over_all p → {old new : List ℕ} {r : Written} → RewritesItems p c old new r → Writes (canonical_metadata p) old new r
     unfolding canonical_metadata
     any_written h over w = payload_written any_item p j says any_laxer h over w
 
   module _ (says : verdict_of j ≡ verdict (judge_metadata hint_item 0 p)) where
-    pub hints_refused : {old : List ℕ} {r : Refusal} → tag_of verdict_type.the_type j ≡ 1 → r ≡ refusal_in j → Writes (canonical_hints p) old old (Refused r)
+    pub hints_refused : {old : List ℕ} {r : Refusal} → j ≡ Err r → Writes (canonical_hints p) old old (Err r)
     unfolding canonical_hints
-    hints_refused h is = payload_refused hint_item p j says h is
+    hints_refused e = payload_refused hint_item p j says e
 
-    pub hints_known : tag_of verdict_type.the_type j ≡ 0 → {c : Cursor} → c ≡ over_all p → Known (table (table sized)) p c
+    pub hints_known : j ≡ Ok tt → {c : Cursor} → c ≡ over_all p → Known (table (table sized)) p c
     hints_known h over = payload_known hint_item p j says hint_laxer h over
 
-    pub hints_written : tag_of verdict_type.the_type j ≡ 0 → {c : Cursor} → c ≡ over_all p → {old new : List ℕ} {r : Written} → RewritesItems p c old new r → Writes (canonical_hints p) old new r
+    pub hints_written : j ≡ Ok tt → {c : Cursor} → c ≡ over_all p → {old new : List ℕ} {r : Written} → RewritesItems p c old new r → Writes (canonical_hints p) old new r
     unfolding canonical_hints
     hints_written h over w = payload_written hint_item p j says hint_laxer h over w
 

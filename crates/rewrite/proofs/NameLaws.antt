@@ -1,9 +1,9 @@
 -- The name payload: judged whole, then rewritten.
+use Rattle.std.specs.Prelude.{Err, Ok}
 use Prim.Native.Nat.{ℕ}
 use mathlib.Core.List.{List}
 use mathlib.Core.Path.{◌≡◌, refl}
 use borrow.Author.Rules.{rules}
-use denote.Enum.Declared.{tag_of}
 use Rattle.format.specs.Reading.{accepted, verdict, Accepted as IsAccepted}
 use Rattle.format.specs.Names.{Kind as AnyKind, payload, judge_names}
 use Rattle.format.specs.Canonical.{rewrite_names, canonical_names}
@@ -11,23 +11,21 @@ use Rattle.format.specs.Outputs.{Writes}
 use Rattle.format.specs.Laws.Outcomes.{judged, refused_exactly}
 use Rattle.format.specs.Laws.Outputs.{writes_refused}
 use Rattle.format.specs.declared.Refusal.{Refusal}
-use Rattle.format.specs.declared.Written.{Written}
-use Rattle.format.specs.declared.Written.TheVariants.{Refused as NotWritten}
+use Rattle.format.specs.Returned.{Written}
 use Rattle.reading.specs.declared.Cursor.{Cursor}
 use Rattle.reading.proofs.Laws.{left_all, over_inside}
 use Rattle.reading.specs.Cursors.{over_all}
-use Rattle.format.specs.Verdicts.{verdict_of, refusal_in}
-use Rattle.format.specs.declared.Verdict.{Verdict}
+use Rattle.format.specs.Verdicts.{verdict_of}
+use Rattle.format.specs.Returned.{Verdict}
 use Rattle.format.proofs.Tags.{judged_refused, judged_accepted}
-use Rattle.format.specs.contracts.Verdict as verdict_type
 use Rattle.rewrite.specs.Subsections.{PayloadStands, KnownPayload, RewritesNames}
 
 module _ (kind_of : ℕ → AnyKind) (p : List ℕ) (v : Verdict) (says : verdict_of v ≡ verdict (judge_names kind_of 0 p)) where
-  pub names_refused : {old : List ℕ} {r : Refusal} → tag_of verdict_type.the_type v ≡ 1 → r ≡ refusal_in v → Writes (canonical_names kind_of p) old old (NotWritten r)
+  pub names_refused : {old : List ℕ} {r : Refusal} → v ≡ Err r → Writes (canonical_names kind_of p) old old (Err r)
   unfolding canonical_names
-  names_refused h is = rw is (writes_refused ((refused_exactly rewrite_names (judge_names kind_of 0 p)).1 (judged_refused v (judge_names kind_of 0 p) says h)))
+  names_refused e = writes_refused ((refused_exactly rewrite_names (judge_names kind_of 0 p)).1 (judged_refused v (judge_names kind_of 0 p) says e))
 
-  module _ (h : tag_of verdict_type.the_type v ≡ 0) where
+  module _ (h : v ≡ Ok tt) where
     accepts : IsAccepted (judge_names kind_of 0) p
     accepts = let (t, e) = judged_accepted v (judge_names kind_of 0 p) says h in record { value = t; judged = e }
 

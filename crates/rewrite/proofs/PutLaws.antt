@@ -1,11 +1,11 @@
 -- Contents that were accepted, by kind: what is left of them, written.
+use Rattle.std.specs.Prelude.{Some, None}
 use Prim.Native.Nat.{ℕ, ◌+◌, ◌-◌, ◌≤◌}
 use mathlib.Core.List.{List, [], ◌++◌}
 use mathlib.Core.Option.{none, some}
 use mathlib.Core.Path.{◌≡◌, refl, sym, ap, ◌∙◌}
 use native.Mathlib.Omega.{arith}
 use borrow.Author.Rules.{rules}
-use denote.Enum.Declared.{tag_of}
 use lib.ListN.{length, length-append}
 use Rattle.format.specs.Bytes.{Bytes}
 use Rattle.format.specs.Numbers.{number, shortest}
@@ -38,10 +38,8 @@ use Rattle.names.specs.declared.kinds.Kind.TheVariants.{OneName, NameMap, Indire
 use Rattle.rewrite.specs.Contents.{ContentStands, count_of, sizes_of, left_of, Trims, FitsContent, Counted, PutsContent}
 use Rattle.rewrite.specs.Whole.{FitsWhole, PutsWhole}
 use Rattle.rewrite.specs.declared.contents.Sizes.{Sizes}
-use Rattle.rewrite.specs.declared.contents.Left.{Left}
-use Rattle.rewrite.specs.declared.contents.Left.TheVariants.{Contents}
-use Rattle.rewrite.specs.contracts.contents.Left as left_type
-use Rattle.rewrite.proofs.ContentLaws.{made_known, one_made, map_made, groups_made, whole_is, one_content, map_rows, groups_rows, map_bytes, groups_bytes, as_nothing}
+use Rattle.rewrite.specs.Returned.{Left}
+use Rattle.rewrite.proofs.ContentLaws.{made_known, one_made, map_made, groups_made, whole_is, one_content, map_rows, groups_rows, map_bytes, groups_bytes}
 
 -- What is left is what stands there, without what is empty
 one_remains : (p : Part) {d : Content (List ℕ)} → trim (bare (single p)) ≡ some d → d ≡ single p.bytes
@@ -175,22 +173,22 @@ module _ {kind : AnyKind} {s : List ℕ} {part : Cursor} {c : Content Part} (w :
   told : left_of x ≡ map_some sizes_of (trim (bare c))
   told = t.is ∙ ap (λ (d : Content Part). map_some sizes_of (trim (bare d))) (one_content t.stands w)
 
-  pub nothing_left : tag_of left_type.the_type x ≡ 0 → trim (bare c) ≡ none
+  pub nothing_left : x ≡ None → trim (bare c) ≡ none
   nothing_left h =
       by_option (trim (bare c))
       (λ n. n)
-      (λ d n. absurd (not_some (rw (as_nothing x h, n) at told)))
+      (λ d n. absurd (not_some (rw (h, n) at told)))
 
-  pub something_left : {z : Sizes} → x ≡ Contents z → Remains c z
+  pub something_left : {z : Sizes} → x ≡ Some z → Remains c z
   something_left {z} e =
       by_option (trim (bare c))
       (λ n. absurd (not_some (sym (rw (e, n) at told))))
       (λ d n. let q : z ≡ sizes_of d = some_is (rw (e, n) at told) in record { remains = d; is = n; count_is = ap (λ (y : Sizes). y.count) q; length_is = ap (λ (y : Sizes). y.length) q })
 
 -- Contents of a kind, once they were measured: copied or put
-module _ {kind : AnyKind} {s : List ℕ} {part : Cursor} {old : List ℕ} {at : ℕ} (f : FitsContent kind s part old at) {z : Sizes} (t : Trims kind s part (Contents z)) where
+module _ {kind : AnyKind} {s : List ℕ} {part : Cursor} {old : List ℕ} {at : ℕ} (f : FitsContent kind s part old at) {z : Sizes} (t : Trims kind s part (Some z)) where
   measured_here : Remains f.value z
-  measured_here = something_left f.stands (Contents z) t refl
+  measured_here = something_left f.stands (Some z) t refl
 
   pub put_ordered : part.at ≤ part.end
   put_ordered = f.stands.inside.ahead

@@ -1,4 +1,5 @@
 -- The subsections of a payload that was accepted, one after the other, measured.
+use Rattle.std.specs.Prelude.{Some, None}
 use Prim.Native.Nat.{ℕ, zero, suc, ◌+◌, ◌-◌, ◌^◌, ◌≤◌, ◌<◌}
 use mathlib.Core.List.{List, [], ◌∷◌, ◌++◌}
 use mathlib.Core.Option.{Option, none, some}
@@ -8,7 +9,6 @@ use native.Mathlib.Numerals.{add-one}
 use native.Mathlib.Omega.{arith}
 use borrow.Author.Rules.{rules}
 use borrow.Author.Tests.{le-leb}
-use denote.Enum.Declared.{tag_of}
 use lib.ListN.{length, get_or, length-append}
 use lib.Seq.{slice-cons, slice_empty}
 use Rattle.format.specs.Reading.{Outcome, got}
@@ -36,19 +36,17 @@ use Rattle.names.specs.declared.kinds.Kind.{Kind}
 use Rattle.rewrite.specs.Contents.{ContentStands, KnownContent, sizes_of, left_of, Trims}
 use Rattle.rewrite.specs.Subsections.{SmallLeft, length_left, sub_bytes, PayloadStands, KnownPayload, MeasuresPayload}
 use Rattle.rewrite.specs.declared.contents.Sizes.{Sizes}
-use Rattle.rewrite.specs.declared.contents.Left.{Left}
-use Rattle.rewrite.specs.declared.contents.Left.TheVariants.{Nothing, Contents}
+use Rattle.rewrite.specs.Returned.{Left}
 use Rattle.names.specs.declared.frames.Framed.{Framed}
-use Rattle.rewrite.specs.contracts.contents.Left as left_type
-use Rattle.rewrite.proofs.ContentLaws.{one_content, as_nothing}
+use Rattle.rewrite.proofs.ContentLaws.{one_content}
 use Rattle.rewrite.proofs.PutLaws.{left_shorter}
 
 -- A subsection's length
 module _ (x : Left) where
-  pub length_none : tag_of left_type.the_type x ≡ 0 → 0 ≡ length_left (left_of x)
-  length_none h = rw (as_nothing x h)
+  pub length_none : x ≡ None → 0 ≡ length_left (left_of x)
+  length_none h = rw h
 
-  module _ {z : Sizes} (e : x ≡ Contents z) where
+  module _ {z : Sizes} (e : x ≡ Some z) where
     pub length_small : SmallLeft x → z.length < limit32
     length_small h = rw e at h
 
@@ -84,8 +82,8 @@ module _ {kind : _} {s : List ℕ} {part : Cursor} where
   trimmed_small w e = omega (arith, left_shorter w e, w.small)
 
   left_small : (x : Left) {c : Content Part} → ContentStands kind s part c → left_of x ≡ map_some sizes_of (trim (bare c)) → SmallLeft x
-  left_small Nothing w e = tt
-  left_small (Contents z) {c} w e =
+  left_small None w e = tt
+  left_small (Some z) {c} w e =
       by_option (trim (bare c))
       (λ n. absurd (not_some (sym (rw n at e))))
       (λ d n. let q : z ≡ sizes_of d = some_is (rw n at e) in rw q (trimmed_small w n))

@@ -1,10 +1,10 @@
 -- The subsections of a payload that was accepted, written.
+use Rattle.std.specs.Prelude.{Ok, Err, Some, None}
 use Prim.Native.Nat.{ℕ, ◌+◌, ◌-◌, ◌≤◌, ◌<◌}
 use mathlib.Core.List.{List, [], ◌∷◌, ◌++◌, append_assoc, append-nil}
 use mathlib.Core.Path.{◌≡◌, refl, sym, ap, ◌∙◌}
 use native.Mathlib.Omega.{arith}
 use borrow.Author.Rules.{rules}
-use denote.Enum.Declared.{tag_of}
 use lib.ListN.{length, length-append}
 use Rattle.format.specs.Numbers.{shortest, limit32}
 use Rattle.format.specs.Parts.{Part}
@@ -14,7 +14,6 @@ use Rattle.format.specs.Canonical.{bare, trim, write_part, write_content, rewrit
 use Rattle.format.specs.Laws.Options.{some_is}
 use Rattle.format.specs.Laws.Outputs.{writes_short}
 use Rattle.format.specs.declared.Reason.TheVariants.{OutputTooShort}
-use Rattle.format.specs.declared.Written.TheVariants.{Length, Refused}
 use Rattle.copying.proofs.Laws.{part_length}
 use Rattle.reading.specs.Cursors.{left}
 use Rattle.reading.specs.declared.Cursor.{Cursor}
@@ -26,14 +25,10 @@ use Rattle.rewrite.specs.Contents.{ContentStands, KnownContent, Trims, FitsConte
 use Rattle.rewrite.specs.Subsections.{sub_bytes, TrimsSubsection, FitsSubsection, PutsSubsection, PayloadStands, KnownPayload, MeasuresPayload, NeedsRoom, ChangedAt, FindsChanged, FitsPayload, PutsPayload, RewritesNames}
 use Rattle.rewrite.specs.Whole.{FitsWhole, PutsWhole}
 use Rattle.rewrite.specs.declared.contents.Sizes.{Sizes}
-use Rattle.rewrite.specs.declared.contents.Left.{Left}
-use Rattle.rewrite.specs.declared.contents.Left.TheVariants.{Contents}
+use Rattle.rewrite.specs.Returned.{Left}
 use Rattle.names.specs.Frames.{KnownFrame, FrameStands}
 use Rattle.names.specs.declared.frames.Framed.{Framed}
-use Rattle.rewrite.specs.declared.subsections.Changed.{Changed}
-use Rattle.rewrite.specs.declared.subsections.Changed.TheVariants.{Subsection}
-use Rattle.rewrite.specs.contracts.contents.Left as left_type
-use Rattle.rewrite.specs.contracts.subsections.Changed as changed_type
+use Rattle.rewrite.specs.Returned.{Changed}
 use Rattle.rewrite.proofs.ContentLaws.{one_content}
 use Rattle.rewrite.proofs.PutLaws.{Remains, nothing_left, something_left}
 use Rattle.rewrite.proofs.SubsectionLaws.{length_small, names_nil, trims_small, one_payload, payload_shorter, nothing_to_come, frame_known, frame_less, content_known, onward}
@@ -51,10 +46,10 @@ pub ruleset subsection_put = (sub_known, sub_trims, wrote_length, rules)
 
 -- and put
 module _ {kind_of : ℕ → AnyKind} {id : ℕ} {s : List ℕ} {part : Cursor} {old : List ℕ} {at : ℕ} (f : FitsSubsection kind_of id s part old at) (x : Left) (t : TrimsSubsection kind_of id s part x) where
-  pub sub_nothing : tag_of left_type.the_type x ≡ 0 → PutsSubsection kind_of id s part old old at at
+  pub sub_nothing : x ≡ None → PutsSubsection kind_of id s part old old at at
   sub_nothing h = record { value = f.value; stands = f.stands; wrote = rw (nothing_left f.stands x t.trims h) (wrote_nothing (omega (arith, f.room))) }
 
-  module _ {z : Sizes} (e : x ≡ Contents z) where
+  module _ {z : Sizes} (e : x ≡ Some z) where
     left_here : Remains f.value z
     left_here = something_left f.stands x t.trims e
 
@@ -71,7 +66,7 @@ module _ {kind_of : ℕ → AnyKind} {id : ℕ} {s : List ℕ} {part : Cursor} {
     pub sub_id_room : at < length old
     sub_id_room = omega (arith, long)
 
-    pub sub_measured : (kind : Kind) → kind_meant kind ≡ kind_of id → Trims (kind_meant kind) s part (Contents z)
+    pub sub_measured : (kind : Kind) → kind_meant kind ≡ kind_of id → Trims (kind_meant kind) s part (Some z)
     sub_measured kind kind_is = rw (kind_is, ← e) t.trims
 
     module _ {mid : List ℕ} {size : ℕ} (v : Wrote old mid at size (id ∷ [])) where
@@ -156,16 +151,16 @@ module _ {kind_of : ℕ → AnyKind} {s : List ℕ} {c : Cursor} {old : List ℕ
   names_known = record { value = f.value; stands = f.stands }
 
   module _ (x : Changed) (found : FindsChanged kind_of s c x) where
-    unchanged_here : tag_of changed_type.the_type x ≡ 0 → rewrite_names f.value ≡ left s c
+    unchanged_here : x ≡ None → rewrite_names f.value ≡ left s c
     unchanged_here h = let u = none_changed x found h in ap rewrite_names (one_payload f.stands u.stands) ∙ u.is
 
-    pub names_same_room : tag_of changed_type.the_type x ≡ 0 → FitsWhole s c old 0
+    pub names_same_room : x ≡ None → FitsWhole s c old 0
     names_same_room h = record { inside = f.stands.inside; room = omega (arith, f.room, ap length (unchanged_here h), part_length f.stands.inside) }
 
-    pub names_same : {new : List ℕ} {next : ℕ} → tag_of changed_type.the_type x ≡ 0 → PutsWhole s c old new 0 next → PutsPayload kind_of s c old new 0 next
+    pub names_same : {new : List ℕ} {next : ℕ} → x ≡ None → PutsWhole s c old new 0 next → PutsPayload kind_of s c old new 0 next
     names_same h p = record { value = f.value; stands = f.stands; wrote = rw (unchanged_here h) p.wrote }
 
-    module _ {at : ℕ} {frame : Framed} {z : Left} (e : x ≡ Subsection at frame z) where
+    module _ {at : ℕ} {frame : Framed} {z : Left} (e : x ≡ Some (at, frame, z)) where
       first : ChangedAt kind_of s c at frame z
       first = rw e at found.finds
 
@@ -220,13 +215,13 @@ room_measured m = record { value = m.value; stands = m.stands; enough = omega (a
 pub ruleset room_found = (room_ordered, room_most, room_measured, rules)
 
 module _ {kind_of : ℕ → AnyKind} {s : List ℕ} {c : Cursor} {old : List ℕ} {r : ℕ} (n : NeedsRoom kind_of s c (length old) r) where
-  pub payload_short : length old < r → RewritesNames kind_of s c old old (Refused (record { reason = OutputTooShort; offset = record { 0 = r } }))
+  pub payload_short : length old < r → RewritesNames kind_of s c old old (Err (record { reason = OutputTooShort; offset = record { 0 = r } }))
   payload_short h = record { value = n.value; stands = n.stands; writes = rw (n.needed h) (writes_short refl (rw (n.needed h) at h)) }
 
   pub payload_room : r ≤ length old → FitsPayload kind_of s c old 0
   payload_room h = record { value = n.value; stands = n.stands; room = omega (arith, h, n.enough) }
 
-pub payload_put : {kind_of : ℕ → AnyKind} {s : List ℕ} {c : Cursor} {old new : List ℕ} {end : ℕ} → PutsPayload kind_of s c old new 0 end → RewritesNames kind_of s c old new (Length end)
+pub payload_put : {kind_of : ℕ → AnyKind} {s : List ℕ} {c : Cursor} {old new : List ℕ} {end : ℕ} → PutsPayload kind_of s c old new 0 end → RewritesNames kind_of s c old new (Ok end)
 payload_put p = record { value = p.value; stands = p.stands; writes = writes_wrote refl p.wrote }
 
 pub ruleset payload_written = (payload_short, payload_room, payload_put, wrote_length, rules)

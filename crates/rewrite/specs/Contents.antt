@@ -1,5 +1,5 @@
 -- Contents that were accepted, what is left of them, and what a write leaves of that. Assumes nothing.
-use Rattle.std.specs.Prelude.{ℕ, ◌+◌, ◌≤◌, ◌<◌, List, ◌≡◌, length}
+use Rattle.std.specs.Prelude.{ℕ, ◌+◌, ◌≤◌, ◌<◌, List, ◌≡◌, length, Some, None}
 use Rattle.std.proofs.Math.Option.{Option, none, some}
 use Rattle.format.specs.Reading.{got}
 use Rattle.format.specs.Numbers.{limit32}
@@ -12,8 +12,7 @@ use Rattle.reading.specs.Cursors.{Inside, left}
 use Rattle.reading.specs.declared.Cursor.{Cursor}
 use Rattle.writing.specs.Wrote.{Wrote}
 use Rattle.rewrite.specs.declared.contents.Sizes.{Sizes}
-use Rattle.rewrite.specs.declared.contents.Left.{Left}
-use Rattle.rewrite.specs.declared.contents.Left.TheVariants.{Nothing, Contents}
+use Rattle.rewrite.specs.Returned.{Left}
 
 -- what contents of a kind hold, and that they fit a size number
 pub record ContentStands (kind : Kind) (s : List ℕ) (part : Cursor) (c : Content Part) : Type 0 where
@@ -38,8 +37,8 @@ abbrev pub sizes_of : Content (List ℕ) → Sizes
 sizes_of d = record { count = count_of d; length = length (write_content d) }
 
 abbrev pub left_of : Left → Option Sizes
-left_of Nothing = none
-left_of (Contents x) = some x
+left_of None = none
+left_of (Some x) = some x
 
 pub record Trims (kind : Kind) (s : List ℕ) (part : Cursor) (r : Left) : Type 0 where
   pub value : Content Part

@@ -5,7 +5,7 @@ use Rattle.format.specs.Parts.{Part, sized}
 use Rattle.format.specs.Tables.{Table, table}
 use Rattle.format.specs.Canonical.{rewrite_metadata}
 use Rattle.format.specs.Outputs.{Writes}
-use Rattle.format.specs.declared.Written.{Written}
+use Rattle.format.specs.Returned.{Written}
 use Rattle.reading.specs.Standing.{Stands}
 use Rattle.reading.specs.declared.Cursor.{Cursor}
 

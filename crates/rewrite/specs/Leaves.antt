@@ -1,5 +1,5 @@
 -- Demand 3, said of what the calls leave: `names` promises to write `canonical_names kind_of p` over its table of ids, `metadata` to write `canonical_metadata p`, `hints` to write `canonical_hints p`, each by `Writes`; a call that answered with a length n left `take n new`.
-use Rattle.std.specs.Prelude.{ℕ, List, ◌≡◌, take}
+use Rattle.std.specs.Prelude.{ℕ, List, ◌≡◌, take, Ok}
 use Rattle.std.proofs.Common.{sym, ◌∙◌}
 use Rattle.format.specs.Reading.{Accepted, verdict}
 use Rattle.format.specs.Names.{Kind, judge_names}
@@ -8,15 +8,13 @@ use Rattle.format.specs.declared.Question.{Question}
 use Rattle.format.specs.Metadata.{any_item, hint_item, judge_metadata, ask_metadata, ask_hint, hint_answered}
 use Rattle.format.specs.Canonical.{canonical_names, canonical_metadata, canonical_hints}
 use Rattle.format.specs.Verdicts.{verdict_of}
-use Rattle.format.specs.declared.Verdict.{Verdict}
-use Rattle.format.specs.declared.Verdict.TheVariants.{Accepted as IsAccepted}
+use Rattle.format.specs.Returned.{Verdict}
 use Rattle.format.specs.Outputs.{Writes}
 use Rattle.format.proofs.Theorems.{ItemQuestion, ItemInRange, item_told, hint_told, questions_rewritten, any_metadata_rewritten, hints_rewritten}
 use Rattle.format.proofs.Laws.Questions.{AllPosed}
 use Rattle.format.proofs.Laws.Answers.{same_hint_answer}
-use Rattle.format.specs.declared.Answer.{Answer}
-use Rattle.format.specs.declared.HintAnswer.{HintAnswer}
-use Rattle.format.specs.declared.Written.TheVariants.{Length}
+use Rattle.format.specs.Returned.{Answer}
+use Rattle.format.specs.Returned.{HintAnswer}
 use Rattle.rewrite.specs.Rewritten.{CallsRewrite, calls_rewrite}
 use Rattle.rewrite.specs.Alike.{SameTold, same_told, accepted_so}
 
@@ -32,8 +30,8 @@ pub hint_calls : CallsRewrite (judge_metadata hint_item 0) canonical_hints hint_
 hint_calls = calls_rewrite hints_rewritten
 
 -- What `names` wrote is accepted by the judging call, and every question's calls tell of it what they tell of the original.
-module _ (kind_of : ℕ → Kind) (posed : AllPosed kind_of) {p old new : List ℕ} {n : ℕ} (a : Accepted (judge_names kind_of 0) p) (w : Writes (canonical_names kind_of p) old new (Length n)) where
-  pub names_accepted : (j : Verdict) → verdict_of j ≡ verdict (judge_names kind_of 0 (take n new)) → j ≡ IsAccepted
+module _ (kind_of : ℕ → Kind) (posed : AllPosed kind_of) {p old new : List ℕ} {n : ℕ} (a : Accepted (judge_names kind_of 0) p) (w : Writes (canonical_names kind_of p) old new (Ok n)) where
+  pub names_accepted : (j : Verdict) → verdict_of j ≡ verdict (judge_names kind_of 0 (take n new)) → j ≡ (Ok tt)
   names_accepted j says =
       let again = ((names_calls kind_of posed).leaves_canonical a w).is_accepted in
       accepted_so j (says ∙ rw again.judged)
@@ -45,20 +43,20 @@ module _ (kind_of : ℕ → Kind) (posed : AllPosed kind_of) {p old new : List �
   names_asked q r r' bytes bytes' e b e' b' = same_told (ask kind_of q p) (ask kind_of q (take n new)) r r' bytes bytes' e b e' b' (((names_calls kind_of posed).leaves_canonical a w).answers_alike q)
 
 -- The same of `metadata`, and of `hints` by likelihood.
-pub metadata_accepted : {p old new : List ℕ} {n : ℕ} → Accepted (judge_metadata any_item 0) p → Writes (canonical_metadata p) old new (Length n) → (j : Verdict) → verdict_of j ≡ verdict (judge_metadata any_item 0 (take n new)) → j ≡ IsAccepted
+pub metadata_accepted : {p old new : List ℕ} {n : ℕ} → Accepted (judge_metadata any_item 0) p → Writes (canonical_metadata p) old new (Ok n) → (j : Verdict) → verdict_of j ≡ verdict (judge_metadata any_item 0 (take n new)) → j ≡ (Ok tt)
 metadata_accepted a w j says = accepted_so j (says ∙ rw (metadata_calls.leaves_canonical a w).is_accepted.judged)
 
-pub metadata_asked : {p old new : List ℕ} {n : ℕ} → Accepted (judge_metadata any_item 0) p → Writes (canonical_metadata p) old new (Length n) → (q : ItemQuestion) (r r' : Answer) (bytes bytes' : List ℕ)
+pub metadata_asked : {p old new : List ℕ} {n : ℕ} → Accepted (judge_metadata any_item 0) p → Writes (canonical_metadata p) old new (Ok n) → (q : ItemQuestion) (r r' : Answer) (bytes bytes' : List ℕ)
     → answered r ≡ as_place (ask_metadata any_item q.0 q.1 0 p) → bytes ≡ as_bytes (ask_metadata any_item q.0 q.1 0 p)
     → answered r' ≡ as_place (ask_metadata any_item q.0 q.1 0 (take n new)) → bytes' ≡ as_bytes (ask_metadata any_item q.0 q.1 0 (take n new))
     → SameTold r r' bytes bytes'
 metadata_asked {p = p} {new = new} {n = n} a w q r r' bytes bytes' e b e' b' =
     same_told (ask_metadata any_item q.0 q.1 0 p) (ask_metadata any_item q.0 q.1 0 (take n new)) r r' bytes bytes' e b e' b' ((metadata_calls.leaves_canonical a w).answers_alike q)
 
-pub hints_accepted : {p old new : List ℕ} {n : ℕ} → Accepted (judge_metadata hint_item 0) p → Writes (canonical_hints p) old new (Length n) → (j : Verdict) → verdict_of j ≡ verdict (judge_metadata hint_item 0 (take n new)) → j ≡ IsAccepted
+pub hints_accepted : {p old new : List ℕ} {n : ℕ} → Accepted (judge_metadata hint_item 0) p → Writes (canonical_hints p) old new (Ok n) → (j : Verdict) → verdict_of j ≡ verdict (judge_metadata hint_item 0 (take n new)) → j ≡ (Ok tt)
 hints_accepted a w j says = accepted_so j (says ∙ rw (hint_calls.leaves_canonical a w).is_accepted.judged)
 
-pub hints_asked : {p old new : List ℕ} {n : ℕ} → Accepted (judge_metadata hint_item 0) p → Writes (canonical_hints p) old new (Length n) → (q : ItemQuestion) (r r' : HintAnswer)
+pub hints_asked : {p old new : List ℕ} {n : ℕ} → Accepted (judge_metadata hint_item 0) p → Writes (canonical_hints p) old new (Ok n) → (q : ItemQuestion) (r r' : HintAnswer)
     → hint_answered r ≡ ask_hint q.0 q.1 0 p → hint_answered r' ≡ ask_hint q.0 q.1 0 (take n new)
     → r ≡ r'
 hints_asked a w q r r' e e' = same_hint_answer r r' (e ∙ sym ((hint_calls.leaves_canonical a w).answers_alike q) ∙ sym e')

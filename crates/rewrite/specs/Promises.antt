@@ -4,7 +4,7 @@ use Rattle.format.specs.Canonical.{canonical_names, canonical_metadata, canonica
 use Rattle.format.specs.Names.{kind_in}
 use Rattle.format.specs.Outputs.{Writes}
 use Rattle.format.specs.declared.Edition.{Edition}
-use Rattle.format.specs.declared.Written.{Written}
+use Rattle.format.specs.Returned.{Written}
 
 -- rewrite
 abbrev pub RewriteNames : (p : List ℕ) (edition : Edition) (old : List ℕ) → List ℕ → Written → Type 0

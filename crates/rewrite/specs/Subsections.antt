@@ -1,5 +1,5 @@
 -- Subsections that were accepted, one after the other, what is left of them, and what a write leaves of that. Assumes nothing.
-use Rattle.std.specs.Prelude.{ℕ, ◌+◌, ◌≤◌, ◌<◌, List, [], ◌∷◌, ◌++◌, ◌≡◌, length}
+use Rattle.std.specs.Prelude.{ℕ, ◌+◌, ◌≤◌, ◌<◌, List, [], ◌∷◌, ◌++◌, ◌≡◌, length, Some, None}
 use Rattle.std.proofs.Math.Option.{Option, none, some}
 use Rattle.format.specs.Reading.{got, accepted}
 use Rattle.format.specs.Numbers.{shortest, limit32}
@@ -8,22 +8,20 @@ use Rattle.format.specs.Tables.{Table}
 use Rattle.format.specs.Names.{Kind, Content, payload}
 use Rattle.format.specs.Canonical.{bare, trim, write_part, write_content, rewrite_names}
 use Rattle.format.specs.Outputs.{Writes}
-use Rattle.format.specs.declared.Written.{Written}
+use Rattle.format.specs.Returned.{Written}
 use Rattle.names.specs.declared.frames.Framed.{Framed}
 use Rattle.reading.specs.Cursors.{Inside, left}
 use Rattle.reading.specs.declared.Cursor.{Cursor}
 use Rattle.writing.specs.Wrote.{Wrote}
 use Rattle.rewrite.specs.Contents.{ContentStands, Trims}
 use Rattle.rewrite.specs.declared.contents.Sizes.{Sizes}
-use Rattle.rewrite.specs.declared.contents.Left.{Left}
-use Rattle.rewrite.specs.declared.contents.Left.TheVariants.{Nothing, Contents}
-use Rattle.rewrite.specs.declared.subsections.Changed.{Changed}
-use Rattle.rewrite.specs.declared.subsections.Changed.TheVariants.{Nothing as NoneChanged, Subsection}
+use Rattle.rewrite.specs.Returned.{Left}
+use Rattle.rewrite.specs.Returned.{Changed}
 
 -- what is left fits a size number
 abbrev pub SmallLeft : Left → Type 0
-SmallLeft Nothing = Unit {0}
-SmallLeft (Contents x) = x.length < limit32
+SmallLeft None = Unit {0}
+SmallLeft (Some x) = x.length < limit32
 
 -- how long it is with id and size
 abbrev pub length_left : Option Sizes → ℕ
@@ -92,8 +90,8 @@ module _ (kind_of : ℕ → Kind) where
     pub is : rewrite_names value ≡ left s c
 
   abbrev pub FindsWhatChanged : List ℕ → Cursor → Changed → Type 0
-  FindsWhatChanged s c NoneChanged = UnchangedHere s c
-  FindsWhatChanged s c (Subsection at frame x) = ChangedAt s c at frame x
+  FindsWhatChanged s c None = UnchangedHere s c
+  FindsWhatChanged s c (Some (at, frame, x)) = ChangedAt s c at frame x
 
   pub record FindsChanged (s : List ℕ) (c : Cursor) (r : Changed) : Type 0 where
     pub finds : FindsWhatChanged s c r

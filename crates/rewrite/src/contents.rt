@@ -1,7 +1,7 @@
 // The contents of a subsection that was accepted: what is left of them, and written in their fewest bytes.
+ghost use Rattle.std.specs.Prelude.{Some};
 ghost use Rattle.format.specs.Names.{one_name, name_map, indirect_map};
 ghost use Rattle.names.specs.Contents.{kind_meant};
-ghost use Rattle.rewrite.specs.declared.contents.Left.TheVariants.{Contents};
 ghost use Rattle.rewrite.specs.Contents.{KnownContent, Trims, FitsContent, Counted, PutsContent};
 
 use crate::whole::put_whole;
@@ -19,11 +19,7 @@ pub struct Sizes {
 }
 
 // What is left of contents once nothing empty stays.
-#[derive(Clone, Copy)]
-pub enum Left {
-    Nothing,
-    Contents(Sizes),
-}
+pub type Left = Option<Sizes>;
 
 // One name stays, even if empty.
 fn one_name_left(s: &[u8], part: Cursor) -> Left
@@ -33,7 +29,7 @@ fn one_name_left(s: &[u8], part: Cursor) -> Left
     let name = part_here(part, s);
     let text = name.part;
     let length = sized_length(text.end - text.at);
-    Left::Contents(Sizes { count: 0, length })
+    Some(Sizes { count: 0, length })
 }
 
 // A name map stays if it has entries.
@@ -44,12 +40,12 @@ fn name_map_left(s: &[u8], part: Cursor) -> Left
     let entries = number_here(part, s);
     let count = entries.value;
     if count == 0 {
-        return Left::Nothing;
+        return None;
     }
     let rows = rows_length(entries.next, s, count);
     let before = number_length(count);
     let length = before + rows.length;
-    Left::Contents(Sizes { count, length })
+    Some(Sizes { count, length })
 }
 
 // An indirect map stays if one of its groups has entries.
@@ -61,11 +57,11 @@ fn indirect_map_left(s: &[u8], part: Cursor) -> Left
     let groups = groups_length(all.next, s, all.value);
     let count = groups.kept;
     if count == 0 {
-        return Left::Nothing;
+        return None;
     }
     let before = number_length(count);
     let length = before + groups.length;
-    Left::Contents(Sizes { count, length })
+    Some(Sizes { count, length })
 }
 
 // What is left of contents of a kind. Kept contents stay as they are.
@@ -79,7 +75,7 @@ pub fn content_left(s: &[u8], part: Cursor, kind: Kind) -> Left
         Kind::IndirectMap => indirect_map_left(s, part),
         Kind::Kept => {
             let length = part.end - part.at;
-            Left::Contents(Sizes { count: 0, length })
+            Some(Sizes { count: 0, length })
         }
     }
 }
@@ -141,7 +137,7 @@ pub fn put_content(
     sizes: Sizes,
 ) -> usize
     requires fits_content { FitsContent (kind_meant kind) s.now part out.old at }
-    requires trims { Trims (kind_meant kind) s.now part (Contents sizes) }
+    requires trims { Trims (kind_meant kind) s.now part (Some sizes) }
     ensures { PutsContent (kind_meant kind) s.now part out.old out.new at result }
 {
     if sizes.length == part.end - part.at {

@@ -21,16 +21,16 @@ pub fn put_items(p: &[u8], c: Cursor, out: &mut [u8]) -> Written
     let size = number_length(functions.kept);
     let needed = size + functions.length;
     if out.len() < needed {
-        return Written::Refused(Refusal {
+        return Err(Refusal {
             reason: Reason::OutputTooShort,
             offset: Offset(needed),
         });
     }
     if needed == c.end - c.at {
         let end = put_whole(out, 0, p, c);
-        return Written::Length(end);
+        return Ok(end);
     }
     let first = put_number(out, 0, functions.kept);
     let all = put_groups(out, first, count.next, p, count.value);
-    Written::Length(all.at)
+    Ok(all.at)
 }

@@ -8,7 +8,7 @@ mod whole;
 
 ghost use Rattle.rewrite.specs.Promises.{RewriteNames, RewriteMetadata, RewriteHints};
 
-use format::{Edition, Verdict, Written, refusal_of};
+use format::{Edition, Written};
 use names::judging;
 use reading::Cursor;
 
@@ -16,10 +16,7 @@ use reading::Cursor;
 pub fn names(p: &[u8], edition: Edition, out: &mut [u8]) -> Written
     ensures { RewriteNames p.now edition out.old out.new result }
 {
-    let verdict = judging::judge(p, edition);
-    let Verdict::Accepted = verdict else {
-        return Written::Refused(refusal_of(verdict));
-    };
+    judging::judge(p, edition)?;
     subsections::put_payload(p, Cursor::over(p), edition, out)
 }
 
@@ -27,10 +24,7 @@ pub fn names(p: &[u8], edition: Edition, out: &mut [u8]) -> Written
 pub fn metadata(p: &[u8], out: &mut [u8]) -> Written
     ensures { RewriteMetadata p.now out.old out.new result }
 {
-    let verdict = metadata::judge(p);
-    let Verdict::Accepted = verdict else {
-        return Written::Refused(refusal_of(verdict));
-    };
+    metadata::judge(p)?;
     items::put_items(p, Cursor::over(p), out)
 }
 
@@ -38,9 +32,6 @@ pub fn metadata(p: &[u8], out: &mut [u8]) -> Written
 pub fn hints(p: &[u8], out: &mut [u8]) -> Written
     ensures { RewriteHints p.now out.old out.new result }
 {
-    let verdict = metadata::judge_hints(p);
-    let Verdict::Accepted = verdict else {
-        return Written::Refused(refusal_of(verdict));
-    };
+    metadata::judge_hints(p)?;
     items::put_items(p, Cursor::over(p), out)
 }

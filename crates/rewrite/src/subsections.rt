@@ -16,11 +16,7 @@ use writing::{put_byte, put_number};
 const ID_LENGTH: usize = 1;
 
 // The first subsection that comes out shorter than it is, if one does: where it begins, its frame, and what is left of it.
-#[derive(Clone, Copy)]
-pub enum Changed {
-    Nothing,
-    Subsection(usize, Framed, Left),
-}
+pub type Changed = Option<(usize, Framed, Left)>;
 
 // How long a subsection is with its id and its size; nothing where nothing is left of it.
 fn subsection_length(left: Left) -> usize
@@ -28,8 +24,8 @@ fn subsection_length(left: Left) -> usize
     ensures { result ≡ length_left (left_of left) }
 {
     match left {
-        Left::Nothing => 0,
-        Left::Contents(sizes) => {
+        None => 0,
+        Some(sizes) => {
             let contents = sized_length(sizes.length);
             ID_LENGTH + contents
         }
@@ -66,11 +62,11 @@ fn first_changed(s: &[u8], c: Cursor, edition: Edition) -> Changed
         let after = frame.next;
         let left = content_left(s, part, kind_of(edition, frame.id));
         if subsection_length(left) != after.at - next.at {
-            return Changed::Subsection(next.at, frame, left);
+            return Some((next.at, frame, left));
         }
         next = after;
     }
-    Changed::Nothing
+    None
 }
 
 // What is left of a subsection, once it was measured, with its id and its size; nothing where nothing is left.
@@ -88,8 +84,8 @@ fn put_measured(
     ensures { PutsSubsection (kind_in edition) id s.now part out.old out.new at result }
 {
     match left {
-        Left::Nothing => at,
-        Left::Contents(sizes) => {
+        None => at,
+        Some(sizes) => {
             let length = sizes.length;
             let size = put_byte(out, at, id);
             let contents = put_number(out, size, length as u32);
@@ -135,8 +131,8 @@ fn put_names(out: &mut [u8], s: &[u8], c: Cursor, edition: Edition) -> usize
     ensures { PutsPayload (kind_in edition) s.now c out.old out.new 0 result }
 {
     match first_changed(s, c, edition) {
-        Changed::Nothing => put_whole(out, 0, s, c),
-        Changed::Subsection(at, frame, left) => {
+        None => put_whole(out, 0, s, c),
+        Some((at, frame, left)) => {
             let from = c.at;
             let changed = put_whole(out, 0, s, Cursor { at: from, end: at });
             let behind = put_measured(out, changed, edition, frame.id, s, frame.part, left);
@@ -164,11 +160,11 @@ pub fn put_payload(p: &[u8], c: Cursor, edition: Edition, out: &mut [u8]) -> Wri
 {
     let needed = room_for(p, c, edition, out.len());
     if out.len() < needed {
-        return Written::Refused(Refusal {
+        return Err(Refusal {
             reason: Reason::OutputTooShort,
             offset: Offset(needed),
         });
     }
     let end = put_names(out, p, c, edition);
-    Written::Length(end)
+    Ok(end)
 }

@@ -1,4 +1,5 @@
 -- What a question gives, one law for each way through it.
+use Rattle.std.specs.Prelude.{Ok, Err, Some, None}
 use Prim.Native.Nat.{ℕ, suc, ◌+◌, ◌-◌, ◌*◌, ◌≤◌, ◌<◌}
 use mathlib.Core.Bool.{Bool, true, false, not}
 use mathlib.Core.List.{List, ◌++◌}
@@ -9,8 +10,6 @@ use borrow.Author.Rules.{rules}
 use borrow.Author.Tests.{le-leb, lt-leb, lt-ltb, le-ltb, not-true, not-false}
 use lib.ListN.{length, get_or, take, drop, length-drop}
 use lib.Seq.{length-take-le, take_at}
-use denote.Enum.Declared.{tag_of}
-use Rattle.format.specs.contracts.Answer as answer_type
 use Rattle.format.specs.Canonical.{canonical_names}
 use Rattle.format.proofs.Laws.Found.{name_lies}
 use Rattle.format.specs.Laws.Outcomes.{not_accepted}
@@ -21,8 +20,7 @@ use Rattle.format.specs.Parts.{Part, place_of}
 use Rattle.format.specs.Questions.{answer, asked, ask_at, ask, as_told, as_place, answered}
 use Rattle.format.specs.Reading.{Judged, accepted, refused, map_judged}
 use Rattle.format.specs.Tables as Names
-use Rattle.format.specs.declared.Answer.{Answer as Given}
-use Rattle.format.specs.declared.Answer.TheVariants.{None as NoName, Found, Refused as NotAnswered}
+use Rattle.format.specs.Returned.{Answer as Given}
 use Rattle.format.specs.declared.Place.{Place}
 use Rattle.format.specs.declared.Query.TheVariants.{NameOf}
 use Rattle.format.specs.declared.Question.TheVariants.{FunctionName}
@@ -44,24 +42,23 @@ use Rattle.sharing.specs.declared.Table.{Table as Arrays}
 use Rattle.sharing.proofs.HoldLaws.{out_of}
 use Rattle.sharing.proofs.WholeLaws.{walks_few}
 use Rattle.sharing.specs.Table.{Table, Mark, blank, blocks, length_fits}
-use Rattle.sharing.specs.declared.Told.{Told}
-use Rattle.sharing.specs.declared.Told.TheVariants.{None, Length as Copied, Refused as NotTold}
+use Rattle.sharing.specs.Returned.{Told}
 use Rattle.writing.specs.Wrote.{Wrote}
 
 module _ (p : List ℕ) (from count : ℕ) (h : from + count ≤ length p) where
   name_long : length (take count (drop from p)) ≡ count
   name_long = length-take-le count (drop from p) (rw length-drop (omega arith))
 
-  pub copy_short : {old : List ℕ} → length old < count → Copies (take count (drop from p)) old old (NotTold (record { reason = OutputTooShort; offset = record { 0 = count } }))
+  pub copy_short : {old : List ℕ} → length old < count → Copies (take count (drop from p)) old old (Err (record { reason = OutputTooShort; offset = record { 0 = count } }))
   unfolding replied
   copy_short {old} l = record { is = rw (name_long, lt-leb count (length old) l) refl }
 
-  pub copy_done : {old new : List ℕ} {next : ℕ} → count ≤ length old → Wrote old new 0 next (take count (drop from p)) → Copies (take count (drop from p)) old new (Copied count)
+  pub copy_done : {old new : List ℕ} {next : ℕ} → count ≤ length old → Wrote old new 0 next (take count (drop from p)) → Copies (take count (drop from p)) old new (Ok (Some count))
   unfolding replied over
   copy_done {old} {new} {next} l w =
       let n : next ≡ count = omega (arith, w.next_is, name_long) in
       let e : new ≡ take count (drop from p) ++ drop count old = w.written ∙ rw n refl in
-      record { is = rw (name_long, le-leb count (length old) l) (ap (λ (x : List ℕ). asked_as (Copied count) x) e) }
+      record { is = rw (name_long, le-leb count (length old) l) (ap (λ (x : List ℕ). asked_as (Ok (Some count)) x) e) }
 
 pub ruleset copies = (copy_short, copy_done, rules)
 
@@ -88,54 +85,50 @@ judged_told : (t : Table) (s : List ℕ) (c : ℕ) (p : List ℕ) (i : ℕ) (out
 judged_told t s c p i out = judged_by t s c p i out (judge_names known_kind 0 p) refl
 
 data Answered (p : List ℕ) : Judged (Option Part) → Given → Type 0 where
-  no_name : Answered p (accepted none) NoName
-  named : (x : Part) → PartIn p x → Answered p (accepted (some x)) (Found (place_of x))
-  wrong : (n at : ℕ) (r : Refusal) → Answered p (refused n at) (NotAnswered r)
+  no_name : Answered p (accepted none) (Ok None)
+  named : (x : Part) → PartIn p x → Answered p (accepted (some x)) (Ok (Some (place_of x)))
+  wrong : (n at : ℕ) (r : Refusal) → Answered p (refused n at) (Err r)
 
 answers : (p : List ℕ) (j : Judged (Option Part)) (a : Given) → ((x : Part) → j ≡ accepted (some x) → PartIn p x) → answered a ≡ as_place j → Answered p j a
 unfolding as_place
-answers p (accepted none) NoName f e = no_name
-answers p (accepted none) (Found y) f e = absurd (let z : ◌≡◌ {A = ℕ} 0 1 = cc in omega arith)
-answers p (accepted none) (NotAnswered r) f e = absurd (not_accepted e)
-answers p (accepted (some x)) NoName f e = absurd (let z : ◌≡◌ {A = ℕ} 0 1 = cc in omega arith)
-answers p (accepted (some x)) (Found y) f e = let z : y ≡ place_of x = cc in rw z (named x (f x refl))
-answers p (accepted (some x)) (NotAnswered r) f e = absurd (not_accepted e)
-answers p (refused n at) NoName f e = absurd (not_accepted (sym e))
-answers p (refused n at) (Found y) f e = absurd (not_accepted (sym e))
-answers p (refused n at) (NotAnswered r) f e = wrong n at r
+answers p (accepted none) (Ok None) f e = no_name
+answers p (accepted none) (Ok (Some y)) f e = absurd (let z : ◌≡◌ {A = ℕ} 0 1 = cc in omega arith)
+answers p (accepted none) (Err r) f e = absurd (not_accepted e)
+answers p (accepted (some x)) (Ok None) f e = absurd (let z : ◌≡◌ {A = ℕ} 0 1 = cc in omega arith)
+answers p (accepted (some x)) (Ok (Some y)) f e = let z : y ≡ place_of x = cc in rw z (named x (f x refl))
+answers p (accepted (some x)) (Err r) f e = absurd (not_accepted e)
+answers p (refused n at) (Ok None) f e = absurd (not_accepted (sym e))
+answers p (refused n at) (Ok (Some y)) f e = absurd (not_accepted (sym e))
+answers p (refused n at) (Err r) f e = wrong n at r
 
 module _ (p : List ℕ) (i : ℕ) (a : Given) (e : answered a ≡ as_place (asking i p)) where
   there : Answered p (asking i p) a
   unfolding ask ask_at
   there = answers p (asking i p) a (λ x k. name_lies known_kind 1 (NameOf i) p 0 p (lies_all p) k) e
 
-  pub reply_none : {out : List ℕ} → tag_of answer_type.the_type a ≡ 0 → Replies p i out out None
-  reply_none {out} h = record { is = λ t s c. sym (judged_told t s c p i out ∙ by_none (asking i p) there h) }
+  pub reply_none : {out : List ℕ} → a ≡ Ok None → Replies p i out out (Ok None)
+  reply_none {out} h = record { is = λ t s c. sym (judged_told t s c p i out ∙ by_none (asking i p) (rw h at there)) }
     where
-      by_none : (j : Judged (Option Part)) {b : Given} → Answered p j b → tag_of answer_type.the_type b ≡ 0 → told_of j out ≡ nothing out
-      by_none _ no_name h = unfold told_of replied in refl
-      by_none _ (named x l) h = absurd (omega arith)
-      by_none _ (wrong n at r) h = absurd (omega arith)
+      by_none : (j : Judged (Option Part)) → Answered p j (Ok None) → told_of j out ≡ nothing out
+      by_none _ no_name = unfold told_of replied in refl
 
-  pub reply_wrong : {out : List ℕ} {r : Refusal} → tag_of answer_type.the_type a ≡ 2 → r ≡ record { reason = Damaged; offset = record { 0 = 0 } } → Replies p i out out (NotTold r)
-  reply_wrong {out} h d = record { is = λ t s c. rw d (sym (judged_told t s c p i out ∙ by_wrong (asking i p) there h)) }
+  pub reply_wrong : {out : List ℕ} {x r : Refusal} → a ≡ Err x → r ≡ record { reason = Damaged; offset = record { 0 = 0 } } → Replies p i out out (Err r)
+  reply_wrong {out} {x} h d = record { is = λ t s c. rw d (sym (judged_told t s c p i out ∙ by_wrong (asking i p) (rw h at there))) }
     where
-      by_wrong : (j : Judged (Option Part)) {b : Given} → Answered p j b → tag_of answer_type.the_type b ≡ 2 → told_of j out ≡ refusal 27 0 out
-      by_wrong _ no_name h = absurd (omega arith)
-      by_wrong _ (named x l) h = absurd (omega arith)
-      by_wrong _ (wrong n at r) h = unfold told_of in refl
+      by_wrong : (j : Judged (Option Part)) → Answered p j (Err x) → told_of j out ≡ refusal 27 0 out
+      by_wrong _ (wrong n at r) = unfold told_of in refl
 
-  module _ {y : Place} (f : a ≡ Found y) where
+  module _ {y : Place} (f : a ≡ Ok (Some y)) where
     pub name_inside : y.offset.0 + y.length ≤ length p
     name_inside = by_named (asking i p) y (rw f at there)
       where
-        by_named : (j : Judged (Option Part)) (z : Place) → Answered p j (Found z) → z.offset.0 + z.length ≤ length p
+        by_named : (j : Judged (Option Part)) (z : Place) → Answered p j (Ok (Some z)) → z.offset.0 + z.length ≤ length p
         by_named _ _ (named x l) = lies_inside l
 
     pub reply_named : {out new : List ℕ} {r : Told} → Copies (take y.length (drop y.offset.0 p)) out new r → Replies p i out new r
     reply_named {out} {new} {r} k = record { is = λ t s c. k.is ∙ sym (judged_told t s c p i out ∙ by_named (asking i p) y (rw f at there)) }
       where
-        by_named : (j : Judged (Option Part)) (z : Place) → Answered p j (Found z) → told_of j out ≡ replied (some (take z.length (drop z.offset.0 p))) out
+        by_named : (j : Judged (Option Part)) (z : Place) → Answered p j (Ok (Some z)) → told_of j out ≡ replied (some (take z.length (drop z.offset.0 p))) out
         by_named _ _ (named x l) = unfold told_of in ap (λ (n : List ℕ). replied (some n) out) (sym (lies_there l))
 
 pub ruleset replies = (reply_none, reply_wrong, name_inside, reply_named, rules)
@@ -181,7 +174,7 @@ module _ (s : List ℕ) (first : ℕ) {size k : ℕ} {b : Bool} (n : k ≡ need 
   pub row_replies : {i : ℕ} {out new : List ℕ} {r : Told} → b ≡ true → Replies (gather size (drop first (blocks s))) i out new r → RepliesAt s first size i out new r
   row_replies t k = record { is = λ u c. k.is u s c ∙ rw (← n, ← e, t) refl }
 
-  pub row_wrong : {i : ℕ} {out : List ℕ} {r : Refusal} → b ≡ false → r ≡ record { reason = Damaged; offset = record { 0 = 0 } } → RepliesAt s first size i out out (NotTold r)
+  pub row_wrong : {i : ℕ} {out : List ℕ} {r : Refusal} → b ≡ false → r ≡ record { reason = Damaged; offset = record { 0 = 0 } } → RepliesAt s first size i out out (Err r)
   row_wrong t d = record { is = λ u c. rw (d, ← n, ← e, t) refl }
 
 pub ruleset row_answers = (row_fits, row_small, row_replies, row_wrong, rules)
@@ -201,7 +194,7 @@ unfolding asked_at names
 asks_to t s c e b i z k = k.is t c ∙ rw z refl
 
 module _ (t : Arrays) (s : List ℕ) (c h i : ℕ) (out : List ℕ) {b : Bool} (f : b ≡ length_fits t.bytes (length s)) where
-  pub ask_store : {x : Refusal} → not b ≡ true → x ≡ record { reason = NotTheStore; offset = record { 0 = 0 } } → SharingAsk t s c h i out out (NotTold x)
+  pub ask_store : {x : Refusal} → not b ≡ true → x ≡ record { reason = NotTheStore; offset = record { 0 = 0 } } → SharingAsk t s c h i out out (Err x)
   unfolding step lent
   ask_store k e = rw (e, ← f, not-true b k) refl
 
@@ -209,12 +202,12 @@ module _ (t : Arrays) (s : List ℕ) (c h i : ℕ) (out : List ℕ) {b : Bool} (
     pub ask_few : length s ≤ 65536
     ask_few = walks_few t.bytes s (sym f ∙ not-false b g)
 
-    pub ask_nobody : {x : Refusal} → 16 ≤ c → x ≡ record { reason = NoCustomer; offset = record { 0 = 0 } } → SharingAsk t s c h i out out (NotTold x)
+    pub ask_nobody : {x : Refusal} → 16 ≤ c → x ≡ record { reason = NoCustomer; offset = record { 0 = 0 } } → SharingAsk t s c h i out out (Err x)
     unfolding step fitting
     ask_nobody k e = rw (e, ← f, not-false b g, le-ltb c 16 k) refl
 
     module _ (l : c < 16) {y : ℕ} (d : y ≡ get_or (desk c t.holds) h 0) where
-      pub ask_shut : {x : Refusal} → y ≡ 0 → x ≡ record { reason = NotOpen; offset = record { 0 = 0 } } → SharingAsk t s c h i out out (NotTold x)
+      pub ask_shut : {x : Refusal} → y ≡ 0 → x ≡ record { reason = NotOpen; offset = record { 0 = 0 } } → SharingAsk t s c h i out out (Err x)
       unfolding step fitting asked_at
       ask_shut z e = rw (e, ← f, not-false b g, lt-ltb c 16 l, ← d, z) refl
 

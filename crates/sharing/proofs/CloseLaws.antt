@@ -1,4 +1,5 @@
 -- What a close gives, one law for each way through it.
+use Rattle.std.specs.Prelude.{Ok, Err}
 use Prim.Native.Nat.{ℕ, suc, ◌+◌, ◌-◌, ◌*◌, ◌≤◌, ◌<◌}
 use mathlib.Core.Bool.{Bool, true, false, not}
 use mathlib.Core.List.{List}
@@ -12,7 +13,6 @@ use Rattle.format.specs.Laws.Outcomes.{by_test}
 use Rattle.format.specs.declared.Refusal.{Refusal}
 use Rattle.format.specs.declared.Reason.{Reason}
 use Rattle.format.specs.declared.Reason.TheVariants.{NoCustomer, NotOpen, NotTheStore}
-use Rattle.format.specs.declared.Verdict.TheVariants.{Accepted, Refused}
 use Rattle.sharing.specs.Arrays.{table_of, Full}
 use Rattle.sharing.specs.Calls.{releases, not_turned}
 use Rattle.sharing.specs.Model.{desk, closed}
@@ -24,7 +24,7 @@ use Rattle.sharing.specs.declared.Table.{Table as Arrays}
 use Rattle.sharing.specs.Laws.Arrays.{filled}
 use Rattle.sharing.proofs.HoldLaws.{entry_above}
 
-pub not_turned_lem : (t : Arrays) (why : Reason) {x : Refusal} → x ≡ record { reason = why; offset = record { 0 = 0 } } → record { table = t; verdict = Refused x } ≡ not_turned t why
+pub not_turned_lem : (t : Arrays) (why : Reason) {x : Refusal} → x ≡ record { reason = why; offset = record { 0 = 0 } } → record { table = t; verdict = Err x } ≡ not_turned t why
 not_turned_lem t why e = rw e refl
 
 pub ruleset not_turning = (not_turned_lem, rules)
@@ -55,7 +55,7 @@ module _ (t : Arrays) (s : List ℕ) (c h : ℕ) {b : Bool} (f : b ≡ length_fi
       unfolding step fitting closed_at
       close_shut z e w = (rw (e, ← f, not-false b g, lt-ltb c 16 l, ← i, z) refl, rw e w)
 
-      pub close_done : (u : Arrays) → (x ≡ 0 → ⊥) → table_of u ≡ releases (table_of t) (c * 8 + h) (x - 1) → Full u → SharingClose t s c h (record { table = u; verdict = Accepted })
+      pub close_done : (u : Arrays) → (x ≡ 0 → ⊥) → table_of u ≡ releases (table_of t) (c * 8 + h) (x - 1) → Full u → SharingClose t s c h (record { table = u; verdict = Ok tt })
       unfolding step fitting
       close_done u n e w = (rw (e, ← f, not-false b g, lt-ltb c 16 l, ← i) (closes_to (table_of t) s c h x (x - 1) (omega arith)), w)
 

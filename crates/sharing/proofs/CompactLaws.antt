@@ -1,4 +1,5 @@
 -- K13: what the step gives, one law for each way through it.
+use Rattle.std.specs.Prelude.{Ok}
 use Prim.Native.Nat.{ℕ, ◌/◌}
 use mathlib.Core.Bool.{Bool, true, false, not}
 use mathlib.Core.List.{List}
@@ -7,7 +8,6 @@ use borrow.Author.Rules.{rules}
 use borrow.Author.Tests.{not-true, not-false}
 use lib.ListN.{length}
 use Rattle.format.specs.declared.Reason.TheVariants.{Damaged, NotTheStore}
-use Rattle.format.specs.declared.Verdict.TheVariants.{Accepted}
 use Rattle.sharing.specs.Arrays.{marks_from, Full}
 use Rattle.sharing.specs.Calls.{not_turned}
 use Rattle.sharing.specs.Laws.Arrays.{filled}
@@ -29,7 +29,7 @@ module _ (t : Table) (s : List ℕ) {b : Bool} (f : b ≡ length_fits t.bytes (l
     unfolding step fitting tidy
     compact_damaged k e w = (rw (e, ← f, not-false b g, ← h, not-true x k) refl, rw e w)
 
-    pub compact_done : {used : List Bool} {u : Table} {new : List ℕ} → not x ≡ false → UsedBlocks t.users t.sizes s used → TidiesTable used (length s / 512) t u → PacksBlocks used s new → Full u → SharingCompact t s new (record { table = u; verdict = Accepted })
+    pub compact_done : {used : List Bool} {u : Table} {new : List ℕ} → not x ≡ false → UsedBlocks t.users t.sizes s used → TidiesTable used (length s / 512) t u → PacksBlocks used s new → Full u → SharingCompact t s new (record { table = u; verdict = Ok tt })
     unfolding step fitting tidy
     compact_done k o p q w = (rw (← f, not-false b g, ← h, not-false x k, ← o.is, p.is, q.is) refl, w)
 

@@ -1,4 +1,5 @@
 -- A payload looked for in the store: compared block by block, row by row.
+use Rattle.std.specs.Prelude.{Some, None}
 use Prim.Native.Nat.{ℕ, zero, suc, ◌+◌, ◌-◌, ◌*◌, ◌/◌, ◌≤◌, ◌<◌}
 use mathlib.Core.Bool.{Bool, true, false, cond, not, ◌&&◌}
 use mathlib.Core.List.{List, [], ◌∷◌, ◌++◌}
@@ -22,7 +23,6 @@ use Rattle.sharing.specs.Laws.Walks.{later}
 use Rattle.sharing.specs.Marks.{Walkable, RightRows, FitsRow, SizeFits, RowHolds, FindsRow}
 use Rattle.sharing.specs.Model.{after}
 use Rattle.sharing.specs.Table.{Mark, blocks, rows_right, find}
-use Rattle.sharing.specs.declared.rows.Row.TheVariants.{At, Nowhere}
 use Rattle.sharing.proofs.PieceLaws.{piece, piece_long, rest_of, rest_all, rest_more, rest_last, gather_long, need_next, need_some}
 
 -- Block by block
@@ -187,10 +187,10 @@ module _ {us ns s q : List ℕ} {b : ℕ} (t : Sought us ns s q b) where
     pub sought_more : {r : Bool} → RowHolds us ns s b q r → r ≡ false → Sought us ns s q (b + 1)
     sought_more x e = record { is = tried x ∙ rw (e, add-one b) (later_after b _) }
 
-    pub sought_found : {r : Bool} → RowHolds us ns s b q r → r ≡ true → FindsRow us ns s q (At b)
+    pub sought_found : {r : Bool} → RowHolds us ns s b q r → r ≡ true → FindsRow us ns s q (Some b)
     sought_found x e = record { is = sym (tried x ∙ rw e (later_zero b)) }
 
-  pub sought_all : length s / 512 ≤ b → FindsRow us ns s q Nowhere
+  pub sought_all : length s / 512 ≤ b → FindsRow us ns s q None
   sought_all h = record { is = sym (t.is ∙ ap (later b) (ap (find q (drop b (marks_from us ns))) (blocks_end s b h) ∙ find_end q (drop b (marks_from us ns))) ∙ later_none_is b) }
 
 pub ruleset finds = (fits_row, sought_none, sought_more, sought_found, sought_all, rules)

@@ -1,4 +1,5 @@
 -- What an open gives, one law for each way through it.
+use Rattle.std.specs.Prelude.{Ok, Err, Some, None}
 use Prim.Native.Nat.{ℕ, zero, suc, pred, max, ◌+◌, ◌-◌, ◌*◌, ◌/◌, ◌≤◌, ◌<◌}
 use mathlib.Core.Bool.{Bool, true, false, cond, not, ◌&&◌}
 use mathlib.Core.List.{List, [], ◌∷◌}
@@ -21,8 +22,7 @@ use Rattle.format.specs.Laws.Outcomes.{by_test, false_true, not_accepted, accept
 use Rattle.format.specs.declared.Reason.{Reason}
 use Rattle.format.specs.declared.Reason.TheVariants.{NoRoom, Damaged}
 use Rattle.format.specs.declared.Refusal.{Refusal}
-use Rattle.format.specs.declared.Written.{Written}
-use Rattle.format.specs.declared.Written.TheVariants.{Length, Refused as NotWritten}
+use Rattle.format.specs.Returned.{Written}
 use Rattle.sharing.specs.Arrays.{marks_from, table_of}
 use Rattle.sharing.specs.Blocks.{need, extra, scatter, gather, join}
 use Rattle.sharing.specs.Calls.{Seat, Settling, Settles, Joins, OpensNew, OpensWith, OpensUnused, opened_as, unopened, opened, leads_to}
@@ -36,14 +36,11 @@ use Rattle.sharing.specs.Step.{leaves, newly, placed, opened_in, leading, joined
 use Rattle.sharing.specs.Table.{Mark, mark, blank, blocks, rows_right, find, reach, taken, starts_free, first_run, paste}
 use Rattle.sharing.specs.declared.Opened.{Opened}
 use Rattle.sharing.specs.declared.Table.{Table}
-use Rattle.sharing.specs.declared.rows.Row.{Row}
-use Rattle.sharing.specs.declared.rows.Row.TheVariants.{At, Nowhere}
+use Rattle.sharing.specs.Returned.{Row}
 use Rattle.writing.specs.Wrote.{Wrote}
-use denote.Enum.Declared.{tag_of}
-use Rattle.sharing.specs.contracts.rows.Row as row_type
 use Rattle.sharing.proofs.PieceLaws.{need_some}
 
-pub not_opened : (t : Table) (why : Reason) {x : Refusal} → x ≡ record { reason = why; offset = record { 0 = 0 } } → record { table = t; answer = NotWritten x } ≡ unopened t why
+pub not_opened : (t : Table) (why : Reason) {x : Refusal} → x ≡ record { reason = why; offset = record { 0 = 0 } } → record { table = t; answer = Err x } ≡ unopened t why
 not_opened t why e = rw e refl
 
 pub ruleset not_opening = (not_opened, rules)
@@ -84,14 +81,9 @@ stored_small : (n : ℕ) → need n ≤ 128 → n < 4294967296
 unfolding need extra
 stored_small n h = omega arith
 
--- the arm that binds nothing
-pub nowhere : (r : Row) → tag_of row_type.the_type r ≡ 1 → r ≡ Nowhere
-nowhere (At b) h = absurd (omega arith)
-nowhere Nowhere h = refl
-
 -- A payload that is not stored
 
-module _ {us ns s : List ℕ} {k : ℕ} {r : Row} {b : ℕ} (w : Walkable us ns s) (e : FindsRun us ns s k r) (i : r ≡ At b) where
+module _ {us ns s : List ℕ} {k : ℕ} {r : Row} {b : ℕ} (w : Walkable us ns s) (e : FindsRun us ns s k r) (i : r ≡ Some b) where
   in_store : b + k ≤ length s / 512
   in_store = omega (arith, run_inside k (taken 0 (marks_from us ns) (blocks s)) (sym e.is ∙ ap row_of i), taken_inside 0 (marks_from us ns) (blocks s), blocks_length s)
 
@@ -124,11 +116,11 @@ module _ (t : Table) (s q : List ℕ) {k : ℕ} (r : Row) (w : Walkable t.users 
   asked_run : row_of r ≡ first_run (need (length q)) (taken 0 (marks_from t.users t.sizes) (blocks s))
   asked_run = e.is ∙ rw g refl
 
-  pub new_none : {c h : ℕ} {x : Opened} → tag_of row_type.the_type r ≡ 1 → x ≡ unopened t NoRoom → OpensNew t s c h q s x
+  pub new_none : {c h : ℕ} {x : Opened} → r ≡ None → x ≡ unopened t NoRoom → OpensNew t s c h q s x
   unfolding newly
-  new_none n i = record { is = λ work. rw (i, ← asked_run, nowhere r n) refl }
+  new_none n i = record { is = λ work. rw (i, ← asked_run, n) refl }
 
-  pub new_some : {b c h : ℕ} {new : List ℕ} {x : Opened} → r ≡ At b → Settles t s c h b q new x → OpensNew t s c h q new x
+  pub new_some : {b c h : ℕ} {new : List ℕ} {x : Opened} → r ≡ Some b → Settles t s c h b q new x → OpensNew t s c h q new x
   unfolding newly leading
   new_some {b} {c} {h} {new} i p =
       let n : length s ≡ length s / 512 * 512 = omega (arith, w.whole) in
@@ -143,7 +135,7 @@ module _ {us ns s : List ℕ} {x : Bool} (e : x ≡ rows_right (marks_from us ns
   pub right_rows : not x ≡ false → RightRows us ns s
   right_rows k = record { right = sym e ∙ not-false x k }
 
-pub find_low : {us ns s q : List ℕ} {r : Row} {b : ℕ} → Walkable us ns s → FindsRow us ns s q r → r ≡ At b → b < 128
+pub find_low : {us ns s q : List ℕ} {r : Row} {b : ℕ} → Walkable us ns s → FindsRow us ns s q r → r ≡ Some b → b < 128
 find_low {us} {ns} {s} {q} w e i = omega (arith, find_inside q (marks_from us ns) (blocks s) (sym e.is ∙ ap row_of i), blocks_length s, w.few)
 
 module _ (t : Table) (s q : List ℕ) {x : Bool} (e : x ≡ rows_right (marks_from t.users t.sizes) (blocks s)) where
@@ -152,11 +144,11 @@ module _ (t : Table) (s q : List ℕ) {x : Bool} (e : x ≡ rows_right (marks_fr
   with_damaged k i = record { is = λ work. rw (i, ← e, not-true x k) refl }
 
   module _ (k : not x ≡ false) (y : Row) (f : FindsRow t.users t.sizes s q y) where
-    pub with_new : {c h : ℕ} {new : List ℕ} {r : Opened} → tag_of row_type.the_type y ≡ 1 → OpensNew t s c h q new r → OpensWith t s c h q new r
+    pub with_new : {c h : ℕ} {new : List ℕ} {r : Opened} → y ≡ None → OpensNew t s c h q new r → OpensWith t s c h q new r
     unfolding opened_in placed
-    with_new n o = record { is = λ work. rw (← e, not-false x k, ← f.is, nowhere y n) (o.is work) }
+    with_new n o = record { is = λ work. rw (← e, not-false x k, ← f.is, n) (o.is work) }
 
-    pub with_stored : {b c h : ℕ} {r : Opened} → y ≡ At b → Joins t c h b r → OpensWith t s c h q s r
+    pub with_stored : {b c h : ℕ} {r : Opened} → y ≡ Some b → Joins t c h b r → OpensWith t s c h q s r
     unfolding opened_in placed leading
     with_stored i p = record { is = λ work. rw (← e, not-false x k, ← f.is, i, p.table, p.answer) refl }
 
@@ -166,46 +158,46 @@ pub ruleset opens_with = (right_rows, find_low, with_damaged, with_new, with_sto
 
 -- what a write that answered with a length, or was refused, says of what was wanted
 pub data Outcome (old new : List ℕ) : Judged (List ℕ) → Written → Type 0 where
-  whole : (q : List ℕ) → leb (length q) (length old) ≡ true → new ≡ over q old → Outcome old new (accepted q) (Length (length q))
-  short : (q : List ℕ) (r : Refusal) → leb (length q) (length old) ≡ false → new ≡ old → number_of r.reason ≡ 13 → r.offset.0 ≡ length q → Outcome old new (accepted q) (NotWritten r)
-  other : (r : Refusal) (n at : ℕ) → new ≡ old → number_of r.reason ≡ n → r.offset.0 ≡ at → Outcome old new (refused n at) (NotWritten r)
+  whole : (q : List ℕ) → leb (length q) (length old) ≡ true → new ≡ over q old → Outcome old new (accepted q) (Ok (length q))
+  short : (q : List ℕ) (r : Refusal) → leb (length q) (length old) ≡ false → new ≡ old → number_of r.reason ≡ 13 → r.offset.0 ≡ length q → Outcome old new (accepted q) (Err r)
+  other : (r : Refusal) (n at : ℕ) → new ≡ old → number_of r.reason ≡ n → r.offset.0 ≡ at → Outcome old new (refused n at) (Err r)
 
 pub outcome : {old new : List ℕ} (j : Judged (List ℕ)) (r : Written) → Writes j old new r → Outcome old new j r
 unfolding outputs.fitting write_answer output_after over
-outcome (refused n at) (Length k) w = absurd (not_accepted (sym w.says))
-outcome (refused n at) (NotWritten r) w = let e = w.says in other r n at w.leaves (cc) (cc)
-outcome {old} (accepted q) (Length k) w = by_test (leb (length q) (length old))
+outcome (refused n at) (Ok k) w = absurd (not_accepted (sym w.says))
+outcome (refused n at) (Err r) w = let e = w.says in other r n at w.leaves (cc) (cc)
+outcome {old} (accepted q) (Ok k) w = by_test (leb (length q) (length old))
     (λ t. let z : k ≡ length q = accepted_is (rw t at w.says) in rw z (whole q t (rw t at w.leaves)))
     (λ t. absurd (not_accepted (sym (rw t at w.says))))
-outcome {old} (accepted q) (NotWritten r) w = by_test (leb (length q) (length old))
+outcome {old} (accepted q) (Err r) w = by_test (leb (length q) (length old))
     (λ t. absurd (not_accepted (rw t at w.says)))
     (λ t. let e : refused (number_of r.reason) r.offset.0 ≡ refused 13 (length q) = rw t at w.says in short q r t (rw t at w.leaves) (cc) (cc))
 
-unused_by : (t : Table) (s : List ℕ) (c h : ℕ) (old new : List ℕ) (j : Judged (List ℕ)) (r : Refusal) → Outcome old new j (NotWritten r) → leaves (table_of t) s (opened_as (NotWritten r) new) ≡ opened_in (table_of t) s c old (with_work j (some h) old)
+unused_by : (t : Table) (s : List ℕ) (c h : ℕ) (old new : List ℕ) (j : Judged (List ℕ)) (r : Refusal) → Outcome old new j (Err r) → leaves (table_of t) s (opened_as (Err r) new) ≡ opened_in (table_of t) s c old (with_work j (some h) old)
 unfolding with_work opened_in
 unused_by t s c h old new _ _ (short q r l e n a) = rw (l, e, n, a) refl
 unused_by t s c h old new _ _ (other r n at e i a) = rw (e, i, a) refl
 
-written_by : (t : Table) (s : List ℕ) (c h : ℕ) (old new after : List ℕ) (j : Judged (List ℕ)) (n : ℕ) (x : Opened) → Outcome old new j (Length n) → OpensWith t s c h (take n new) after x → leaves (table_of x.table) after (opened_as x.answer new) ≡ opened_in (table_of t) s c old (with_work j (some h) old)
+written_by : (t : Table) (s : List ℕ) (c h : ℕ) (old new after : List ℕ) (j : Judged (List ℕ)) (n : ℕ) (x : Opened) → Outcome old new j (Ok n) → OpensWith t s c h (take n new) after x → leaves (table_of x.table) after (opened_as x.answer new) ≡ opened_in (table_of t) s c old (with_work j (some h) old)
 unfolding with_work with_hold over
 written_by t s c h old new after _ n x (whole q l e) o =
     let f : take (length q) new ≡ q = ap (take (length q)) e ∙ take_at q (drop (length q) old) (length q) refl in
     rw (l, e) (rw f at (o.is old))
 
 module _ {t : Table} {s : List ℕ} {c h : ℕ} (p old : List ℕ) {new : List ℕ} {r : Written} (w : Writes (canonical_names known_kind p) old new r) where
-  pub unused_refused : {x : Refusal} → r ≡ NotWritten x → OpensUnused t s c h p old s new (record { table = t; answer = NotWritten x })
-  unused_refused {x} e = record { is = unused_by t s c h old new (canonical_names known_kind p) x (outcome (canonical_names known_kind p) (NotWritten x) (rw e at w)) }
+  pub unused_refused : {x : Refusal} → r ≡ Err x → OpensUnused t s c h p old s new (record { table = t; answer = Err x })
+  unused_refused {x} e = record { is = unused_by t s c h old new (canonical_names known_kind p) x (outcome (canonical_names known_kind p) (Err x) (rw e at w)) }
 
-  pub unused_written : {n : ℕ} {after : List ℕ} {x : Opened} → r ≡ Length n → OpensWith t s c h (take (n - 0) new) after x → OpensUnused t s c h p old after new x
+  pub unused_written : {n : ℕ} {after : List ℕ} {x : Opened} → r ≡ Ok n → OpensWith t s c h (take (n - 0) new) after x → OpensUnused t s c h p old after new x
   unused_written {n} {after} {x} e o =
       let z : n - 0 ≡ n = omega arith in
-      record { is = written_by t s c h old new after (canonical_names known_kind p) n x (outcome (canonical_names known_kind p) (Length n) (rw e at w)) (rw z at o) }
+      record { is = written_by t s c h old new after (canonical_names known_kind p) n x (outcome (canonical_names known_kind p) (Ok n) (rw e at w)) (rw z at o) }
 
-written_in : {old new : List ℕ} {j : Judged (List ℕ)} (n : ℕ) → Outcome old new j (Length n) → n ≤ length new
+written_in : {old new : List ℕ} {j : Judged (List ℕ)} (n : ℕ) → Outcome old new j (Ok n) → n ≤ length new
 unfolding over
 written_in {old} n (whole q l e) = omega (arith, ap length e, length-append q (drop (length q) old))
 
-pub written_inside : {j : Judged (List ℕ)} {old new : List ℕ} {r : Written} {n : ℕ} → Writes j old new r → r ≡ Length n → n ≤ length new
-written_inside {j} {n = n} w e = written_in n (outcome j (Length n) (rw e at w))
+pub written_inside : {j : Judged (List ℕ)} {old new : List ℕ} {r : Written} {n : ℕ} → Writes j old new r → r ≡ Ok n → n ≤ length new
+written_inside {j} {n = n} w e = written_in n (outcome j (Ok n) (rw e at w))
 
 pub ruleset opens_unused = (unused_refused, unused_written, written_inside, rules)

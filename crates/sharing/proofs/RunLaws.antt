@@ -1,4 +1,5 @@
 -- The first run of free blocks in one pass.
+use Rattle.std.specs.Prelude.{Some, None}
 use Prim.Native.Nat.{ℕ, zero, suc, pred, max, ◌+◌, ◌-◌, ◌/◌, ◌≤◌, ◌<◌}
 use mathlib.Core.Bool.{Bool, false}
 use mathlib.Core.List.{List, [], ◌∷◌, ◌++◌, append-nil}
@@ -18,7 +19,6 @@ use Rattle.sharing.specs.Laws.Walks.{later}
 use Rattle.sharing.specs.Marks.{Walkable, FindsRun}
 use Rattle.sharing.specs.Model.{after}
 use Rattle.sharing.specs.Table.{Mark, mark, blocks, reach, taken, first_run}
-use Rattle.sharing.specs.declared.rows.Row.TheVariants.{At, Nowhere}
 use Rattle.sharing.proofs.FindLaws.{later_none_is, later_zero}
 
 -- What rows have from here on
@@ -98,7 +98,7 @@ module _ {us ns s : List ℕ} {wanted b cover free : ℕ} (t : Running us ns s w
         let z : b - free ≡ b + 1 - (free + 1) = omega arith in
         record { short = omega (arith, t.short); inside = omega (arith, t.inside); is = grown l ∙ rw (z, n) (ap (λ (i : ℕ). later (b + 1 - (free + 1)) (first_run wanted (replicate i false ++ taken c (drop (b + 1) (marks_from us ns)) (drop (b + 1) (blocks s))))) k) }
 
-    pub running_found : c ≤ 0 → free + 1 ≡ wanted → FindsRun us ns s wanted (At (b + 1 - wanted))
+    pub running_found : c ≤ 0 → free + 1 ≡ wanted → FindsRun us ns s wanted (Some (b + 1 - wanted))
     running_found l f =
         let k : suc free ≡ wanted = omega arith in
         let z : b - free ≡ b + 1 - wanted = omega arith in
@@ -108,7 +108,7 @@ module _ {us ns s : List ℕ} {wanted b cover free : ℕ} (t : Running us ns s w
   pub running_room : free + 1 ≡ wanted → wanted ≤ b + 1
   running_room e = omega (arith, t.inside)
 
-  pub running_all : length s / 512 ≤ b → FindsRun us ns s wanted Nowhere
+  pub running_all : length s / 512 ≤ b → FindsRun us ns s wanted None
   running_all h = record {
     is = sym (t.is ∙ ap (λ (l : List Bool). later (b - free) (first_run wanted (replicate free false ++ l))) (ap (taken cover (drop b (marks_from us ns))) (blocks_end s b h) ∙ taken_end cover (drop b (marks_from us ns)))
         ∙ ap (λ (l : List Bool). later (b - free) (first_run wanted l)) (append-nil (replicate free false)) ∙ ap (later (b - free)) (run_ends free wanted t.short) ∙ later_none_is (b - free));

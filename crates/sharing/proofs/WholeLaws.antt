@@ -1,4 +1,5 @@
 -- What an open gives, one law for each way through it.
+use Rattle.std.specs.Prelude.{Err}
 use Prim.Native.Nat.{ℕ, ◌%◌, ◌≤◌, ◌<◌}
 use mathlib.Core.Bool.{Bool, true, false, not}
 use mathlib.Core.List.{List}
@@ -10,7 +11,6 @@ use lib.ListN.{length}
 use Rattle.format.specs.Laws.Outcomes.{on_both}
 use Rattle.format.specs.declared.Reason.TheVariants.{NoCustomer, NotTheStore}
 use Rattle.format.specs.declared.Refusal.{Refusal}
-use Rattle.format.specs.declared.Written.TheVariants.{Refused as NotWritten}
 use Rattle.sharing.specs.Arrays.{Full}
 use Rattle.sharing.specs.Calls.{Seat, LowestUnused, OpensUnused, InUse, unopened}
 use Rattle.sharing.specs.Laws.Arrays.{filled}
@@ -56,7 +56,7 @@ module _ (t : Table) (s : List ℕ) (c : ℕ) (p w : List ℕ) {b : Bool} (f : b
       unfolding step fitting front names
       open_one m o full = (o.is ∙ sym (rw (← f, not-false b g, lt-ltb c 16 l, i.is, lt-ltb h 8 m) refl), full)
 
-      pub open_all : {x : Refusal} → 8 ≤ h → InUse p (length w) x → Full t → SharingOpen t s c p w s w (record { table = t; answer = NotWritten x })
+      pub open_all : {x : Refusal} → 8 ≤ h → InUse p (length w) x → Full t → SharingOpen t s c p w s w (record { table = t; answer = Err x })
       unfolding step fitting front names opened_in
       open_all m o full = (sym (rw (← f, not-false b g, lt-ltb c 16 l, i.is, le-ltb h 8 m, o.is w refl) refl), full)
 

@@ -1,5 +1,5 @@
 -- What the calls hand back says, with the lent buffer after the call; and the parts of a call that have functions of their own.
-use Rattle.std.specs.Prelude.{ℕ, suc, ◌+◌, ◌*◌, ◌≤◌, ◌<◌, cond, List, [], map, ◌≡◌, ltb, length, get_or, set, drop}
+use Rattle.std.specs.Prelude.{ℕ, suc, ◌+◌, ◌*◌, ◌≤◌, ◌<◌, cond, List, [], map, ◌≡◌, ltb, length, get_or, set, drop, Ok, Err, Some, None}
 use Rattle.std.proofs.Math.Option.{none, some}
 use Rattle.format.specs.Canonical.{canonical_names}
 use Rattle.format.specs.Names.{known_kind}
@@ -7,10 +7,7 @@ use Rattle.format.specs.Refusals.{number_of}
 use Rattle.format.specs.declared.Reason.{Reason}
 use Rattle.format.specs.declared.Reason.TheVariants.{Damaged}
 use Rattle.format.specs.declared.Refusal.{Refusal}
-use Rattle.format.specs.declared.Verdict.{Verdict}
-use Rattle.format.specs.declared.Verdict.TheVariants.{Accepted, Refused}
-use Rattle.format.specs.declared.Written.{Written}
-use Rattle.format.specs.declared.Written.TheVariants.{Length, Refused as NotWritten}
+use Rattle.format.specs.Returned.{Verdict, Written}
 use Rattle.sharing.specs.Arrays.{table_of}
 use Rattle.sharing.specs.Blocks.{need, scatter, join, gather, are_all_right}
 use Rattle.sharing.specs.Marks.{SizeFits}
@@ -21,8 +18,7 @@ use Rattle.sharing.specs.Table.{Mark, mark, blank, Table, table, blocks, taken, 
 use Rattle.sharing.specs.declared.Turned.{Turned}
 use Rattle.sharing.specs.declared.Opened.{Opened}
 use Rattle.sharing.specs.declared.Table.{Table as Arrays}
-use Rattle.sharing.specs.declared.Told.{Told}
-use Rattle.sharing.specs.declared.Told.TheVariants.{None, Length as Copied, Refused as NotTold}
+use Rattle.sharing.specs.Returned.{Told}
 use Rattle.sharing.specs.Named.{names}
 
 -- the customer's lowest unused hold, or 8
@@ -39,17 +35,17 @@ abbrev pub releases : Table → (at first : ℕ) → Table
 releases t at first = table t.bytes (set t.holds at 0) (set t.marks first (released (get_or t.marks first blank)))
 
 abbrev pub closed_as : Verdict → Answer
-closed_as Accepted = closed
-closed_as (Refused r) = refusal (number_of r.reason) r.offset.0 []
+closed_as (Ok _) = closed
+closed_as (Err r) = refusal (number_of r.reason) r.offset.0 []
 
 abbrev pub not_turned : Arrays → Reason → Turned
-not_turned t why = record { table = t; verdict = Refused (record { reason = why; offset = record { 0 = 0 } }) }
+not_turned t why = record { table = t; verdict = Err (record { reason = why; offset = record { 0 = 0 } }) }
 
 -- The step of K13
 
 abbrev pub tidied_as : Verdict → Answer
-tidied_as Accepted = tidied
-tidied_as (Refused r) = refusal (number_of r.reason) r.offset.0 []
+tidied_as (Ok _) = tidied
+tidied_as (Err r) = refusal (number_of r.reason) r.offset.0 []
 
 -- Opens
 
@@ -59,14 +55,14 @@ pub record Seat (customer hold : ℕ) : Type 0 where
   pub low : hold < 8
 
 abbrev pub opened_as : Written → List ℕ → Answer
-opened_as (Length hold) work = granted hold work
-opened_as (NotWritten r) work = refusal (number_of r.reason) r.offset.0 work
+opened_as (Ok hold) work = granted hold work
+opened_as (Err r) work = refusal (number_of r.reason) r.offset.0 work
 
 abbrev pub opened : Arrays → ℕ → Opened
-opened t hold = record { table = t; answer = Length hold }
+opened t hold = record { table = t; answer = Ok hold }
 
 abbrev pub unopened : Arrays → Reason → Opened
-unopened t why = record { table = t; answer = NotWritten (record { reason = why; offset = record { 0 = 0 } }) }
+unopened t why = record { table = t; answer = Err (record { reason = why; offset = record { 0 = 0 } }) }
 
 -- whatever the work buffer was: once it begins with the canonical payload, table, store and answer are what the step says
 pub record OpensNew (t : Arrays) (store : List ℕ) (customer hold : ℕ) (payload after : List ℕ) (r : Opened) : Type 0 where
@@ -84,13 +80,13 @@ pub record Settling (store : List ℕ) (first : ℕ) (payload : List ℕ) : Type
 -- it is stored there, with one user
 pub record Settles (t : Arrays) (store : List ℕ) (customer hold first : ℕ) (payload after : List ℕ) (r : Opened) : Type 0 where
   pub table : table_of r.table ≡ leads_to (table_of t) (customer * 8 + hold) first (mark 1 (length payload))
-  pub answer : r.answer ≡ Length hold
+  pub answer : r.answer ≡ Ok hold
   pub wrote : Wrote store after (first * 512) ((first + need (length payload)) * 512) (join (scatter payload))
 
 -- it is there, with a user more
 pub record Joins (t : Arrays) (customer hold first : ℕ) (r : Opened) : Type 0 where
   pub table : table_of r.table ≡ leads_to (table_of t) (customer * 8 + hold) first (joined (get_or (table_of t).marks first blank))
-  pub answer : r.answer ≡ Length hold
+  pub answer : r.answer ≡ Ok hold
 
 -- a payload opened with a hold that is unused
 pub record OpensUnused (t : Arrays) (store : List ℕ) (customer hold : ℕ) (payload work after left : List ℕ) (r : Opened) : Type 0 where
@@ -103,9 +99,9 @@ pub record InUse (payload : List ℕ) (room : ℕ) (r : Refusal) : Type 0 where
 -- Questions
 
 abbrev pub asked_as : Told → List ℕ → Answer
-asked_as None out = nothing out
-asked_as (Copied size) out = found size out
-asked_as (NotTold r) out = refusal (number_of r.reason) r.offset.0 out
+asked_as (Ok None) out = nothing out
+asked_as (Ok (Some size)) out = found size out
+asked_as (Err r) out = refusal (number_of r.reason) r.offset.0 out
 
 -- a name is copied to the output, if it has room
 pub record Copies (name old new : List ℕ) (r : Told) : Type 0 where

@@ -1,3 +1,4 @@
+pub mod Returned
 pub mod Blocks
 pub mod Model
 pub mod Table

@@ -1,12 +1,11 @@
 -- What the walks over marks and blocks are lent, and what each asks of one row.
-use Rattle.std.specs.Prelude.{ℕ, ◌+◌, ◌/◌, ◌%◌, ◌≤◌, ◌<◌, Bool, true, cond, not, ◌&&◌, List, ◌≡◌, eqb, length, get_or, drop}
+use Rattle.std.specs.Prelude.{ℕ, ◌+◌, ◌/◌, ◌%◌, ◌≤◌, ◌<◌, Bool, true, cond, not, ◌&&◌, List, ◌≡◌, eqb, length, get_or, drop, Some, None}
 use Rattle.std.proofs.Math.Option.{Option, none, some}
 use Rattle.format.specs.Bytes.{same}
 use Rattle.sharing.specs.Arrays.{marks_from}
 use Rattle.sharing.specs.Blocks.{need, are_all_right, gather}
 use Rattle.sharing.specs.Table.{blocks, rows_right, find, taken, first_run}
-use Rattle.sharing.specs.declared.rows.Row.{Row}
-use Rattle.sharing.specs.declared.rows.Row.TheVariants.{At, Nowhere}
+use Rattle.sharing.specs.Returned.{Row}
 
 -- arrays as long as a table's, and a store of whole blocks, no more than they have places
 pub record Walkable (users sizes store : List ℕ) : Type 0 where
@@ -37,8 +36,8 @@ pub record RowHolds (users sizes store : List ℕ) (at : ℕ) (bytes : List ℕ)
   pub is : says ≡ (not (eqb (get_or users at 0) 0) && same (gather (get_or sizes at 0) (drop at (blocks store))) bytes)
 
 abbrev pub row_of : Row → Option ℕ
-row_of (At b) = some b
-row_of Nowhere = none
+row_of (Some b) = some b
+row_of None = none
 
 -- what the walks find
 pub record FindsRow (users sizes store bytes : List ℕ) (r : Row) : Type 0 where

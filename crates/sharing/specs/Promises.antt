@@ -8,7 +8,7 @@ use Rattle.sharing.specs.Step.{leaves, step}
 use Rattle.sharing.specs.Table.{started}
 use Rattle.sharing.specs.declared.Turned.{Turned}
 use Rattle.sharing.specs.declared.Opened.{Opened}
-use Rattle.sharing.specs.declared.Told.{Told}
+use Rattle.sharing.specs.Returned.{Told}
 use Rattle.sharing.specs.declared.Table.{Table}
 
 -- sharing

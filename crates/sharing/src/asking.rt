@@ -8,7 +8,7 @@ ghost use Rattle.sharing.specs.Table as table;
 use crate::blocks::{BLOCK, BODY, all_right, need};
 use crate::storing::{gather, put_part};
 use crate::{Told, refuse};
-use format::{Answer, Edition, FunctionIndex, Offset, Question, Reason, Refusal};
+use format::{Edition, FunctionIndex, Offset, Question, Reason, Refusal};
 use names::ask;
 
 // What 128 blocks keep of a payload.
@@ -20,31 +20,28 @@ fn put_name(payload: &[u8], from: usize, count: usize, out: &mut [u8]) -> Told
     ensures { Copies (take count (drop from payload.now)) out.old out.new result }
 {
     if out.len() < count {
-        return Told::Refused(Refusal {
+        return Err(Refusal {
             reason: Reason::OutputTooShort,
             offset: Offset(count),
         });
     }
     put_part(out, 0, payload, from, count);
-    Told::Length(count)
+    Ok(Some(count))
 }
 
 // A function's name from a payload; 27 where it is no longer accepted.
 pub fn reply(p: &[u8], function: u32, out: &mut [u8]) -> Told
     ensures { Replies p.now function out.old out.new result }
 {
-    match ask(
-        p,
-        Edition::First,
-        Question::FunctionName(FunctionIndex(function)),
-    ) {
-        Answer::None => Told::None,
-        Answer::Refused(_) => Told::Refused(refuse(Reason::Damaged)),
-        Answer::Found(place) => {
-            let offset = place.offset;
-            put_name(p, offset.0, place.length, out)
-        }
-    }
+    let question = Question::FunctionName(FunctionIndex(function));
+    let Ok(found) = ask(p, Edition::First, question) else {
+        return Err(refuse(Reason::Damaged));
+    };
+    let Some(place) = found else {
+        return Ok(None);
+    };
+    let offset = place.offset;
+    put_name(p, offset.0, place.length, out)
 }
 
 // The same from its blocks, which are gathered.
@@ -81,5 +78,5 @@ pub fn reply_at(store: &[u8], first: usize, size: usize, function: u32, out: &mu
         }
         return reply_from(store, first, size, function, out);
     }
-    Told::Refused(refuse(Reason::Damaged))
+    Err(refuse(Reason::Damaged))
 }

@@ -56,13 +56,8 @@ pub struct Opened {
     pub answer: Written,
 }
 
-// The answer to a question: how long the name is that was copied.
-#[derive(Clone, Copy)]
-pub enum Told {
-    None,
-    Length(usize),
-    Refused(Refusal),
-}
+// The answer to a question: how long the name is that was copied, if there is one.
+pub type Told = Result<Option<usize>, Refusal>;
 
 // What a close leaves, or the step that closes the gaps, and its verdict.
 #[derive(Clone, Copy)]
@@ -86,7 +81,7 @@ fn not_turned(t: Table, reason: Reason) -> Turned
 {
     Turned {
         table: t,
-        verdict: Verdict::Refused(refuse(reason)),
+        verdict: Err(refuse(reason)),
     }
 }
 
@@ -106,7 +101,7 @@ pub fn open(t: Table, store: &mut [u8], customer: u32, payload: &[u8], work: &mu
     }
     Opened {
         table: t,
-        answer: Written::Refused(all_in_use(payload, work.len())),
+        answer: Err(all_in_use(payload, work.len())),
     }
 }
 
@@ -115,14 +110,14 @@ pub fn ask(t: Table, store: &[u8], customer: u32, hold: u32, function: u32, out:
     ensures { SharingAsk t store.now customer hold function out.old out.new result }
 {
     if !fits(t.bytes, store.len()) {
-        return Told::Refused(refuse(Reason::NotTheStore));
+        return Err(refuse(Reason::NotTheStore));
     }
     if CUSTOMERS <= customer {
-        return Told::Refused(refuse(Reason::NoCustomer));
+        return Err(refuse(Reason::NoCustomer));
     }
     let stands = entry(&t.holds, customer, hold);
     if stands == 0 {
-        return Told::Refused(refuse(Reason::NotOpen));
+        return Err(refuse(Reason::NotOpen));
     }
     let first = stands as usize - 1;
     reply_at(store, first, size_at(t, first), function, out)
@@ -145,7 +140,7 @@ pub fn close(t: Table, store: &[u8], customer: u32, hold: u32) -> Turned
     let at = customer as usize * HOLDS + hold as usize;
     Turned {
         table: release(t, at, stands as usize - 1),
-        verdict: Verdict::Accepted,
+        verdict: Ok(()),
     }
 }
 
@@ -164,6 +159,6 @@ pub fn compact(t: Table, store: &mut [u8]) -> Turned
     pack_blocks(&used, store);
     Turned {
         table,
-        verdict: Verdict::Accepted,
+        verdict: Ok(()),
     }
 }

@@ -5,11 +5,11 @@ ghost use Rattle.sharing.specs.Marks.{Walkable};
 
 use crate::blocks::need;
 use crate::holds::{HOLDS, lead, share};
-use crate::rows::{Row, find, rows_right};
+use crate::rows::{find, rows_right};
 use crate::runs::first_run;
 use crate::storing::put_payload;
 use crate::{Opened, Table, refuse};
-use format::{Edition, Reason, Refusal, Verdict, Written, refusal_of};
+use format::{Edition, Reason, Refusal, refusal_of};
 use names::judging::judge;
 use rewrite::names;
 
@@ -18,7 +18,7 @@ pub fn not_opened(t: Table, reason: Reason) -> Opened
 {
     Opened {
         table: t,
-        answer: Written::Refused(refuse(reason)),
+        answer: Err(refuse(reason)),
     }
 }
 
@@ -27,7 +27,7 @@ fn granted(t: Table, hold: usize) -> Opened
 {
     Opened {
         table: t,
-        answer: Written::Length(hold),
+        answer: Ok(hold),
     }
 }
 
@@ -49,8 +49,8 @@ fn store_new(t: Table, store: &mut [u8], customer: u32, hold: usize, q: &[u8]) -
     ensures { OpensNew t store.old customer hold q.now store.new result }
 {
     match first_run(&t.users, &t.sizes, &*store, need(q.len())) {
-        Row::Nowhere => not_opened(t, Reason::NoRoom),
-        Row::At(b) => settle(t, store, customer, hold, b, q),
+        None => not_opened(t, Reason::NoRoom),
+        Some(b) => settle(t, store, customer, hold, b, q),
     }
 }
 
@@ -74,8 +74,8 @@ pub fn open_with(t: Table, store: &mut [u8], customer: u32, hold: usize, q: &[u8
         return not_opened(t, Reason::Damaged);
     }
     match find(&t.users, &t.sizes, &*store, q) {
-        Row::Nowhere => store_new(t, store, customer, hold, q),
-        Row::At(b) => join(t, customer, hold, b),
+        None => store_new(t, store, customer, hold, q),
+        Some(b) => join(t, customer, hold, b),
     }
 }
 
@@ -93,11 +93,11 @@ pub fn open_unused(
     ensures { OpensUnused t store.old customer hold payload.now work.old store.new work.new result }
 {
     match names(payload, Edition::First, &mut *work) {
-        Written::Refused(r) => Opened {
+        Err(r) => Opened {
             table: t,
-            answer: Written::Refused(r),
+            answer: Err(r),
         },
-        Written::Length(n) => {
+        Ok(n) => {
             let front = 0;
             open_with(t, store, customer, hold, &work[front..n])
         }
@@ -109,13 +109,13 @@ pub fn all_in_use(payload: &[u8], room: usize) -> Refusal
     ensures { InUse payload.now room result }
 {
     let verdict = judge(payload, Edition::First);
-    let Verdict::Accepted = verdict else {
+    let Ok(()) = verdict else {
         return refusal_of(verdict);
     };
     let mut nothing = [0u8; 0];
     match names(payload, Edition::First, &mut nothing) {
-        Written::Length(_) => refuse(Reason::HoldsInUse),
-        Written::Refused(r) => {
+        Ok(_) => refuse(Reason::HoldsInUse),
+        Err(r) => {
             let needed = r.offset;
             if room < needed.0 {
                 return r;

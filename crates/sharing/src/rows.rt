@@ -10,12 +10,8 @@ ghost use Rattle.sharing.specs.Table as table;
 use crate::PLACES;
 use crate::blocks::{BLOCK, BODY, all_right, as_size, need};
 
-// The first block of a row.
-#[derive(Clone, Copy)]
-pub enum Row {
-    At(usize),
-    Nowhere,
-}
+// The first block of a row, if there is one.
+pub type Row = Option<usize>;
 
 // Whether the blocks of a row are right, if there is one.
 fn row_right<'a>(users: &'a [u8; PLACES], sizes: &'a [u32; PLACES], store: &[u8], at: usize) -> bool
@@ -118,9 +114,9 @@ pub fn find<'a>(users: &'a [u8; PLACES], sizes: &'a [u32; PLACES], store: &[u8],
     let mut b = 0;
     while b < blocks {
         if row_holds(users, sizes, store, b, q) {
-            return Row::At(b);
+            return Some(b);
         }
         b += 1;
     }
-    Row::Nowhere
+    None
 }

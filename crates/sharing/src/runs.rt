@@ -46,9 +46,9 @@ pub fn first_run<'a>(
         } else {
             free += 1;
             if free == wanted {
-                return Row::At(b - wanted);
+                return Some(b - wanted);
             }
         }
     }
-    Row::Nowhere
+    None
 }

@@ -1,10 +1,8 @@
+use Rattle.format.specs.Laws.Counted.{Counted}
 use Rattle.format.specs.Older.{older_entry}
 use Rattle.format.specs.OlderInOrder.{entries_bytes}
 use Rattle.in_order.proofs.Putting.{Putting}
 use Rattle.in_order.proofs.put_entries.Given as goal
 
-abbrev pub invariant-loop-more : goal.invariant-loop-more
-invariant-loop-more l = Putting older_entry entries_bytes l.n l.s l.initial.next l.initial.out l.at l.out l.to l.next l.more
-
-abbrev pub decreases-loop-more : goal.decreases-loop-more
-decreases-loop-more l = l.more
+abbrev pub invariant-loop : goal.invariant-loop
+invariant-loop l = Counted (λ more. Putting older_entry entries_bytes l.n l.s l.initial.next l.initial.out l.at l.out l.to l.next more) l.n l.counter

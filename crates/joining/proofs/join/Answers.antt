@@ -1,5 +1,5 @@
 use Rattle.joining.proofs.JoinLaws.{joins}
 use Rattle.joining.proofs.join.Goals as goal
 
-pub returns-in_default : goal.returns-in_default
-returns-in_default c = search joins
+pub returns-in-Err : goal.returns-in-Err
+returns-in-Err c = search joins

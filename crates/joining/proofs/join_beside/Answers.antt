@@ -1,8 +1,8 @@
 use Rattle.joining.proofs.JoinLaws.{joins_beside}
 use Rattle.joining.proofs.join_beside.Goals as goal
 
-pub returns-in_default : goal.returns-in_default
-returns-in_default c = search joins_beside
+pub returns-in-Err : goal.returns-in-Err
+returns-in-Err c = search joins_beside
 
 pub put_joined-end-requires : goal.put_joined-end-requires
 put_joined-end-requires c = search joins_beside

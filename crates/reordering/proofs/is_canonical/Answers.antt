@@ -4,5 +4,5 @@ use Rattle.reordering.proofs.is_canonical.Goals as goal
 pub tells-requires : goal.tells-requires
 tells-requires c = search judgement_steps
 
-pub returns-in-Refused : goal.returns-in-Refused
-returns-in-Refused c = search judgement_steps
+pub returns-in-Err : goal.returns-in-Err
+returns-in-Err c = search judgement_steps

@@ -1,18 +1,14 @@
 -- Results that say the same are the same: a table by its arrays, and an answer with the lent buffer after the call.
-use Rattle.std.specs.Prelude.{ℕ, List, [], ◌∷◌, map, ◌≡◌, refl, length}
+use Rattle.std.specs.Prelude.{ℕ, List, [], ◌∷◌, map, ◌≡◌, refl, length, Ok, Err, Some, None}
 use Rattle.std.proofs.Common.{sym, ap, ◌∙◌, arith}
 use Rattle.format.specs.Laws.Refusals.{same_refusal}
-use Rattle.format.specs.declared.Verdict.{Verdict}
-use Rattle.format.specs.declared.Verdict.TheVariants.{Accepted, Refused}
-use Rattle.format.specs.declared.Written.{Written}
-use Rattle.format.specs.declared.Written.TheVariants.{Length, Refused as NotWritten}
+use Rattle.format.specs.Returned.{Verdict, Written}
 use Rattle.sharing.specs.Arrays.{marks_from, table_of, Full}
 use Rattle.sharing.specs.Calls.{opened_as, asked_as, closed_as, tidied_as}
 use Rattle.sharing.specs.Model.{Answer, refusal, granted, nothing, found, closed, tidied}
 use Rattle.sharing.specs.Table.{Mark, Table}
 use Rattle.sharing.specs.declared.Table.{Table as Arrays}
-use Rattle.sharing.specs.declared.Told.{Told}
-use Rattle.sharing.specs.declared.Told.TheVariants.{None, Length as Copied, Refused as NotTold}
+use Rattle.sharing.specs.Returned.{Told}
 
 -- Tables
 
@@ -53,30 +49,30 @@ apart : {a b : Answer} {A : Type 0} → a ≡ b → (which a ≡ which b → ⊥
 apart e f = absurd (f (ap which e))
 
 pub same_opened : (a b : Written) (left other : List ℕ) → opened_as a left ≡ opened_as b other → (a ≡ b) × (left ≡ other)
-same_opened (Length h) (Length k) left other e = let n : h ≡ k = cc in (ap Length n, cc)
-same_opened (Length h) (NotWritten s) left other e = apart e (λ z. omega arith)
-same_opened (NotWritten r) (Length k) left other e = apart e (λ z. omega arith)
-same_opened (NotWritten r) (NotWritten s) left other e = (ap NotWritten (same_refusal r s (cc) (cc)), cc)
+same_opened (Ok h) (Ok k) left other e = let n : h ≡ k = cc in (ap Ok n, cc)
+same_opened (Ok h) (Err s) left other e = apart e (λ z. omega arith)
+same_opened (Err r) (Ok k) left other e = apart e (λ z. omega arith)
+same_opened (Err r) (Err s) left other e = (ap Err (same_refusal r s (cc) (cc)), cc)
 
 pub same_told : (a b : Told) (left other : List ℕ) → asked_as a left ≡ asked_as b other → (a ≡ b) × (left ≡ other)
-same_told None None left other e = (refl, cc)
-same_told None (Copied n) left other e = apart e (λ z. omega arith)
-same_told None (NotTold s) left other e = apart e (λ z. omega arith)
-same_told (Copied n) None left other e = apart e (λ z. omega arith)
-same_told (Copied n) (Copied m) left other e = let k : n ≡ m = cc in (ap Copied k, cc)
-same_told (Copied n) (NotTold s) left other e = apart e (λ z. omega arith)
-same_told (NotTold r) None left other e = apart e (λ z. omega arith)
-same_told (NotTold r) (Copied m) left other e = apart e (λ z. omega arith)
-same_told (NotTold r) (NotTold s) left other e = (ap NotTold (same_refusal r s (cc) (cc)), cc)
+same_told (Ok None) (Ok None) left other e = (refl, cc)
+same_told (Ok None) (Ok (Some n)) left other e = apart e (λ z. omega arith)
+same_told (Ok None) (Err s) left other e = apart e (λ z. omega arith)
+same_told (Ok (Some n)) (Ok None) left other e = apart e (λ z. omega arith)
+same_told (Ok (Some n)) (Ok (Some m)) left other e = let k : n ≡ m = cc in (ap (λ x. Ok (Some x)) k, cc)
+same_told (Ok (Some n)) (Err s) left other e = apart e (λ z. omega arith)
+same_told (Err r) (Ok None) left other e = apart e (λ z. omega arith)
+same_told (Err r) (Ok (Some m)) left other e = apart e (λ z. omega arith)
+same_told (Err r) (Err s) left other e = (ap Err (same_refusal r s (cc) (cc)), cc)
 
 pub same_closed : (a b : Verdict) → closed_as a ≡ closed_as b → a ≡ b
-same_closed Accepted Accepted e = refl
-same_closed Accepted (Refused s) e = apart e (λ z. omega arith)
-same_closed (Refused r) Accepted e = apart e (λ z. omega arith)
-same_closed (Refused r) (Refused s) e = ap Refused (same_refusal r s (cc) (cc))
+same_closed (Ok _) (Ok _) e = refl
+same_closed (Ok _) (Err s) e = apart e (λ z. omega arith)
+same_closed (Err r) (Ok _) e = apart e (λ z. omega arith)
+same_closed (Err r) (Err s) e = ap Err (same_refusal r s (cc) (cc))
 
 pub same_tidied : (a b : Verdict) → tidied_as a ≡ tidied_as b → a ≡ b
-same_tidied Accepted Accepted e = refl
-same_tidied Accepted (Refused s) e = apart e (λ z. omega arith)
-same_tidied (Refused r) Accepted e = apart e (λ z. omega arith)
-same_tidied (Refused r) (Refused s) e = ap Refused (same_refusal r s (cc) (cc))
+same_tidied (Ok _) (Ok _) e = refl
+same_tidied (Ok _) (Err s) e = apart e (λ z. omega arith)
+same_tidied (Err r) (Ok _) e = apart e (λ z. omega arith)
+same_tidied (Err r) (Err s) e = ap Err (same_refusal r s (cc) (cc))

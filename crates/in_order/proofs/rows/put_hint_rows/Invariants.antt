@@ -1,11 +1,9 @@
+use Rattle.format.specs.Laws.Counted.{Counted}
 use mathlib.Core.List.{[], ◌∷◌}
 use Rattle.format.specs.Older.{older_hint}
 use Rattle.in_order.specs.Rows.{hints_rows}
 use Rattle.in_order.proofs.Listing.{PuttingRows}
 use Rattle.in_order.proofs.rows.put_hint_rows.Given as goal
 
-abbrev pub invariant-loop-more : goal.invariant-loop-more
-invariant-loop-more l = PuttingRows older_hint (hints_rows l.function) l.n l.s l.initial.next (l.initial.functions ∷ l.initial.offsets ∷ l.initial.likely ∷ []) l.at (l.functions ∷ l.offsets ∷ l.likely ∷ []) l.to l.next l.more
-
-abbrev pub decreases-loop-more : goal.decreases-loop-more
-decreases-loop-more l = l.more
+abbrev pub invariant-loop : goal.invariant-loop
+invariant-loop l = Counted (λ more. PuttingRows older_hint (hints_rows l.function) l.n l.s l.initial.next (l.initial.functions ∷ l.initial.offsets ∷ l.initial.likely ∷ []) l.at (l.functions ∷ l.offsets ∷ l.likely ∷ []) l.to l.next more) l.n l.counter

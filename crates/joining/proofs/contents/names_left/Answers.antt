@@ -1,11 +1,11 @@
 use Rattle.joining.proofs.ContentLaws.{names_measured}
 use Rattle.joining.proofs.contents.names_left.Goals as goal
 
-pub returns-in-Part : goal.returns-in-Part
-returns-in-Part c = search names_measured
+pub returns-in-Some : goal.returns-in-Some
+returns-in-Some c = search names_measured
 
-pub returns-in-Part-second : goal.returns-in-Part-second
-returns-in-Part-second c = search names_measured
+pub returns-in-Some-second : goal.returns-in-Some-second
+returns-in-Some-second c = search names_measured
 
-pub returns-in-Nothing-second : goal.returns-in-Nothing-second
-returns-in-Nothing-second c = search names_measured
+pub returns-in-None-second : goal.returns-in-None-second
+returns-in-None-second c = search names_measured

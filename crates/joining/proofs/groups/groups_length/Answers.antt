@@ -4,8 +4,8 @@ use Rattle.joining.proofs.groups.groups_length.Goals as goal
 pub loop-index-init : goal.loop-index-init
 loop-index-init c = search measuring_groups
 
-pub returns-in-End : goal.returns-in-End
-returns-in-End c = search measuring_groups
+pub returns : goal.returns
+returns c = search measuring_groups
 
 pub one_group_length-group-requires : goal.one_group_length-group-requires
 one_group_length-group-requires c = search measuring_groups

@@ -4,8 +4,8 @@ use Rattle.joining.proofs.groups.put_groups.Goals as goal
 pub loop-index-init : goal.loop-index-init
 loop-index-init c = search putting_groups
 
-pub returns-in-End : goal.returns-in-End
-returns-in-End c = search putting_groups
+pub returns : goal.returns
+returns c = search putting_groups
 
 pub put_one_group-group-requires : goal.put_one_group-group-requires
 put_one_group-group-requires c = search putting_groups

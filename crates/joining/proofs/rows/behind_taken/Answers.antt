@@ -1,8 +1,8 @@
 use Rattle.joining.proofs.StepLaws.{taking}
 use Rattle.joining.proofs.rows.behind_taken.Goals as goal
 
-pub returns-in-Nothing : goal.returns-in-Nothing
-returns-in-Nothing c = search taking
+pub returns-in-None : goal.returns-in-None
+returns-in-None c = search taking
 
-pub returns-in-Part : goal.returns-in-Part
-returns-in-Part c = search taking
+pub returns-in-Some : goal.returns-in-Some
+returns-in-Some c = search taking

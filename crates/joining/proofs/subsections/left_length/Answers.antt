@@ -7,8 +7,8 @@ returns-then-sizes-ge-TOO_LARGE c = search lengths_left
 pub overflow_add-result : goal.overflow_add-result
 overflow_add-result c = search lengths_left
 
-pub returns-in-Nothing : goal.returns-in-Nothing
-returns-in-Nothing c = search lengths_left
+pub returns-in-None : goal.returns-in-None
+returns-in-None c = search lengths_left
 
 pub returns-else-sizes-ge-TOO_LARGE : goal.returns-else-sizes-ge-TOO_LARGE
 returns-else-sizes-ge-TOO_LARGE c = search lengths_left

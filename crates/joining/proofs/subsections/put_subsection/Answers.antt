@@ -10,8 +10,8 @@ put_contents-requires-clause-fits_both c = search subsection_put
 pub put_contents-requires-clause-counts_both : goal.put_contents-requires-clause-counts_both
 put_contents-requires-clause-counts_both c = search subsection_put
 
-pub returns-in-Nothing : goal.returns-in-Nothing
-returns-in-Nothing c = search subsection_put
+pub returns-in-None : goal.returns-in-None
+returns-in-None c = search subsection_put
 
-pub returns-in-Contents : goal.returns-in-Contents
-returns-in-Contents c = search subsection_put
+pub returns-in-Some : goal.returns-in-Some
+returns-in-Some c = search subsection_put

@@ -10,5 +10,5 @@ put_number-contents-requires c = search measured_put
 pub put_content-requires-clause-fits_content : goal.put_content-requires-clause-fits_content
 put_content-requires-clause-fits_content c = search measured_put
 
-pub returns-in-Contents : goal.returns-in-Contents
-returns-in-Contents c = search measured_put
+pub returns-in-Some : goal.returns-in-Some
+returns-in-Some c = search measured_put

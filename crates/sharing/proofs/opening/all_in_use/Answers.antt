@@ -7,8 +7,8 @@ returns-in_default c = search uses
 pub returns-then-room-needed : goal.returns-then-room-needed
 returns-then-room-needed c = search uses
 
-pub returns-in-Length : goal.returns-in-Length
-returns-in-Length c = search uses
+pub returns-in-Ok-names : goal.returns-in-Ok-names
+returns-in-Ok-names c = search uses
 
 pub returns-else-room-needed : goal.returns-else-room-needed
 returns-else-room-needed c = search uses

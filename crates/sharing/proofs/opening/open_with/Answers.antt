@@ -7,8 +7,8 @@ returns-then-not-rows_right c = search opens_with
 pub join-requires-clause-b_bound : goal.join-requires-clause-b_bound
 join-requires-clause-b_bound c = search opens_with
 
-pub returns-in-Nowhere : goal.returns-in-Nowhere
-returns-in-Nowhere c = search opens_with
+pub returns-in-None : goal.returns-in-None
+returns-in-None c = search opens_with
 
-pub returns-in-At : goal.returns-in-At
-returns-in-At c = search opens_with
+pub returns-in-Some : goal.returns-in-Some
+returns-in-Some c = search opens_with

@@ -7,8 +7,8 @@ first_run-requires-clause-wanted_nonzero c = search opens_new
 pub settle-requires-clause-settling : goal.settle-requires-clause-settling
 settle-requires-clause-settling c = search opens_new
 
-pub returns-in-Nowhere : goal.returns-in-Nowhere
-returns-in-Nowhere c = search opens_new
+pub returns-in-None : goal.returns-in-None
+returns-in-None c = search opens_new
 
-pub returns-in-At : goal.returns-in-At
-returns-in-At c = search opens_new
+pub returns-in-Some : goal.returns-in-Some
+returns-in-Some c = search opens_new
