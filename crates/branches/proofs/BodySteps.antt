@@ -1,4 +1,5 @@
 -- The list of bodies, judged.
+use Rattle.std.specs.Prelude.{Ok, Err}
 use Prim.Native.Nat.{ℕ, zero, suc, ◌-◌, ◌≤◌, ◌<◌}
 use mathlib.Core.Bool.{Bool}
 use mathlib.Core.List.{List}
@@ -14,15 +15,10 @@ use Rattle.format.specs.declared.Reason.TheVariants.{LeftOver}
 use Rattle.format.specs.declared.Refusal.{Refusal}
 use Rattle.reading.specs.Cursors.{Inside, left, refusal_of, PartReads}
 use Rattle.reading.specs.declared.Cursor.{Cursor}
-use Rattle.reading.specs.declared.PartRead.{PartRead}
-use Rattle.reading.specs.declared.PartRead.TheVariants.{Part as APart, Refused as NoPart}
 use Rattle.reading.proofs.Laws.{sized_means, part_behind, nothing_left, something_left}
 use Rattle.branches.specs.Bodies.{bodies}
 use Rattle.branches.specs.Lists.{pass_bodies, JudgesBodies}
 use Rattle.branches.specs.Reads.{refusal_with, Reads}
-use Rattle.branches.specs.declared.bodies.BodiesRead.TheVariants.{All, Refused as NoBodies}
-use Rattle.branches.specs.declared.reads.Read.{Read}
-use Rattle.branches.specs.declared.reads.Read.TheVariants.{Value, Refused}
 use Rattle.branches.proofs.ReadLaws.{value_means, value_end, value_inside}
 
 -- of n bodies, `more` are still to come
@@ -56,22 +52,22 @@ module _ {n more : ℕ} {s : List ℕ} {c next : Cursor} (t : Turn n more s c ne
   pub turn_inside : Inside s next
   turn_inside = t.inside
 
-  pub turn_ended : more ≤ 0 → Reads (pass_bodies n) s c (Value n next)
+  pub turn_ended : more ≤ 0 → Reads (pass_bodies n) s c (Ok (n, next))
   turn_ended h =
       let far = t.same_end in
       record { means = sym (t.same ∙ passing_none n more next.at (left s next) h); same_part = (omega (arith, t.inside.ahead, far), far) }
 
-  module _ (h : 0 < more) {x : PartRead} (g : PartReads sized s next x) where
-    pub turn_refused : {r : Refusal} → x ≡ NoPart r → Reads (pass_bodies n) s c (Refused r)
-    turn_refused e = record { means = sym (t.same ∙ passing_next n more next.at (left s next) h ∙ rw (← rw e at g.means)); same_part = tt }
+  module _ (h : 0 < more) where
+    pub turn_refused : {r : Refusal} → PartReads sized s next (Err r) → Reads (pass_bodies n) s c (Err r)
+    turn_refused g = record { means = sym (t.same ∙ passing_next n more next.at (left s next) h ∙ rw (← g.means)); same_part = tt }
 
-    pub turn_goes : {part after : Cursor} {told : Bool} → x ≡ APart part after told → Turn n (more - 1) s c after
-    turn_goes e =
-        let b = part_behind t.inside g e in
+    pub turn_goes : {part after : Cursor} {told : Bool} → PartReads sized s next (Ok (part, after, told)) → Turn n (more - 1) s c after
+    turn_goes g =
+        let b = part_behind t.inside g refl in
         record {
           inside = b.in_rest;
           same_end = b.same_end ∙ t.same_end;
-          same = t.same ∙ passing_next n more next.at (left s next) h ∙ rw (sized_means g e);
+          same = t.same ∙ passing_next n more next.at (left s next) h ∙ rw (sized_means g refl);
         }
 
 pub ruleset body_turns = (turn_begins, turn_inside, turn_ended, turn_refused, turn_goes, rules)
@@ -84,40 +80,40 @@ passed_stops n (stop k p) e = same e
     same q = cc
 
 -- how many, so many, and nothing behind them
-module _ {s : List ℕ} {c : Cursor} (i : Inside s c) {x : Read} (g : Reads number s c x) where
-  pub list_uncounted : {r : Refusal} → x ≡ Refused r → JudgesBodies s c (NoBodies r)
+module _ {s : List ℕ} {c : Cursor} where
+  pub list_uncounted : {r : Refusal} → Reads number s c (Err r) → JudgesBodies s c (Err r)
   unfolding bodies vector
-  list_uncounted e = record { says = rw (← rw e at g.means) }
+  list_uncounted g = record { says = rw (← g.means) }
 
-  module _ {n : ℕ} {first : Cursor} (e : x ≡ Value n first) {y : Read} (h : Reads (pass_bodies n) s first y) where
-    pub list_refused : {r : Refusal} → y ≡ Refused r → JudgesBodies s c (NoBodies r)
+  module _ (i : Inside s c) {n : ℕ} {first : Cursor} (g : Reads number s c (Ok (n, first))) where
+    pub list_refused : {r : Refusal} → Reads (pass_bodies n) s first (Err r) → JudgesBodies s c (Err r)
     unfolding bodies vector pass_bodies
-    list_refused {r} q =
-        let stops : pass_bodies n first.at (left s first) ≡ refusal_of r = sym (rw q at h.means) in
-        record { says = rw (value_means g e, passed_stops n (times sized n first.at (left s first)) stops) }
+    list_refused {r} h =
+        let stops : pass_bodies n first.at (left s first) ≡ refusal_of r = sym h.means in
+        record { says = rw (value_means g, passed_stops n (times sized n first.at (left s first)) stops) }
 
-    module _ {v : ℕ} {behind : Cursor} (q : y ≡ Value v behind) where
+    module _ {v : ℕ} {behind : Cursor} (h : Reads (pass_bodies n) s first (Ok (v, behind))) where
       read_whole {ℓ} : {C : Type ℓ} → ((ps : List Part) → times sized n first.at (left s first) ≡ got ps behind.at (left s behind) → C) → C
       unfolding pass_bodies
       read_whole k =
-          in_turn (times sized n first.at (left s first)) _ (value_means h q) λ ps o r e₁ e₂.
+          in_turn (times sized n first.at (left s first)) _ (value_means h) λ ps o r e₁ e₂.
           k ps (rw (got_next e₂, got_rest e₂) at e₁)
 
       in_behind : Inside s behind
-      in_behind = value_inside h q (value_inside g e i)
+      in_behind = value_inside h (value_inside g i)
 
-      pub list_left : {r : Refusal} → behind.at < behind.end → r ≡ refusal_with LeftOver behind.at → JudgesBodies s c (NoBodies r)
+      pub list_left : {r : Refusal} → behind.at < behind.end → r ≡ refusal_with LeftOver behind.at → JudgesBodies s c (Err r)
       unfolding bodies vector
-      list_left l is = read_whole λ ps e₁. rw is (record { says = rw (value_means g e, e₁, something_left in_behind l) })
+      list_left l is = read_whole λ ps e₁. rw is (record { says = rw (value_means g, e₁, something_left in_behind l) })
 
-      pub list_fills : behind.end ≤ behind.at → JudgesBodies s c (All first n)
+      pub list_fills : behind.end ≤ behind.at → JudgesBodies s c (Ok (first, n))
       unfolding bodies vector
       list_fills l = read_whole λ ps e₁. record {
         says = record {
           parts = ps;
           last = behind;
-          are = rw (value_means g e, e₁, nothing_left in_behind l);
-          stand = record { inside = value_inside g e i; reads = e₁; behind = in_behind; same_end = (value_end h q).1 };
+          are = rw (value_means g, e₁, nothing_left in_behind l);
+          stand = record { inside = value_inside g i; reads = e₁; behind = in_behind; same_end = (value_end h).1 };
         };
       }
 

@@ -1,11 +1,11 @@
 -- The check over a module: the payload, the imports, the bodies, and then hint by hint.
+use Rattle.std.specs.Prelude.{Option, Ok, Err, Some, None}
 use Prim.Native.Nat.{ℕ, ◌+◌, ◌^◌, ◌≤◌, ◌<◌}
 use mathlib.Core.List.{List, []}
 use mathlib.Core.Option.{none, some}
 use mathlib.Core.Path.{◌≡◌, refl, sym, ap, subst, ◌∙◌}
 use native.Mathlib.Omega.{arith}
 use borrow.Author.Rules.{rules}
-use denote.Enum.Declared.{tag_of}
 use lib.ListN.{length}
 use Rattle.format.specs.Metadata.{hint_item, judge_metadata}
 use Rattle.format.specs.Numbers.{limit32}
@@ -19,15 +19,10 @@ use Rattle.format.proofs.Laws.Answers.{place_none, place_found, place_refused}
 use Rattle.format.proofs.Laws.Found.{payload_lies}
 use Rattle.format.specs.Laws.Outcomes.{mapped}
 use Rattle.format.proofs.Laws.Places.{lies_inside, lies_slice}
-use Rattle.format.specs.declared.Answer.{Answer}
-use Rattle.format.specs.declared.Answer.TheVariants.{Found as FoundAt, Refused as NotAnswered}
+use Rattle.format.specs.Returned.{Answer, Verdict}
 use Rattle.format.specs.declared.Place.{Place}
 use Rattle.format.specs.declared.Refusal.{Refusal}
-use Rattle.format.specs.declared.Verdict.{Verdict}
-use Rattle.format.specs.declared.Verdict.TheVariants.{Accepted, Refused as VerdictRefused}
-use Rattle.format.specs.contracts.Answer as answer_type
-use Rattle.format.specs.contracts.Verdict as verdict_type
-use Rattle.format.proofs.Tags.{as_refused, judged_refused, judged_accepted, no_answer}
+use Rattle.format.proofs.Tags.{judged_refused, judged_accepted}
 use Rattle.reading.specs.Cursors.{Inside, left, part_of}
 use Rattle.reading.specs.declared.Cursor.{Cursor}
 use Rattle.reading.proofs.Standing.{Passable, stand, one_value}
@@ -38,15 +33,8 @@ use Rattle.branches.specs.Laws.Hints.{read_again}
 use Rattle.branches.specs.Lists.{Standing, JudgesBodies, AllBodies, Kept}
 use Rattle.branches.specs.Reads.{counted, Counts}
 use Rattle.branches.specs.Sections.{Walked, Finds}
-use Rattle.branches.specs.declared.bodies.BodiesRead.{BodiesRead}
-use Rattle.branches.specs.declared.bodies.BodiesRead.TheVariants.{All, Refused as NoBodies}
-use Rattle.branches.specs.declared.imports.Counted.{Counted}
-use Rattle.branches.specs.declared.imports.Counted.TheVariants.{Functions, Refused as NotCounted}
-use Rattle.branches.specs.declared.sections.Spot.{Spot}
-use Rattle.branches.specs.declared.sections.Spot.TheVariants.{At}
-use Rattle.branches.specs.contracts.sections.Spot as spot_type
+use Rattle.branches.specs.Returned.{BodiesRead, Counted}
 use Rattle.branches.proofs.RowLaws.{sized_passable, rows_passable}
-use Rattle.branches.proofs.SectionSteps.{as_nowhere}
 
 -- the bytes that the code has are those of the section's name
 pub sought : (m : List ℕ) (r : Answer) (x name : List ℕ) → x ≡ name → answered r ≡ as_place (custom_payload x m) → answered r ≡ as_place (custom_payload name m)
@@ -55,11 +43,11 @@ sought m r x name is e = rw (← is) e
 pub ruleset hint_sections = (sought, rules)
 
 -- a section's contents
-module _ {m : List ℕ} {id : ℕ} {spot : Spot} (f : Finds m id spot) where
-  contents_none : tag_of spot_type.the_type spot ≡ 0 → contents_of id m ≡ accepted none
-  contents_none t = sym (rw (as_nowhere spot t) at f.says)
+module _ {m : List ℕ} {id : ℕ} {spot : Option Cursor} (f : Finds m id spot) where
+  contents_none : spot ≡ None → contents_of id m ≡ accepted none
+  contents_none e = sym (rw e at f.says)
 
-  module _ {c : Cursor} (q : spot ≡ At c) where
+  module _ {c : Cursor} (q : spot ≡ Some c) where
     contents_there : contents_of id m ≡ accepted (some (part_of m c))
     contents_there = sym (rw q at f.says)
 
@@ -67,48 +55,48 @@ module _ {m : List ℕ} {id : ℕ} {spot : Spot} (f : Finds m id spot) where
     spot_inside = rw q at f.inside
 
 -- the imports
-module _ {m : List ℕ} {spot : Spot} (f : Finds m 2 spot) where
-  pub imports_none : tag_of spot_type.the_type spot ≡ 0 → counted (Functions 0) ≡ imported_functions m
+module _ {m : List ℕ} {spot : Option Cursor} (f : Finds m 2 spot) where
+  pub imports_none : spot ≡ None → counted (Ok 0) ≡ imported_functions m
   unfolding imported_functions
-  imports_none t = rw (contents_none f t)
+  imports_none e = rw (contents_none f e)
 
-  pub imports_there : {c : Cursor} {y : Counted} → spot ≡ At c → Counts m c y → counted y ≡ imported_functions m
+  pub imports_there : {c : Cursor} {y : Counted} → spot ≡ Some c → Counts m c y → counted y ≡ imported_functions m
   unfolding imported_functions
   imports_there q g = g.says ∙ rw (contents_there f q)
 
 pub ruleset imported_steps = (imports_none, imports_there, spot_inside, rules)
 
 -- the bodies
-module _ {m : List ℕ} {spot : Spot} (f : Finds m 10 spot) where
-  pub bodies_none : tag_of spot_type.the_type spot ≡ 0 → AllBodies m (All (record { at = 0; end = 0 }) 0)
+module _ {m : List ℕ} {spot : Option Cursor} (f : Finds m 10 spot) where
+  pub bodies_none : spot ≡ None → AllBodies m (Ok (record { at = 0; end = 0 }, 0))
   unfolding function_bodies times
-  bodies_none t =
+  bodies_none e =
       let here : Inside m (record { at = 0; end = 0 }) = record { ahead = omega arith; within = omega arith } in
-      record { says = record { parts = []; last = record { at = 0; end = 0 }; are = rw (contents_none f t); stand = record { inside = here; reads = refl; behind = here; same_end = refl } } }
+      record { says = record { parts = []; last = record { at = 0; end = 0 }; are = rw (contents_none f e); stand = record { inside = here; reads = refl; behind = here; same_end = refl } } }
 
-  pub bodies_there : {c : Cursor} (y : BodiesRead) → spot ≡ At c → JudgesBodies m c y → AllBodies m y
+  pub bodies_there : {c : Cursor} (y : BodiesRead) → spot ≡ Some c → JudgesBodies m c y → AllBodies m y
   unfolding function_bodies
-  bodies_there (All next n) q g =
+  bodies_there (Ok (next, n)) q g =
       let w = g.says in
       record { says = record { parts = w.parts; last = w.last; are = rw (contents_there f q) w.are; stand = w.stand } }
-  bodies_there (NoBodies r) q g = record { says = rw (contents_there f q) g.says }
+  bodies_there (Err r) q g = record { says = rw (contents_there f q) g.says }
 
 pub ruleset bodies_found = (bodies_none, bodies_there, spot_inside, rules)
 
 -- then hint by hint
 module _ (m : List ℕ) (payload : Cursor) {x : Counted} (says : counted x ≡ imported_functions m) where
-  pub check_no_imports : {r : Refusal} → x ≡ NotCounted r → verdict_of (VerdictRefused r) ≡ hints_checked m (part_of m payload)
+  pub check_no_imports : {r : Refusal} → x ≡ Err r → verdict_of (Err r) ≡ hints_checked m (part_of m payload)
   unfolding hints_checked
   check_no_imports e = rw (← rw e at says)
 
-  module _ {first : ℕ} (e : x ≡ Functions first) {y : BodiesRead} (b : AllBodies m y) where
-    pub check_no_bodies : {r : Refusal} → y ≡ NoBodies r → verdict_of (VerdictRefused r) ≡ hints_checked m (part_of m payload)
+  module _ {first : ℕ} (e : x ≡ Ok first) where
+    pub check_no_bodies : {r : Refusal} → AllBodies m (Err r) → verdict_of (Err r) ≡ hints_checked m (part_of m payload)
     unfolding hints_checked
-    check_no_bodies q = rw (← rw e at says, rw q at b.says)
+    check_no_bodies b = rw (← rw e at says, b.says)
 
-    module _ {next : Cursor} {more : ℕ} (q : y ≡ All next more) where
+    module _ {next : Cursor} {more : ℕ} (b : AllBodies m (Ok (next, more))) where
       standing : Standing m (function_bodies m) next more
-      standing = rw q at b.says
+      standing = b.says
 
       pub check_kept : first < limit32 → more < limit32 → Kept m (record { first = first; next = next; more = more })
       check_kept h k = let w = standing in record { parts = w.parts; last = w.last; stand = w.stand; few = omega arith }
@@ -129,20 +117,20 @@ unfolding all_hints function_hints placed_rows
 hints_passable = rows_passable (rows_passable sized_passable)
 
 module _ (m : List ℕ) (payload : Cursor) (v : Verdict) (says : verdict_of v ≡ verdict (judge_metadata hint_item payload.at (left m payload))) where
-  pub payload_refused : tag_of verdict_type.the_type v ≡ 1 → verdict_of v ≡ payload_on_branches m (part_of m payload)
+  pub payload_refused : {r : Refusal} → v ≡ Err r → verdict_of (Err r) ≡ payload_on_branches m (part_of m payload)
   unfolding payload_on_branches
-  payload_refused t = ap verdict_of (as_refused v t) ∙ rw (judged_refused v (judge_metadata hint_item payload.at (left m payload)) says t)
+  payload_refused e = rw (judged_refused v (judge_metadata hint_item payload.at (left m payload)) says e)
 
-  pub payload_listed : Inside m payload → tag_of verdict_type.the_type v ≡ 0 → Listed m payload
-  payload_listed i t =
-      let (table, is) = judged_accepted v (judge_metadata hint_item payload.at (left m payload)) says t in
+  pub payload_listed : Inside m payload → v ≡ Ok tt → Listed m payload
+  payload_listed i e =
+      let (table, is) = judged_accepted v (judge_metadata hint_item payload.at (left m payload)) says e in
       let again = read_again payload.at (left m payload) is in
       record { functions = again.functions; last = _; stand = stand hints_passable i again.reads; rising = again.rising }
 
-  pub payload_checked : (r : Verdict) → tag_of verdict_type.the_type v ≡ 0 → verdict_of r ≡ hints_checked m (part_of m payload) → verdict_of r ≡ payload_on_branches m (part_of m payload)
+  pub payload_checked : (r : Verdict) → v ≡ Ok tt → verdict_of r ≡ hints_checked m (part_of m payload) → verdict_of r ≡ payload_on_branches m (part_of m payload)
   unfolding payload_on_branches
-  payload_checked r t e =
-      let (table, is) = judged_accepted v (judge_metadata hint_item payload.at (left m payload)) says t in
+  payload_checked r q e =
+      let (table, is) = judged_accepted v (judge_metadata hint_item payload.at (left m payload)) says q in
       e ∙ rw is
 
 pub ruleset payload_steps = (payload_refused, payload_listed, payload_checked, rules)
@@ -156,15 +144,15 @@ unfolding hints_on_branches
 found_hints m p found = rw found
 
 module _ (m : List ℕ) (a : Answer) (e : answered a ≡ as_place (custom_payload hint_section m)) where
-  pub walk_refused : {r : Refusal} → a ≡ NotAnswered r → verdict_of (VerdictRefused r) ≡ hints_on_branches m
+  pub walk_refused : {r : Refusal} → a ≡ Err r → verdict_of (Err r) ≡ hints_on_branches m
   unfolding hints_on_branches
   walk_refused is = rw (place_refused (custom_payload hint_section m) (rw is at e))
 
-  pub no_hints : tag_of answer_type.the_type a ≡ 0 → verdict_of Accepted ≡ hints_on_branches m
+  pub no_hints : a ≡ Ok None → verdict_of (Ok tt) ≡ hints_on_branches m
   unfolding hints_on_branches
-  no_hints t = rw (place_none (custom_payload hint_section m) (rw (no_answer a t) at e))
+  no_hints is = rw (place_none (custom_payload hint_section m) (rw is at e))
 
-  module _ {place : Place} (is : a ≡ FoundAt place) where
+  module _ {place : Place} (is : a ≡ Ok (Some place)) where
     pub walk_accepts : Walked m
     unfolding custom_payload
     walk_accepts =

@@ -1,11 +1,11 @@
 -- The functions of an accepted hint payload, one after the other.
+use Rattle.std.specs.Prelude.{Result, Ok, Err, Some, None}
 use Prim.Native.Nat.{ℕ, suc, ◌-◌, ◌≤◌, ◌<◌}
 use mathlib.Core.List.{List, [], ◌∷◌}
 use mathlib.Core.Option.{Option, none, some}
 use mathlib.Core.Path.{◌≡◌, refl, sym, ap, ◌∙◌}
 use native.Mathlib.Omega.{arith}
 use borrow.Author.Rules.{rules}
-use denote.Enum.Declared.{tag_of}
 use Rattle.format.specs.Numbers.{number}
 use Rattle.format.specs.Older.{times, vector}
 use Rattle.format.specs.Parts.{Part, sized}
@@ -14,8 +14,7 @@ use Rattle.format.specs.Verdicts.{verdict_of}
 use Rattle.format.specs.Laws.Outcomes.{in_turn, got_value, got_next, got_rest}
 use Rattle.format.specs.declared.Reason.TheVariants.{NoBody}
 use Rattle.format.specs.declared.Refusal.{Refusal}
-use Rattle.format.specs.declared.Verdict.{Verdict}
-use Rattle.format.specs.declared.Verdict.TheVariants.{Accepted as VerdictAccepted, Refused as VerdictRefused}
+use Rattle.format.specs.Returned.{Verdict}
 use Rattle.reading.specs.Cursors.{Inside, left, part_of}
 use Rattle.reading.specs.Standing.{Stands, Known}
 use Rattle.reading.specs.declared.Cursor.{Cursor}
@@ -31,20 +30,10 @@ use Rattle.branches.specs.Lists.{Kept, SameFrom, Finding, Looks}
 use Rattle.branches.specs.Reads.{refusal_with}
 use Rattle.branches.specs.Sitting.{Ready, SitsIn}
 use Rattle.branches.specs.declared.bodies.Bodies.{Bodies}
-use Rattle.branches.specs.declared.bodies.Looked.{Looked}
-use Rattle.branches.specs.declared.bodies.Looked.TheVariants.{Body, Nowhere}
-use Rattle.branches.specs.declared.functions.Turned.{Turned}
-use Rattle.branches.specs.declared.functions.Turned.TheVariants.{Behind, Refused}
-use Rattle.branches.specs.declared.hints.Sat.{Sat}
-use Rattle.branches.specs.declared.hints.Sat.TheVariants.{Behind as SatBehind, Refused as SatRefused}
-use Rattle.branches.specs.contracts.bodies.Looked as looked_type
+use Rattle.branches.specs.Returned.{Sat}
 use Rattle.branches.proofs.HintSteps.{rising_first}
 use Rattle.branches.proofs.LookLaws.{some_more}
 use Rattle.branches.proofs.RowLaws.{number_passable, sized_passable, rows_passable, NextRow, next_row}
-
-as_no_body : (x : Looked) → tag_of looked_type.the_type x ≡ 1 → x ≡ Nowhere
-as_no_body (Body c b) h = absurd (omega arith)
-as_no_body Nowhere h = refl
 
 -- one function, by its hints and its body
 function_without : (first : ℕ) (parts : List Part) (at f : ℕ) (hs : Hints) → [] ≡ hs → one_function first parts (record { at = at; number = f; value = hs }) ≡ accepted tt
@@ -96,7 +85,7 @@ module _ {s : List ℕ} {next : Cursor} (o : Opened s next) where
       pub rows_ready : Ready s y.next y.value
       rows_ready = record { hints = o.hints; last = o.behind; stand = rows_stand; rising = o.rising }
 
-      pub turn_without : {bodies : Bodies} → Kept s bodies → y.value ≡ 0 → Turns s next bodies (Behind y.next bodies)
+      pub turn_without : {bodies : Bodies} → Kept s bodies → y.value ≡ 0 → Turns s next bodies (Ok (y.next, bodies))
       turn_without {bodies} k z =
           let end = times_none (placed_row sized) y.value (omega (arith, z)) rows_stand in
           record { opened = o; kept = k; says = (end.1, function_without bodies.first k.parts next.at o.function o.hints end.0, all_onward k o.function) }
@@ -108,15 +97,14 @@ module _ {s : List ℕ} {next : Cursor} (o : Opened s next) where
         first_hint : NextRow sized s y.next y.value o.hints o.behind
         first_hint = next_row sized_passable y.value rows_some rows_stand
 
-        module _ {bodies : Bodies} {found : Looked} (l : Looks s bodies x.value found) where
-          pub turn_no_body : {r : Refusal} → tag_of looked_type.the_type found ≡ 1 → r ≡ refusal_with NoBody next.at → Turns s next bodies (Refused r)
-          turn_no_body t is =
-              let none_there = rw (as_no_body found t) at l.says in
-              rw is (record { opened = o; kept = l.kept; says = no_body bodies.first l.kept.parts next.at o.function o.hints first_hint.is (rw same_function none_there) })
+        module _ {bodies : Bodies} where
+          pub turn_no_body : {r : Refusal} → Looks s bodies x.value None → r ≡ refusal_with NoBody next.at → Turns s next bodies (Err r)
+          turn_no_body l is =
+              rw is (record { opened = o; kept = l.kept; says = no_body bodies.first l.kept.parts next.at o.function o.hints first_hint.is (rw same_function l.says) })
 
-          module _ {body : Cursor} {behind : Bodies} (e : found ≡ Body body behind) where
+          module _ {body : Cursor} {behind : Bodies} (l : Looks s bodies x.value (Some (body, behind))) where
             looked : Finding s bodies x.value l.kept.parts body behind
-            looked = rw e at l.says
+            looked = l.says
 
             pub body_inside : Inside s body
             body_inside = looked.inside
@@ -125,13 +113,11 @@ module _ {s : List ℕ} {next : Cursor} (o : Opened s next) where
               judged : one_function bodies.first l.kept.parts (placed next o) ≡ each_hint (seat_in (part_of s body)) g.ready.hints
               judged = some_hints bodies.first l.kept.parts next.at o.function o.hints first_hint.is (rw same_function looked.is) ∙ ap (each_hint (seat_in (part_of s body))) (one_value rows_stand g.ready.stand)
 
-              pub turn_refused : {r : Refusal} → sat ≡ SatRefused r → Turns s next bodies (Refused r)
-              turn_refused q = record { opened = o; kept = l.kept; says = judged ∙ rw q at g.says }
+            pub turn_refused : {r : Refusal} → SitsIn s y.next y.value body (Err r) → Turns s next bodies (Err r)
+            turn_refused g = record { opened = o; kept = l.kept; says = judged g ∙ g.says }
 
-              pub turn_goes : {after : Cursor} → sat ≡ SatBehind after → Turns s next bodies (Behind after behind)
-              turn_goes q =
-                  let said = rw q at g.says in
-                  record { opened = o; kept = l.kept; says = (said.0 ∙ sym (one_end rows_stand g.ready.stand), judged ∙ said.1, record { kept = looked.left; same = λ f h. looked.same f (omega (arith, h, same_function)) }) }
+            pub turn_goes : {after : Cursor} → SitsIn s y.next y.value body (Ok after) → Turns s next bodies (Ok (after, behind))
+            turn_goes g = record { opened = o; kept = l.kept; says = (g.says.0 ∙ sym (one_end rows_stand g.ready.stand), judged g ∙ g.says.1, record { kept = looked.left; same = λ f h. looked.same f (omega (arith, h, same_function)) }) }
 
 pub ruleset function_steps = (index_known, count_known, rows_ready, turn_without, rows_some, turn_no_body, body_inside, turn_refused, turn_goes, rules)
 
@@ -220,7 +206,7 @@ module _ {s : List ℕ} {begun : Cursor} {n : ℕ} {all : Bodies} {next : Cursor
   checked : {payload : Cursor} {r : Verdict} → Listed s payload → Stands number s payload n begun → verdict_of r ≡ each_function all.first t.all_kept.parts t.to_come_lem → Checks s payload all r
   checked l a e = record { listed = l; kept = t.all_kept; says = e ∙ sym t.same ∙ ap (each_function all.first t.all_kept.parts) (one_value t.whole (list_rows l a)) }
 
-  pub going_ended : {payload : Cursor} → Listed s payload → Stands number s payload n begun → more ≤ 0 → Checks s payload all VerdictAccepted
+  pub going_ended : {payload : Cursor} → Listed s payload → Stands number s payload n begun → more ≤ 0 → Checks s payload all (Ok tt)
   unfolding each_function
   going_ended l a h = checked l a (ap (each_function all.first t.all_kept.parts) (times_none function_hints more h t.rest).0)
 
@@ -238,7 +224,7 @@ module _ {s : List ℕ} {begun : Cursor} {n : ℕ} {all : Bodies} {next : Cursor
     pub going_opened : Opened s next
     going_opened = the_next.0
 
-    module _ {y : Turned} (g : Turns s next bodies y) where
+    module _ {y : Result (Cursor × Bodies) Refusal} (g : Turns s next bodies y) where
       alike : (g.opened.function ≡ next_function.first) × (g.opened.hints ≡ next_function.value) × (g.opened.behind ≡ next_function.behind)
       alike =
           let (o, f, hs, b) = the_next in
@@ -251,27 +237,27 @@ module _ {s : List ℕ} {begun : Cursor} {n : ℕ} {all : Bodies} {next : Cursor
       first_judged : one_function all.first t.all_kept.parts (placed next g.opened) ≡ one_function bodies.first g.kept.parts (placed next g.opened)
       first_judged = judged_alike all.first bodies.first t.all_kept.parts g.kept.parts (placed next g.opened) (t.same_bodies g.opened.function (omega (arith, rises.0, alike.0)) ∙ ap (λ ps. body_of bodies.first ps g.opened.function) (one_parts t.kept g.kept))
 
-      pub going_refused : {payload : Cursor} {r : Refusal} → Listed s payload → Stands number s payload n begun → y ≡ Refused r → Checks s payload all (VerdictRefused r)
-      unfolding each_function
-      going_refused l a e = checked l a (sym (ap (each_function all.first t.all_kept.parts) first_is ∙ rw (first_judged ∙ (rw e at g.says))))
+    pub going_refused : {payload : Cursor} {r : Refusal} → Listed s payload → Stands number s payload n begun → Turns s next bodies (Err r) → Checks s payload all (Err r)
+    unfolding each_function
+    going_refused l a g = checked l a (sym (ap (each_function all.first t.all_kept.parts) (first_is g) ∙ rw (first_judged g ∙ g.says)))
 
-      pub going_on : {after : Cursor} {behind : Bodies} → y ≡ Behind after behind → Going s begun n all after (more - 1) behind
-      unfolding each_function function_hints
-      going_on {after} e =
-          let said = rw e at g.says in
-          let there : next_function.behind ≡ after = sym alike.2 ∙ sym said.0 in
-          record {
-            functions = t.functions;
-            last = t.last;
-            whole = t.whole;
-            all_kept = t.all_kept;
-            kept = said.2.kept;
-            to_come_lem = next_function.others;
-            rest = rw there at next_function.rest;
-            least = suc next_function.first;
-            rising = rises.2;
-            same_bodies = λ f l. t.same_bodies f (omega (arith, l, rises.0)) ∙ ap (λ ps. body_of bodies.first ps f) (one_parts t.kept g.kept) ∙ said.2.same f (omega (arith, l, alike.0));
-            same = t.same ∙ ap (each_function all.first t.all_kept.parts) first_is ∙ rw (first_judged ∙ said.1);
-          }
+    pub going_on : {after : Cursor} {behind : Bodies} → Turns s next bodies (Ok (after, behind)) → Going s begun n all after (more - 1) behind
+    unfolding each_function function_hints
+    going_on {after} g =
+        let said = g.says in
+        let there : next_function.behind ≡ after = sym (alike g).2 ∙ sym said.0 in
+        record {
+          functions = t.functions;
+          last = t.last;
+          whole = t.whole;
+          all_kept = t.all_kept;
+          kept = said.2.kept;
+          to_come_lem = next_function.others;
+          rest = rw there at next_function.rest;
+          least = suc next_function.first;
+          rising = rises.2;
+          same_bodies = λ f l. t.same_bodies f (omega (arith, l, rises.0)) ∙ ap (λ ps. body_of bodies.first ps f) (one_parts t.kept g.kept) ∙ said.2.same f (omega (arith, l, (alike g).0));
+          same = t.same ∙ ap (each_function all.first t.all_kept.parts) (first_is g) ∙ rw (first_judged g ∙ said.1);
+        }
 
 pub ruleset going = (going_begins, list_known, going_kept, going_ended, going_opened, going_refused, going_on, rules)

@@ -1,4 +1,5 @@
 -- The hints of one function, one after the other.
+use Rattle.std.specs.Prelude.{Ok, Err, Some, None}
 use Prim.Native.Nat.{ℕ, suc, ◌-◌, ◌≤◌, ◌<◌}
 use mathlib.Core.List.{List, [], ◌∷◌}
 use mathlib.Core.Path.{◌≡◌, refl, sym, ap, subst, ◌∙◌}
@@ -20,10 +21,8 @@ use Rattle.reading.proofs.Standing.{one_value, one_end}
 use Rattle.older.proofs.ReadAgain.{times_none}
 use Rattle.instructions.specs.Locals.{locals}
 use Rattle.instructions.specs.Ways.{Goes}
-use Rattle.instructions.specs.declared.Way.{Way}
-use Rattle.instructions.specs.declared.Way.TheVariants.{Behind as WayBehind}
-use Rattle.instructions.specs.contracts.Way as way_type
-use Rattle.instructions.proofs.WayLaws.{as_unreadable, went, halted, goes_far, goes_inside}
+use Rattle.instructions.specs.Returned.{Way}
+use Rattle.instructions.proofs.WayLaws.{went, halted, goes_far, goes_inside}
 use Rattle.branches.specs.Bodies.{Seat, on_branch_lem, not_readable, elsewhere, seat_in}
 use Rattle.branches.specs.Branches.{each_hint}
 use Rattle.branches.specs.Hints.{Placed, placed_row, Hints}
@@ -31,8 +30,7 @@ use Rattle.branches.specs.Laws.Hints.{Rising, a_row, RisingHints}
 use Rattle.branches.specs.Seats.{seat_at, ReachesTo}
 use Rattle.branches.specs.Reads.{refusal_with}
 use Rattle.branches.specs.Sitting.{Ready, SatSaid, SitsFrom, SitsIn}
-use Rattle.branches.specs.declared.hints.Sat.{Sat}
-use Rattle.branches.specs.declared.hints.Sat.TheVariants.{Behind, Refused}
+use Rattle.branches.specs.Returned.{Sat}
 use Rattle.branches.specs.declared.seats.Reach.{Reach}
 use Rattle.branches.specs.declared.seats.Reach.TheVariants.{At, Unreadable, Elsewhere}
 use Rattle.branches.specs.contracts.seats.Reach as reach_type
@@ -98,7 +96,7 @@ module _ {n more : ℕ} {s : List ℕ} {base : ℕ} {rows code next here : Curso
   pub sitting_base : base ≤ here.at
   sitting_base = t.behind_base
 
-  pub sitting_ended : more ≤ 0 → SitsFrom s rows n base code (Behind next)
+  pub sitting_ended : more ≤ 0 → SitsFrom s rows n base code (Ok next)
   sitting_ended h =
       let end = times_none (placed_row sized) more h t.rest in
       record { ready = t.ready; says = (end.1, t.same ∙ ap (each_hint (seat_at s base code)) (sym end.0) ∙ no_hint (seat_at s base code)) }
@@ -127,12 +125,12 @@ module _ {n more : ℕ} {s : List ℕ} {base : ℕ} {rows code next here : Curso
           t.seats r.first above ∙ ap (seat_at s base here) same_offset
 
       module _ {y : Reach} (g : ReachesTo s here base x.value y) where
-        pub sitting_unread : {r : Refusal} → tag_of reach_type.the_type y ≡ 1 → r ≡ refusal_with NotReadable next.at → SitsFrom s rows n base code (Refused r)
+        pub sitting_unread : {r : Refusal} → tag_of reach_type.the_type y ≡ 1 → r ≡ refusal_with NotReadable next.at → SitsFrom s rows n base code (Err r)
         sitting_unread q is =
             let r = next_hint in
             rw is (record { ready = t.ready; says = t.same ∙ ap (each_hint (seat_at s base code)) r.is ∙ hint_unread (seat_at s base code) _ _ (seat_told g ∙ sym (rw (as_stopped y q) at g.says)) })
 
-        pub sitting_elsewhere : {r : Refusal} → tag_of reach_type.the_type y ≡ 2 → r ≡ refusal_with NotOnBranch next.at → SitsFrom s rows n base code (Refused r)
+        pub sitting_elsewhere : {r : Refusal} → tag_of reach_type.the_type y ≡ 2 → r ≡ refusal_with NotOnBranch next.at → SitsFrom s rows n base code (Err r)
         sitting_elsewhere q is =
             let r = next_hint in
             rw is (record { ready = t.ready; says = t.same ∙ ap (each_hint (seat_at s base code)) r.is ∙ hint_elsewhere (seat_at s base code) _ _ (seat_told g ∙ sym (rw (as_elsewhere y q) at g.says)) })
@@ -159,19 +157,19 @@ pub ruleset sitting = (sitting_begins, sitting_inside, sitting_base, sitting_end
 
 -- from the locals on
 module _ {s : List ℕ} {body : Cursor} {x : Way} (g : Goes locals s body x) where
-  pub locals_unread : {rows : Cursor} {n : ℕ} {r : Refusal} → Ready s rows n → 0 < n → tag_of way_type.the_type x ≡ 1 → r ≡ refusal_with NotReadable rows.at → SitsIn s rows n body (Refused r)
+  pub locals_unread : {rows : Cursor} {n : ℕ} {r : Refusal} → Ready s rows n → 0 < n → x ≡ None → r ≡ refusal_with NotReadable rows.at → SitsIn s rows n body (Err r)
   unfolding seat_in
-  locals_unread {n = n} ready h t is =
-      let (m, at, stops) = halted (locals body.at (left s body)) (rw (as_unreadable x t) at g.means) in
+  locals_unread {n = n} ready h e is =
+      let (m, at, stops) = halted (locals body.at (left s body)) (rw e at g.means) in
       let r = next_row sized_passable n h ready.stand in
       rw is (record { ready = ready; says = ap (each_hint (seat_in (part_of s body))) r.is ∙ hint_unread (seat_in (part_of s body)) _ _ (rw stops) })
 
-  module _ {code : Cursor} (e : x ≡ WayBehind code) where
+  module _ {code : Cursor} (e : x ≡ Some code) where
     pub locals_before : body.at ≤ code.at
-    locals_before = (goes_far g e).0
+    locals_before = (goes_far (rw e at g)).0
 
     pub locals_inside : Inside s body → Inside s code
-    locals_inside i = goes_inside g e i
+    locals_inside i = goes_inside (rw e at g) i
 
     same_seat : (k : ℕ) → seat_in (part_of s body) k ≡ seat_at s body.at code k
     unfolding seat_in

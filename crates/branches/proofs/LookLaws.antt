@@ -1,4 +1,5 @@
 -- The bodies of an accepted list, passed over by their sizes up to a function's own.
+use Rattle.std.specs.Prelude.{Some, None}
 use Prim.Native.Nat.{ℕ, zero, suc, ◌+◌, ◌-◌, ◌≤◌, ◌<◌}
 use mathlib.Core.List.{List, [], ◌∷◌}
 use mathlib.Core.Option.{none, some}
@@ -16,7 +17,6 @@ use Rattle.older.proofs.ReadAgain.{times_first, times_after, times_none}
 use Rattle.branches.specs.Bodies.{body_of}
 use Rattle.branches.specs.Lists.{Kept, SameFrom, PassesTo, Looks}
 use Rattle.branches.specs.declared.bodies.Bodies.{Bodies}
-use Rattle.branches.specs.declared.bodies.Looked.TheVariants.{Body, Nowhere}
 use Rattle.branches.proofs.RowLaws.{sized_passable}
 
 pub some_more : (n : ℕ) → (n ≡ 0 → ⊥) → 0 < n
@@ -94,11 +94,11 @@ module _ {s : List ℕ} {all : Bodies} {function first : ℕ} {next : Cursor} {m
 pub ruleset passing = (passing_begins, passing_ended, passing_none, passing_room, passing_known, passing_goes, rules)
 
 -- and the body that is looked for
-pub look_before : {s : List ℕ} {all : Bodies} {function : ℕ} → Kept s all → function < all.first → Looks s all function Nowhere
+pub look_before : {s : List ℕ} {all : Bodies} {function : ℕ} → Kept s all → function < all.first → Looks s all function None
 look_before {all = all} {function} k h = record { kept = k; says = body_before all.first k.parts function h }
 
 module _ {s : List ℕ} {all : Bodies} {function : ℕ} {left : Bodies} (p : PassesTo s all function left) where
-  pub look_none : left.more ≡ 0 → all.first ≤ function → Looks s all function Nowhere
+  pub look_none : left.more ≡ 0 → all.first ≤ function → Looks s all function None
   look_none z h =
       let end = times_none sized left.more (omega (arith, z)) p.left.stand in
       record { kept = p.kept; says = p.same function (omega arith) ∙ ap (λ ps. body_of left.first ps function) (sym end.0) ∙ body_none left.first function (p.not_past h) }
@@ -107,7 +107,7 @@ module _ {s : List ℕ} {all : Bodies} {function : ℕ} {left : Bodies} (p : Pas
     pub look_known : Known sized s left.next
     look_known = first_known p.left (some_more left.more z)
 
-    pub look_found : {piece : Piece} → all.first ≤ function → TakesPart s left.next piece → Looks s all function (Body piece.part (record { first = left.first + 1; next = piece.next; more = left.more - 1 }))
+    pub look_found : {piece : Piece} → all.first ≤ function → TakesPart s left.next piece → Looks s all function (Some (piece.part, record { first = left.first + 1; next = piece.next; more = left.more - 1 }))
     look_found {piece} h b =
         let on = further p.left (some_more left.more z) b in
         let there : left.first ≡ function = omega (arith, p.not_past h, p.arrives (some_more left.more z)) in

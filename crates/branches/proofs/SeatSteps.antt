@@ -1,4 +1,5 @@
 -- The way to a hinted place, an instruction after the other.
+use Rattle.std.specs.Prelude.{Some, None}
 use Prim.Native.Nat.{ℕ, suc, ◌+◌, ◌-◌, ◌≤◌, ◌<◌}
 use mathlib.Core.Bool.{Bool, true, false, cond}
 use mathlib.Core.List.{List}
@@ -6,7 +7,6 @@ use mathlib.Core.Path.{◌≡◌, refl, sym, ap, ◌∙◌}
 use native.Mathlib.Omega.{arith}
 use borrow.Author.Rules.{rules}
 use borrow.Author.Tests.{eq-eqb, ne_eqb}
-use denote.Enum.Declared.{tag_of}
 use lib.Dec.{eqb}
 use lib.ListN.{length, get_or}
 use lib.Seq.{slice}
@@ -17,10 +17,8 @@ use Rattle.reading.proofs.Laws.{nothing_left, something_left}
 use Rattle.instructions.specs.Immediates.{instruction}
 use Rattle.instructions.specs.Laws.Passing.{instruction_passes}
 use Rattle.instructions.specs.Ways.{Goes}
-use Rattle.instructions.specs.declared.Way.{Way}
-use Rattle.instructions.specs.declared.Way.TheVariants.{Behind}
-use Rattle.instructions.specs.contracts.Way as way_type
-use Rattle.instructions.proofs.WayLaws.{as_unreadable, went, halted, goes_far, goes_inside}
+use Rattle.instructions.specs.Returned.{Way}
+use Rattle.instructions.proofs.WayLaws.{went, halted, goes_far, goes_inside}
 use Rattle.branches.specs.Bodies.{Seat, on_branch_lem, elsewhere, is_branch, seat_then, seat_from}
 use Rattle.branches.specs.Laws.Seats.{seat_ended, seat_past, seat_here, seat_steps}
 use Rattle.branches.specs.Seats.{seat_at, arrived_at, Onward, ReachesTo}
@@ -88,12 +86,12 @@ module _ {s : List ℕ} {code : Cursor} {base offset : ℕ} {here : Cursor} (w :
       steps : (further : ℕ) → offset ≤ further → seat_at s base here further ≡ seat_then (instruction here.at (left s here)) (seat_from (base + further))
       steps further l = rw (something_left w.onward.inside h) (seat_steps (base + further) here.at (get_or s here.at 0) (slice (suc here.at) here.end s) (omega (arith, before, l, w.onward.behind_base)))
 
-      pub walking_stops : tag_of way_type.the_type x ≡ 1 → ReachesTo s code base offset Unreadable
-      walking_stops t =
-          let (n, at, is) = halted (instruction here.at (left s here)) (rw (as_unreadable x t) at g.means) in
+      pub walking_stops : x ≡ None → ReachesTo s code base offset Unreadable
+      walking_stops e =
+          let (n, at, is) = halted (instruction here.at (left s here)) (rw e at g.means) in
           record { says = sym (told ∙ steps offset (omega arith) ∙ rw is); goes_on = tt }
 
-      module _ {next : Cursor} (e : x ≡ Behind next) where
+      module _ {next : Cursor} (e : x ≡ Some next) where
         forward : here.at < next.at
         forward =
             let (v, is) = went (instruction here.at (left s here)) (rw e at g.means) in
@@ -102,16 +100,16 @@ module _ {s : List ℕ} {code : Cursor} {base offset : ℕ} {here : Cursor} (w :
         pub walking_goes : Walking s code base offset next
         walking_goes =
             let (v, is) = went (instruction here.at (left s here)) (rw e at g.means) in
-            let far = goes_far g e in
+            let far = goes_far (rw e at g) in
             record {
               onward = record {
-                inside = goes_inside g e w.onward.inside;
+                inside = goes_inside (rw e at g) w.onward.inside;
                 behind_base = omega (arith, far.0, w.onward.behind_base);
                 same = λ further l. w.onward.same further l ∙ steps further l ∙ rw is;
               };
             }
 
         pub walking_shorter : next.end - next.at < here.end - here.at
-        walking_shorter = let far = goes_far g e in omega (arith, forward, far.1, far.2)
+        walking_shorter = let far = goes_far (rw e at g) in omega (arith, forward, far.1, far.2)
 
 pub ruleset walking = (walking_begins, walking_inside, walking_base, walking_ended, walking_byte, walking_past, walking_arrived, walking_stops, walking_goes, walking_shorter, rules)

@@ -1,4 +1,5 @@
 -- The contents of a section, found from id byte to id byte.
+use Rattle.std.specs.Prelude.{Some, None}
 use Prim.Native.Nat.{ℕ, suc, ◌+◌, ◌-◌, ◌≤◌, ◌<◌}
 use mathlib.Core.List.{List, [], ◌∷◌}
 use mathlib.Core.Path.{◌≡◌, refl, sym, ap, ◌∙◌}
@@ -6,7 +7,6 @@ use native.Mathlib.Numerals.{add-one}
 use native.Mathlib.Omega.{arith}
 use borrow.Author.Rules.{rules}
 use borrow.Author.Tests.{le-leb, eq-eqb, ne_eqb}
-use denote.Enum.Declared.{tag_of}
 use lib.ListN.{length, drop, get_or, length-take, length-drop}
 use lib.Seq.{slice, take-length, drop-cons, length-slice}
 use Rattle.format.specs.Holding.{Framed, Covers, at_the_end_lem, a_section}
@@ -22,14 +22,7 @@ use Rattle.reading.specs.declared.again.Piece.{Piece}
 use Rattle.reading.proofs.Standing.{stand, one_value, one_end}
 use Rattle.branches.specs.Branches.{contents_in, contents_of}
 use Rattle.branches.specs.Sections.{Walked, Finds}
-use Rattle.branches.specs.declared.sections.Spot.{Spot}
-use Rattle.branches.specs.declared.sections.Spot.TheVariants.{Nowhere, At}
-use Rattle.branches.specs.contracts.sections.Spot as spot_type
 use Rattle.branches.proofs.RowLaws.{sized_passable}
-
-pub as_nowhere : (x : Spot) → tag_of spot_type.the_type x ≡ 0 → x ≡ Nowhere
-as_nowhere Nowhere h = refl
-as_nowhere (At c) h = absurd (omega arith)
 
 -- the cursor behind an id byte
 abbrev behind_id : List ℕ → ℕ → Cursor
@@ -90,7 +83,7 @@ unfolding contents_of preamble
 turn_first {m} w = record { to_come_lem = w.sections; covers = walk_covers m w.are; same = rw w.are }
 
 module _ {m : List ℕ} {id at : ℕ} (t : Turn m id at) where
-  pub turn_done : length m ≤ at → Finds m id Nowhere
+  pub turn_done : length m ≤ at → Finds m id None
   unfolding contents_in
   turn_done h = record { says = sym (t.same ∙ rw (none_there h t.covers)); inside = tt }
 
@@ -99,7 +92,7 @@ module _ {m : List ℕ} {id at : ℕ} (t : Turn m id at) where
     turn_known = let n = next_there h t.covers in record { value = _; next = _; stands = n.stands }
 
     module _ {p : Piece} (k : TakesPart m (behind_id m at) p) where
-      pub turn_found : get_or m at 0 ≡ id → Finds m id (At p.part)
+      pub turn_found : get_or m at 0 ≡ id → Finds m id (Some p.part)
       unfolding contents_in
       turn_found e =
           let n = next_there h t.covers in

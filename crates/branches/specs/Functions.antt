@@ -1,12 +1,13 @@
 -- What the code hands back of the functions of a hint payload. Assumes nothing.
-use Rattle.std.specs.Prelude.{ℕ, suc, List, ◌≡◌}
+use Rattle.std.specs.Prelude.{ℕ, suc, List, ◌≡◌, Result, Ok, Err}
 use Rattle.format.specs.Numbers.{number}
 use Rattle.format.specs.Older.{times}
 use Rattle.format.specs.Parts.{Part, sized}
 use Rattle.format.specs.Reading.{accepted, refused}
 use Rattle.format.specs.Refusals.{number_of}
+use Rattle.format.specs.declared.Refusal.{Refusal}
 use Rattle.format.specs.Verdicts.{verdict_of}
-use Rattle.format.specs.declared.Verdict.{Verdict}
+use Rattle.format.specs.Returned.{Verdict}
 use Rattle.reading.specs.Standing.{Stands}
 use Rattle.reading.specs.declared.Cursor.{Cursor}
 use Rattle.branches.specs.Branches.{one_function, each_function}
@@ -14,8 +15,6 @@ use Rattle.branches.specs.Hints.{Placed, Hints, placed_row, all_hints}
 use Rattle.branches.specs.Laws.Hints.{RisingHints, RisingFunctions}
 use Rattle.branches.specs.Lists.{Kept, SameFrom}
 use Rattle.branches.specs.declared.bodies.Bodies.{Bodies}
-use Rattle.branches.specs.declared.functions.Turned.{Turned}
-use Rattle.branches.specs.declared.functions.Turned.TheVariants.{Behind, Refused}
 
 -- a function that was accepted: its index, how many hints, and these
 pub record Opened (s : List ℕ) (next : Cursor) : Type 0 where
@@ -38,11 +37,11 @@ pub record Onward (s : List ℕ) (bodies : Bodies) (parts : List Part) (function
   pub kept : Kept s left
   pub same : SameFrom (suc function) bodies.first parts left.first kept.parts
 
-abbrev pub TurnedAs : (s : List ℕ) (next : Cursor) (bodies : Bodies) → Opened s next → List Part → Turned → Type 0
-TurnedAs s next bodies o parts (Behind after left) = (after ≡ o.behind) × (one_function bodies.first parts (placed next o) ≡ accepted tt) × Onward s bodies parts o.function left
-TurnedAs s next bodies o parts (Refused r) = one_function bodies.first parts (placed next o) ≡ refused (number_of r.reason) r.offset.0
+abbrev pub TurnedAs : (s : List ℕ) (next : Cursor) (bodies : Bodies) → Opened s next → List Part → Result (Cursor × Bodies) Refusal → Type 0
+TurnedAs s next bodies o parts (Ok (after, left)) = (after ≡ o.behind) × (one_function bodies.first parts (placed next o) ≡ accepted tt) × Onward s bodies parts o.function left
+TurnedAs s next bodies o parts (Err r) = one_function bodies.first parts (placed next o) ≡ refused (number_of r.reason) r.offset.0
 
-pub record Turns (s : List ℕ) (next : Cursor) (bodies : Bodies) (r : Turned) : Type 0 where
+pub record Turns (s : List ℕ) (next : Cursor) (bodies : Bodies) (r : Result (Cursor × Bodies) Refusal) : Type 0 where
   pub opened : Opened s next
   pub kept : Kept s bodies
   pub says : TurnedAs s next bodies opened kept.parts r

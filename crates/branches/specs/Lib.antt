@@ -1,3 +1,4 @@
+pub mod Returned
 pub mod Imports
 pub mod Bodies
 pub mod Hints

@@ -1,5 +1,5 @@
 -- What the code hands back of the list of bodies. Assumes nothing.
-use Rattle.std.specs.Prelude.{ℕ, suc, ◌+◌, ◌≤◌, ◌<◌, List, ◌≡◌}
+use Rattle.std.specs.Prelude.{ℕ, suc, ◌+◌, ◌≤◌, ◌<◌, List, ◌≡◌, Option, Ok, Err, Some, None}
 use Rattle.std.proofs.Math.Option.{none, some}
 use Rattle.format.specs.Numbers.{limit32}
 use Rattle.format.specs.Older.{times}
@@ -12,10 +12,7 @@ use Rattle.reading.specs.declared.Cursor.{Cursor}
 use Rattle.branches.specs.Bodies.{bodies, body_of}
 use Rattle.branches.specs.Branches.{function_bodies}
 use Rattle.branches.specs.declared.bodies.Bodies.{Bodies}
-use Rattle.branches.specs.declared.bodies.BodiesRead.{BodiesRead}
-use Rattle.branches.specs.declared.bodies.BodiesRead.TheVariants.{All, Refused}
-use Rattle.branches.specs.declared.bodies.Looked.{Looked}
-use Rattle.branches.specs.declared.bodies.Looked.TheVariants.{Body, Nowhere}
+use Rattle.branches.specs.Returned.{BodiesRead}
 
 -- so many bodies, passed over
 unfoldable pub pass_bodies : (n : ℕ) → Reader ℕ
@@ -29,8 +26,8 @@ pub record Standing (s : List ℕ) (judged : Judged (List Part)) (next : Cursor)
   pub stand : Stands (times sized n) s next parts last
 
 abbrev pub BodiesSaid : List ℕ → Judged (List Part) → BodiesRead → Type 0
-BodiesSaid s judged (All next n) = Standing s judged next n
-BodiesSaid s judged (Refused r) = judged ≡ refused (number_of r.reason) r.offset.0
+BodiesSaid s judged (Ok (next, n)) = Standing s judged next n
+BodiesSaid s judged (Err r) = judged ≡ refused (number_of r.reason) r.offset.0
 
 pub record JudgesBodies (s : List ℕ) (c : Cursor) (r : BodiesRead) : Type 0 where
   pub says : BodiesSaid s (judge (bodies c.at (left s c))) r
@@ -65,10 +62,10 @@ pub record Finding (s : List ℕ) (all : Bodies) (function : ℕ) (parts : List 
   pub left : Kept s behind
   pub same : SameFrom (suc function) all.first parts behind.first left.parts
 
-abbrev pub LookedAs : List ℕ → Bodies → (function : ℕ) → List Part → Looked → Type 0
-LookedAs s all function parts (Body body behind) = Finding s all function parts body behind
-LookedAs s all function parts Nowhere = body_of all.first parts function ≡ none
+abbrev pub LookedAs : List ℕ → Bodies → (function : ℕ) → List Part → Option (Cursor × Bodies) → Type 0
+LookedAs s all function parts (Some (body, behind)) = Finding s all function parts body behind
+LookedAs s all function parts None = body_of all.first parts function ≡ none
 
-pub record Looks (s : List ℕ) (all : Bodies) (function : ℕ) (r : Looked) : Type 0 where
+pub record Looks (s : List ℕ) (all : Bodies) (function : ℕ) (r : Option (Cursor × Bodies)) : Type 0 where
   pub kept : Kept s all
   pub says : LookedAs s all function kept.parts r

@@ -1,7 +1,7 @@
 -- THE PROMISES of the crate `branches`, each by the name of its function. They stand in the `ensures` of the public functions and nowhere else: what is shown of these names is shown of the functions. A promise relates what is lent to what comes back.
 use Rattle.std.specs.Prelude.{ℕ, List, ◌≡◌}
 use Rattle.format.specs.Verdicts.{verdict_of}
-use Rattle.format.specs.declared.Verdict.{Verdict}
+use Rattle.format.specs.Returned.{Verdict}
 use Rattle.branches.specs.Branches.{hints_on_branches}
 
 -- branches

@@ -1,5 +1,5 @@
 -- What the code hands back of a function's hints. Assumes nothing.
-use Rattle.std.specs.Prelude.{ℕ, List, ◌≡◌}
+use Rattle.std.specs.Prelude.{ℕ, List, ◌≡◌, Ok, Err}
 use Rattle.format.specs.Older.{times}
 use Rattle.format.specs.Parts.{sized}
 use Rattle.format.specs.Reading.{Judged, accepted, refused}
@@ -12,8 +12,7 @@ use Rattle.branches.specs.Branches.{each_hint}
 use Rattle.branches.specs.Hints.{Hints, placed_row}
 use Rattle.branches.specs.Laws.Hints.{RisingHints}
 use Rattle.branches.specs.Seats.{seat_at}
-use Rattle.branches.specs.declared.hints.Sat.{Sat}
-use Rattle.branches.specs.declared.hints.Sat.TheVariants.{Behind, Refused}
+use Rattle.branches.specs.Returned.{Sat}
 
 -- so many hints that were accepted stand there, with rising offsets
 pub record Ready (s : List ℕ) (rows : Cursor) (n : ℕ) : Type 0 where
@@ -24,8 +23,8 @@ pub record Ready (s : List ℕ) (rows : Cursor) (n : ℕ) : Type 0 where
 
 -- all are accepted, and the next cursor is behind them; or they are refused
 abbrev pub SatSaid : Cursor → Judged (Unit {0}) → Sat → Type 0
-SatSaid last judged (Behind next) = (next ≡ last) × (judged ≡ accepted tt)
-SatSaid last judged (Refused r) = judged ≡ refused (number_of r.reason) r.offset.0
+SatSaid last judged (Ok next) = (next ≡ last) × (judged ≡ accepted tt)
+SatSaid last judged (Err r) = judged ≡ refused (number_of r.reason) r.offset.0
 
 pub record SitsFrom (s : List ℕ) (rows : Cursor) (n base : ℕ) (code : Cursor) (r : Sat) : Type 0 where
   pub ready : Ready s rows n

@@ -2,22 +2,15 @@
 ghost use Rattle.branches.specs.Functions.{Opened, Turns, Listed, Checks};
 ghost use Rattle.branches.specs.Lists.{Kept};
 
-use crate::bodies::{Bodies, Looked, body_of};
-use crate::hints::{Sat, hints_in};
+use crate::bodies::{Bodies, body_of};
+use crate::hints::hints_in;
 use crate::reads::refusal;
 use format::{Reason, Refusal, Verdict};
 use reading::Cursor;
 use reading::again::number_here;
 
-// What one function's hints come to: the cursor behind them and the bodies behind its own, or a refusal.
-#[derive(Clone, Copy)]
-enum Turned {
-    Behind(Cursor, Bodies),
-    Refused(Refusal),
-}
-
-// One function and its hints. Without hints its body is not looked for.
-fn one_function(next: Cursor, bodies: Bodies, s: &[u8]) -> Turned
+// One function and its hints: the cursor behind them, and the bodies behind its own. Without hints its body is not looked for.
+fn one_function(next: Cursor, bodies: Bodies, s: &[u8]) -> Result<(Cursor, Bodies), Refusal>
     requires opened { Opened s.now next }
     requires kept { Kept s.now bodies }
     ensures { Turns s.now next bodies result }
@@ -28,15 +21,13 @@ fn one_function(next: Cursor, bodies: Bodies, s: &[u8]) -> Turned
     let n = count.value;
     let rows = count.next;
     if n == 0 {
-        return Turned::Behind(rows, bodies);
+        return Ok((rows, bodies));
     }
-    match body_of(bodies, function.value, s) {
-        Looked::Nowhere => Turned::Refused(refusal(Reason::NoBody, at)),
-        Looked::Body(body, left) => match hints_in(rows, n, body, s) {
-            Sat::Refused(r) => Turned::Refused(r),
-            Sat::Behind(after) => Turned::Behind(after, left),
-        },
-    }
+    let Some((body, left)) = body_of(bodies, function.value, s) else {
+        return Err(refusal(Reason::NoBody, at));
+    };
+    let after = hints_in(rows, n, body, s)?;
+    Ok((after, left))
 }
 
 // All functions, in section order.
@@ -50,16 +41,10 @@ pub fn each_function(payload: Cursor, all: Bodies, s: &[u8]) -> Verdict
     let mut more = count.value;
     let mut bodies = all;
     while 0 < more {
-        match one_function(next, bodies, s) {
-            Turned::Refused(r) => {
-                return Verdict::Refused(r);
-            }
-            Turned::Behind(after, left) => {
-                next = after;
-                bodies = left;
-                more = more - 1;
-            }
-        }
+        let (after, left) = one_function(next, bodies, s)?;
+        next = after;
+        bodies = left;
+        more = more - 1;
     }
-    Verdict::Accepted
+    Ok(())
 }

@@ -6,17 +6,12 @@ ghost use Rattle.branches.specs.Sitting.{Ready, SitsFrom, SitsIn};
 use crate::reads::refusal;
 use crate::seats::{Reach, go_to};
 use format::{Reason, Refusal};
-use instructions::Way;
 use instructions::locals::locals;
 use reading::Cursor;
 use reading::again::{number_here, part_here};
 
 // What the hints of a function come to: the cursor behind them, or the first that is refused.
-#[derive(Clone, Copy)]
-pub enum Sat {
-    Behind(Cursor),
-    Refused(Refusal),
-}
+pub type Sat = Result<Cursor, Refusal>;
 
 // So many hints, from the first instruction of a body on: instructions and hints go forward together.
 fn hints_from(rows: Cursor, n: u32, base: usize, code: Cursor, s: &[u8]) -> Sat
@@ -26,27 +21,25 @@ fn hints_from(rows: Cursor, n: u32, base: usize, code: Cursor, s: &[u8]) -> Sat
     ensures { SitsFrom s.now rows n base code result }
 {
     let mut next = rows;
-    let mut more = n;
     let mut here = code;
-    while 0 < more {
+    for _ in 0..n {
         let at = next.at;
         let offset = number_here(next, s);
         let hint = part_here(offset.next, s);
         match go_to(here, base, offset.value, s) {
             Reach::Unreadable => {
-                return Sat::Refused(refusal(Reason::NotReadable, at));
+                return Err(refusal(Reason::NotReadable, at));
             }
             Reach::Elsewhere => {
-                return Sat::Refused(refusal(Reason::NotOnBranch, at));
+                return Err(refusal(Reason::NotOnBranch, at));
             }
             Reach::At(there) => {
                 here = there;
                 next = hint.next;
-                more = more - 1;
             }
         }
     }
-    Sat::Behind(next)
+    Ok(next)
 }
 
 // The same for a whole body: where its locals cannot be read, no hint of it can be placed.
@@ -56,8 +49,8 @@ pub fn hints_in(rows: Cursor, n: u32, body: Cursor, s: &[u8]) -> Sat
     requires inside { Inside s.now body }
     ensures { SitsIn s.now rows n body result }
 {
-    match locals(body, s) {
-        Way::Unreadable => Sat::Refused(refusal(Reason::NotReadable, rows.at)),
-        Way::Behind(code) => hints_from(rows, n, body.at, code, s),
-    }
+    let Some(code) = locals(body, s) else {
+        return Err(refusal(Reason::NotReadable, rows.at));
+    };
+    hints_from(rows, n, body.at, code, s)
 }

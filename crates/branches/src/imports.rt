@@ -6,7 +6,7 @@ ghost use Rattle.branches.specs.Reads.{Reads, Counts};
 
 use crate::reads::{Read, byte_read, number_read, refusal};
 use format::{Reason, Refusal};
-use reading::{Cursor, PartRead};
+use reading::Cursor;
 
 // The kinds of imports; a global is the last.
 const FUNCTION: u32 = 0;
@@ -21,26 +21,18 @@ const GLOBAL: u32 = 3;
 const BOUNDED: u32 = 1;
 
 // How many functions are imported, or why the list is refused.
-#[derive(Clone, Copy)]
-pub enum Counted {
-    Functions(u32),
-    Refused(Refusal),
-}
+pub type Counted = Result<u32, Refusal>;
 
 // The bounds of limits, one or two.
 fn bounds_read(c: Cursor, s: &[u8], flag: u32) -> Read
     requires { Inside s.now c }
     ensures { Reads (bounds flag) s.now c result }
 {
-    match number_read(c, s) {
-        Read::Refused(r) => Read::Refused(r),
-        Read::Value(n, next) => {
-            if flag == 0 {
-                return Read::Value(n, next);
-            }
-            number_read(next, s)
-        }
+    let (n, next) = number_read(c, s)?;
+    if flag == 0 {
+        return Ok((n, next));
     }
+    number_read(next, s)
 }
 
 fn limits_read(c: Cursor, s: &[u8]) -> Read
@@ -48,15 +40,11 @@ fn limits_read(c: Cursor, s: &[u8]) -> Read
     ensures { Reads limits s.now c result }
 {
     let at = c.at;
-    match byte_read(c, s) {
-        Read::Refused(r) => Read::Refused(r),
-        Read::Value(flag, next) => {
-            if BOUNDED < flag {
-                return Read::Refused(refusal(Reason::NotImport, at));
-            }
-            bounds_read(next, s, flag)
-        }
+    let (flag, next) = byte_read(c, s)?;
+    if BOUNDED < flag {
+        return Err(refusal(Reason::NotImport, at));
     }
+    bounds_read(next, s, flag)
 }
 
 // A table's type byte, and its limits.
@@ -64,10 +52,8 @@ fn table_read(c: Cursor, s: &[u8]) -> Read
     requires { Inside s.now c }
     ensures { Reads table_type s.now c result }
 {
-    match byte_read(c, s) {
-        Read::Refused(r) => Read::Refused(r),
-        Read::Value(_, next) => limits_read(next, s),
-    }
+    let (_, next) = byte_read(c, s)?;
+    limits_read(next, s)
 }
 
 // A global's two bytes.
@@ -75,10 +61,8 @@ fn global_read(c: Cursor, s: &[u8]) -> Read
     requires { Inside s.now c }
     ensures { Reads global_type s.now c result }
 {
-    match byte_read(c, s) {
-        Read::Refused(r) => Read::Refused(r),
-        Read::Value(_, next) => byte_read(next, s),
-    }
+    let (_, next) = byte_read(c, s)?;
+    byte_read(next, s)
 }
 
 // What stands behind the kind.
@@ -103,13 +87,9 @@ fn named_kind(c: Cursor, s: &[u8]) -> Read
     requires { Inside s.now c }
     ensures { Reads import_kind s.now c result }
 {
-    match c.name(s) {
-        PartRead::Refused(r) => Read::Refused(r),
-        PartRead::Part(_, d, _) => match d.name(s) {
-            PartRead::Refused(r) => Read::Refused(r),
-            PartRead::Part(_, e, _) => kind_read(e, s),
-        },
-    }
+    let (_, d, _) = c.name(s)?;
+    let (_, e, _) = d.name(s)?;
+    kind_read(e, s)
 }
 
 // The kind alone.
@@ -118,15 +98,11 @@ fn kind_read(c: Cursor, s: &[u8]) -> Read
     ensures { Reads kind_byte s.now c result }
 {
     let at = c.at;
-    match byte_read(c, s) {
-        Read::Refused(r) => Read::Refused(r),
-        Read::Value(kind, next) => {
-            if GLOBAL < kind {
-                return Read::Refused(refusal(Reason::NotImport, at));
-            }
-            Read::Value(kind, next)
-        }
+    let (kind, next) = byte_read(c, s)?;
+    if GLOBAL < kind {
+        return Err(refusal(Reason::NotImport, at));
     }
+    Ok((kind, next))
 }
 
 // An import, which answers with its kind.
@@ -134,13 +110,9 @@ fn entry_read(c: Cursor, s: &[u8]) -> Read
     requires { Inside s.now c }
     ensures { Reads import_entry s.now c result }
 {
-    match named_kind(c, s) {
-        Read::Refused(r) => Read::Refused(r),
-        Read::Value(kind, d) => match description_read(d, s, kind) {
-            Read::Refused(r) => Read::Refused(r),
-            Read::Value(_, next) => Read::Value(kind, next),
-        },
-    }
+    let (kind, d) = named_kind(c, s)?;
+    let (_, next) = description_read(d, s, kind)?;
+    Ok((kind, next))
 }
 
 // An import of a function is one function more.
@@ -159,21 +131,13 @@ fn entries_read(c: Cursor, s: &[u8], n: u32) -> Read
     ensures { Reads (import_entries n 0) s.now c result }
 {
     let mut next = c;
-    let mut more = n;
     let mut functions: u32 = 0;
-    while 0 < more {
-        match entry_read(next, s) {
-            Read::Refused(r) => {
-                return Read::Refused(r);
-            }
-            Read::Value(kind, after) => {
-                functions = functions + functions_in(kind);
-                next = after;
-                more = more - 1;
-            }
-        }
+    for _ in 0..n {
+        let (kind, after) = entry_read(next, s)?;
+        functions = functions + functions_in(kind);
+        next = after;
     }
-    Read::Value(functions, next)
+    Ok((functions, next))
 }
 
 // How many, and so many.
@@ -181,10 +145,8 @@ fn list_read(c: Cursor, s: &[u8]) -> Read
     requires { Inside s.now c }
     ensures { Reads import_list s.now c result }
 {
-    match number_read(c, s) {
-        Read::Refused(r) => Read::Refused(r),
-        Read::Value(n, next) => entries_read(next, s, n),
-    }
+    let (n, next) = number_read(c, s)?;
+    entries_read(next, s, n)
 }
 
 // The list fills its section.
@@ -192,13 +154,9 @@ pub fn imports_in(c: Cursor, s: &[u8]) -> Counted
     requires { Inside s.now c }
     ensures { Counts s.now c result }
 {
-    match list_read(c, s) {
-        Read::Refused(r) => Counted::Refused(r),
-        Read::Value(functions, next) => {
-            if next.at < next.end {
-                return Counted::Refused(refusal(Reason::LeftOver, next.at));
-            }
-            Counted::Functions(functions)
-        }
+    let (functions, next) = list_read(c, s)?;
+    if next.at < next.end {
+        return Err(refusal(Reason::LeftOver, next.at));
     }
+    Ok(functions)
 }

@@ -16,7 +16,7 @@ ghost use Rattle.branches.specs.Sections.{Walked};
 use crate::bodies::{Bodies, BodiesRead, bodies_in};
 use crate::functions::each_function;
 use crate::imports::{Counted, imports_in};
-use crate::sections::{CODE, IMPORTS, Spot, contents_of};
+use crate::sections::{CODE, IMPORTS, contents_of};
 use format::{Answer, Verdict};
 use reading::Cursor;
 use tables::Item;
@@ -42,10 +42,10 @@ fn imported(m: &[u8]) -> Counted
     requires { Walked m.now }
     ensures { counted result ≡ imported_functions m.now }
 {
-    match contents_of(m, IMPORTS) {
-        Spot::Nowhere => Counted::Functions(0),
-        Spot::At(c) => imports_in(c, m),
-    }
+    let Some(c) = contents_of(m, IMPORTS) else {
+        return Ok(0);
+    };
+    imports_in(c, m)
 }
 
 // The bodies: without a code section there is none.
@@ -53,10 +53,10 @@ fn all_bodies(m: &[u8]) -> BodiesRead
     requires { Walked m.now }
     ensures { AllBodies m.now result }
 {
-    match contents_of(m, CODE) {
-        Spot::Nowhere => BodiesRead::All(Cursor { at: 0, end: 0 }, 0),
-        Spot::At(c) => bodies_in(c, m),
-    }
+    let Some(c) = contents_of(m, CODE) else {
+        return Ok((Cursor { at: 0, end: 0 }, 0));
+    };
+    bodies_in(c, m)
 }
 
 // The imports, the bodies, and then hint by hint.
@@ -65,16 +65,10 @@ fn checked(m: &[u8], payload: Cursor) -> Verdict
     requires listed { Listed m.now payload }
     ensures { verdict_of result ≡ hints_checked m.now (part_of m.now payload) }
 {
-    match imported(m) {
-        Counted::Refused(r) => Verdict::Refused(r),
-        Counted::Functions(functions) => match all_bodies(m) {
-            BodiesRead::Refused(r) => Verdict::Refused(r),
-            BodiesRead::All(next, more) => {
-                let first = functions as u64;
-                each_function(payload, Bodies { first, next, more }, m)
-            }
-        },
-    }
+    let functions = imported(m)?;
+    let (next, more) = all_bodies(m)?;
+    let first = functions as u64;
+    each_function(payload, Bodies { first, next, more }, m)
 }
 
 // The payload comes first.
@@ -83,10 +77,7 @@ fn on_branches(m: &[u8], payload: Cursor) -> Verdict
     requires inside { Inside m.now payload }
     ensures { verdict_of result ≡ payload_on_branches m.now (part_of m.now payload) }
 {
-    let verdict = metadata::judge_in(m, payload, Item::Hint);
-    let Verdict::Accepted = verdict else {
-        return verdict;
-    };
+    metadata::judge_in(m, payload, Item::Hint)?;
     checked(m, payload)
 }
 
@@ -94,14 +85,12 @@ fn on_branches(m: &[u8], payload: Cursor) -> Verdict
 pub fn hints_on_branches(m: &[u8]) -> Verdict
     ensures { BranchesHintsOnBranches m.now result }
 {
-    match hint_section(m) {
-        Answer::Refused(r) => Verdict::Refused(r),
-        Answer::None => Verdict::Accepted,
-        Answer::Found(place) => {
-            let offset = place.offset;
-            let at = offset.0;
-            let end = at + place.length;
-            on_branches(m, Cursor { at, end })
-        }
-    }
+    let found = hint_section(m)?;
+    let Some(place) = found else {
+        return Ok(());
+    };
+    let offset = place.offset;
+    let at = offset.0;
+    let end = at + place.length;
+    on_branches(m, Cursor { at, end })
 }

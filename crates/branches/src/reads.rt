@@ -6,14 +6,10 @@ ghost use Rattle.branches.specs.Imports.{byte};
 ghost use Rattle.branches.specs.Reads.{Reads, refusal_with};
 
 use format::{Offset, Reason, Refusal};
-use reading::{Cursor, NumberRead, wide};
+use reading::{Cursor, wide};
 
 // What reading finds: a value, and the cursor behind it.
-#[derive(Clone, Copy)]
-pub enum Read {
-    Value(u32, Cursor),
-    Refused(Refusal),
-}
+pub type Read = Result<(u32, Cursor), Refusal>;
 
 pub fn refusal(reason: Reason, at: usize) -> Refusal
     ensures { result ≡ refusal_with reason at }
@@ -28,10 +24,8 @@ pub fn number_read(c: Cursor, s: &[u8]) -> Read
     requires { Inside s.now c }
     ensures { Reads number s.now c result }
 {
-    match c.number(s) {
-        NumberRead::Refused(r) => Read::Refused(r),
-        NumberRead::Value(n, next, _) => Read::Value(n, next),
-    }
+    let (n, next, _) = c.number(s)?;
+    Ok((n, next))
 }
 
 // A byte: a missing one is refused at its place.
@@ -42,7 +36,7 @@ pub fn byte_read(c: Cursor, s: &[u8]) -> Read
     let at = c.at;
     let end = c.end;
     if end <= at {
-        return Read::Refused(refusal(Reason::PastItsPart, at));
+        return Err(refusal(Reason::PastItsPart, at));
     }
-    Read::Value(wide(s[at]), Cursor { at: at + 1, end })
+    Ok((wide(s[at]), Cursor { at: at + 1, end }))
 }

@@ -4,7 +4,7 @@ ghost use Rattle.reading.specs.Cursors.{Inside};
 ghost use Rattle.branches.specs.Bodies.{is_branch};
 ghost use Rattle.branches.specs.Seats.{arrived_at, ReachesTo};
 
-use instructions::{Way, step};
+use instructions::step;
 use reading::Cursor;
 
 const IF: u8 = 0x04;
@@ -59,13 +59,9 @@ pub fn go_to(code: Cursor, base: usize, offset: u32, s: &[u8]) -> Reach
         if wanted <= gone {
             return arrived(here, s[at]);
         }
-        match step(here, s) {
-            Way::Unreadable => {
-                return Reach::Unreadable;
-            }
-            Way::Behind(next) => {
-                here = next;
-            }
-        }
+        let Some(next) = step(here, s) else {
+            return Reach::Unreadable;
+        };
+        here = next;
     }
 }

@@ -11,15 +11,8 @@ pub const CODE: u8 = 10;
 // Behind the preamble.
 const FIRST: usize = 8;
 
-// The contents of a section, if there is one.
-#[derive(Clone, Copy)]
-pub enum Spot {
-    Nowhere,
-    At(Cursor),
-}
-
-// From id byte to id byte: the walk has judged what lies between, so it is passed over by its size.
-pub fn contents_of(m: &[u8], id: u8) -> Spot
+// The contents of a section, if there is one. From id byte to id byte: the walk has judged what lies between, so it is passed over by its size.
+pub fn contents_of(m: &[u8], id: u8) -> Option<Cursor>
     requires { Walked m.now }
     ensures { Finds m.now id result }
 {
@@ -30,9 +23,9 @@ pub fn contents_of(m: &[u8], id: u8) -> Spot
         let contents = section.part;
         let next = section.next;
         if m[at] == id {
-            return Spot::At(contents);
+            return Some(contents);
         }
         at = next.at;
     }
-    Spot::Nowhere
+    None
 }

@@ -1,10 +1,10 @@
 -- The loop that counts the rows of all groups.
+use Rattle.std.specs.Prelude.{Some, None}
 use Prim.Native.Nat.{ℕ, zero, suc, ◌+◌, ◌*◌, ◌^◌, ◌≤◌, ◌<◌}
 use mathlib.Core.List.{List}
 use mathlib.Core.Path.{◌≡◌, sym, ap, ◌∙◌}
 use native.Mathlib.Omega.{arith}
 use borrow.Author.Rules.{rules}
-use denote.Enum.Declared.{tag_of}
 use lib.ListN.{length, length-append}
 use Rattle.format.specs.Entries.{rows_under, group_rows}
 use Rattle.format.proofs.Laws.Entries.{under_count}
@@ -19,13 +19,11 @@ use Rattle.reading.specs.Standing.{Stands, Known}
 use Rattle.reading.specs.declared.Cursor.{Cursor}
 use Rattle.tables.specs.Finding.{Skips}
 use Rattle.tables.specs.Stepping.{behind_at, GroupSteps}
-use Rattle.tables.specs.declared.stepping.GroupStep.{GroupStep}
-use Rattle.tables.specs.declared.stepping.GroupStep.TheVariants.{Group}
+use Rattle.tables.specs.Returned.{GroupStep}
 use Rattle.tables.specs.declared.stepping.Rows.{Rows}
 use Rattle.tables.proofs.Accepted.{table_rows}
 use Rattle.tables.proofs.Along.{Along, setting_out, still_known, ended, onward}
 use Rattle.tables.proofs.StepLaws.{no_group, group_known, group_count_known, group_left, group_fewer, group_passed}
-use Rattle.tables.specs.contracts.stepping.GroupStep as group_type
 use Rattle.entries.specs.Counting.{Counts}
 
 -- a table has as many rows as its count says
@@ -61,13 +59,13 @@ module _ {s : List ℕ} {all : Rows} where
     groups_known = still_known t.along
 
     module _ {x : GroupStep} (r : GroupSteps s left x) where
-      pub counted : tag_of group_type.the_type x ≡ 0 → Counts s all n
+      pub counted : x ≡ None → Counts s all n
       unfolding group_rows
       counted h =
-          let e = ended t.along (no_group x r h) in
+          let e = ended t.along (no_group r h) in
           record { its = t.along.all; last = left.next; stands = e.stands; count = omega (arith, t.so_far, ap (λ u. length (group_rows u)) e.nothing) }
 
-      module _ {k : ℕ} {place : Cursor} (e : x ≡ Group k place) {m : ℕ} {d : Cursor} (i : Stands number s place m d) where
+      module _ {k : ℕ} {place : Cursor} (e : x ≡ Some (k, place)) {m : ℕ} {d : Cursor} (i : Stands number s place m d) where
         pub count_fits : all.more < 2 ^ 32 → m < 2 ^ 32 → n + m < 2 ^ 64
         count_fits h g = omega (arith, t.below, group_left r e, h, g)
 

@@ -1,10 +1,10 @@
 -- The loop that puts the rows of all groups, for any number of lists.
+use Rattle.std.specs.Prelude.{Some, None}
 use Prim.Native.Nat.{ℕ, ◌+◌, ◌^◌, ◌<◌}
 use mathlib.Core.List.{List, [], ◌++◌, append_assoc}
 use mathlib.Core.Path.{◌≡◌, refl, sym, ap, ◌∙◌}
 use native.Mathlib.Omega.{arith}
 use borrow.Author.Rules.{rules}
-use denote.Enum.Declared.{tag_of}
 use lib.ListN.{length}
 use Rattle.format.specs.Entries.{Listed, rows_under, group_rows}
 use Rattle.format.specs.Numbers.{number}
@@ -13,13 +13,11 @@ use Rattle.format.specs.Tables.{rows, table}
 use Rattle.reading.specs.Standing.{Stands, Known}
 use Rattle.reading.specs.declared.Cursor.{Cursor}
 use Rattle.tables.specs.Stepping.{behind_at, GroupSteps}
-use Rattle.tables.specs.declared.stepping.GroupStep.{GroupStep}
-use Rattle.tables.specs.declared.stepping.GroupStep.TheVariants.{Group}
+use Rattle.tables.specs.Returned.{GroupStep}
 use Rattle.tables.specs.declared.stepping.Rows.{Rows}
 use Rattle.tables.proofs.Accepted.{table_rows, rows_table}
 use Rattle.tables.proofs.Along.{Along, setting_out, still_known, ended, onward}
 use Rattle.tables.proofs.StepLaws.{no_group, a_group, group_count_known, group_left, group_fewer, group_passed}
-use Rattle.tables.specs.contracts.stepping.GroupStep as group_type
 use Rattle.writing.specs.Columns.{Room, Columns}
 use Rattle.writing.proofs.Columns.{less_room, same_room, no_rows_put, columns_join}
 use Rattle.entries.specs.declared.rows.Put.{Put}
@@ -57,15 +55,15 @@ module _ {columns : List (Listed Part → ℕ)} {P : Part → Type 0} {s : List 
     groups_known = still_known t.along
 
     module _ {x : GroupStep} (r : GroupSteps s left x) where
-      pub groups_put : tag_of group_type.the_type x ≡ 0 → PutsGroups columns s all lists lists'
+      pub groups_put : x ≡ None → PutsGroups columns s all lists lists'
       unfolding group_rows
       groups_put h =
-          let e = ended t.along (no_group x r h) in
+          let e = ended t.along (no_group r h) in
           let all_done : group_rows t.along.all ≡ t.done = t.split ∙ ap (λ u. t.done ++ group_rows u) e.nothing ∙ append_none t.done in
           let end : at ≡ length (group_rows t.along.all) = omega (arith, t.counts, ap (λ u. length (group_rows u)) e.nothing) in
           record { its = t.along.all; last = left.next; stands = e.stands; put = rw (← end, all_done) t.put }
 
-      module _ {k : ℕ} {place : Cursor} (e : x ≡ Group k place) {g : Rows} (i : Stands number s place g.more g.next) where
+      module _ {k : ℕ} {place : Cursor} (e : x ≡ Some (k, place)) {g : Rows} (i : Stands number s place g.more g.next) where
         -- the rows of the next group, and how many they are
         pub group_fits : RowsFit P s g at lists'
         group_fits =

@@ -1,4 +1,5 @@
 -- Hints: each is one byte, which the third list has.
+use Rattle.std.specs.Prelude.{Some}
 use Prim.Native.Nat.{ℕ, zero, suc, ◌+◌, ◌<◌}
 use mathlib.Core.Bool.{true, false≢true}
 use mathlib.Core.List.{List, [], ◌∷◌}
@@ -18,8 +19,7 @@ use Rattle.format.specs.declared.Reason.TheVariants.{NotHint}
 use Rattle.reading.specs.Cursors.{part_of}
 use Rattle.reading.specs.declared.Cursor.{Cursor}
 use Rattle.tables.specs.Stepping.{behind_at, RowSteps}
-use Rattle.tables.specs.declared.stepping.RowStep.{RowStep}
-use Rattle.tables.specs.declared.stepping.RowStep.TheVariants.{Row}
+use Rattle.tables.specs.Returned.{RowStep}
 use Rattle.tables.specs.declared.stepping.Rows.{Rows}
 use Rattle.tables.proofs.StepLaws.{a_row, row_left, row_fewer}
 use Rattle.writing.specs.Columns.{Room, column, no_column}
@@ -34,7 +34,7 @@ hint_stored {at} {byte = byte} {c = c} r = record { stored = λ x e. column (wro
 pub ruleset hint_storing = (in_first, in_second, in_third, hint_stored, rules)
 
 -- THE HINTS OF A FUNCTION
-module _ {s : List ℕ} {all : Rows} {first start : ℕ} {lists lists' : List (List ℕ)} {left : Rows} {at : ℕ} (t : Putting hint_columns OneByte s all first start lists lists' left at) {x : RowStep} (r : RowSteps s left x) {k : ℕ} {part next : Cursor} (e : x ≡ Row k part next) where
+module _ {s : List ℕ} {all : Rows} {first start : ℕ} {lists lists' : List (List ℕ)} {left : Rows} {at : ℕ} (t : Putting hint_columns OneByte s all first start lists lists' left at) {x : RowStep} (r : RowSteps s left x) {k : ℕ} {part next : Cursor} (e : x ≡ Some (k, part, next)) where
   some_byte : part.at < part.end
   some_byte = let i = (a_row r e).in_part in omega (arith, row_fits t r e, length-slice part.at part.end s i.within)
 

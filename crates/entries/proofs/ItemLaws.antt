@@ -1,9 +1,9 @@
 -- A metadata payload: judged, and listed from its beginning on.
+use Rattle.std.specs.Prelude.{Ok, Err}
 use Prim.Native.Nat.{ℕ}
 use mathlib.Core.List.{List, []}
 use mathlib.Core.Path.{◌≡◌, refl}
 use borrow.Author.Rules.{rules}
-use denote.Enum.Declared.{tag_of}
 use Rattle.format.specs.Entries.{Listed, group_rows, item_rows, Lists}
 use Rattle.format.proofs.Laws.Entries.{lists_refused}
 use Rattle.format.specs.Laws.Laxer.{Laxer, any_laxer, hint_laxer, table_laxer}
@@ -13,13 +13,11 @@ use Rattle.format.specs.Metadata.{any_item, hint_item, metadata, judge_metadata}
 use Rattle.format.specs.Parts.{Part, sized}
 use Rattle.format.specs.Reading.{got, Reader, filling, accepted, verdict}
 use Rattle.format.specs.Tables.{Table, table}
-use Rattle.format.specs.Verdicts.{verdict_of, refusal_in}
-use Rattle.format.specs.declared.Answer.{Answer}
-use Rattle.format.specs.declared.Answer.TheVariants.{Refused}
+use Rattle.format.specs.Verdicts.{verdict_of}
+use Rattle.format.specs.Returned.{Answer}
 use Rattle.format.specs.declared.Refusal.{Refusal}
-use Rattle.format.specs.declared.Verdict.{Verdict}
+use Rattle.format.specs.Returned.{Verdict}
 use Rattle.format.proofs.Tags.{judged_refused, judged_accepted}
-use Rattle.format.specs.contracts.Verdict as verdict_type
 use Rattle.reading.specs.Cursors.{left, over_all}
 use Rattle.reading.specs.Standing.{Stands}
 use Rattle.reading.specs.declared.Cursor.{Cursor}
@@ -36,11 +34,11 @@ from_start : {A : Type 0} (read : Reader A) (p : List ℕ) {c : Cursor} {v : A} 
 from_start read p over e = rw (over, left_all p) e
 
 module _ (item : Reader Part) (p : List ℕ) (v : Verdict) (says : verdict_of v ≡ verdict (judge_metadata item 0 p)) where
-  pub items_refused : {columns : List (Listed Part → ℕ)} {lists : List (List ℕ)} {r : Refusal} → tag_of verdict_type.the_type v ≡ 1 → r ≡ refusal_in v → Lists columns (item_rows item p) lists lists (Refused r)
+  pub items_refused : {columns : List (Listed Part → ℕ)} {lists : List (List ℕ)} {r : Refusal} → v ≡ Err r → Lists columns (item_rows item p) lists lists (Err r)
   unfolding item_rows
-  items_refused h e = rw e (lists_refused (rw (judged_refused v (judge_metadata item 0 p) says h) refl))
+  items_refused e = lists_refused (rw (judged_refused v (judge_metadata item 0 p) says e) refl)
 
-  module _ (h : tag_of verdict_type.the_type v ≡ 0) {c : Cursor} (over : c ≡ over_all p) where
+  module _ (h : v ≡ Ok tt) {c : Cursor} (over : c ≡ over_all p) where
     -- what was accepted, where it was read and where it stands without its checks
     record There : Type 0 where
       value : Table (Table Part)
@@ -68,7 +66,7 @@ module _ (item : Reader Part) (p : List ℕ) (v : Verdict) (says : verdict_of v 
           let same : w.value ≡ there.value = one_value w.stands items_stand in
           rw (there.accepts, ← same) w.its_lists
 
-module _ (p : List ℕ) (v : Verdict) {c : Cursor} (over : c ≡ over_all p) (h : tag_of verdict_type.the_type v ≡ 0) where
+module _ (p : List ℕ) (v : Verdict) {c : Cursor} (over : c ≡ over_all p) (h : v ≡ Ok tt) where
   pub any_there : verdict_of v ≡ verdict (judge_metadata any_item 0 p) → KnownAll AnyPart p c
   any_there says = any_held (record { value = _; next = _; stands = items_stand any_item p v says h over any_laxer })
 

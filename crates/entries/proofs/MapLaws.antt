@@ -1,4 +1,5 @@
 -- What is listed of one name, of a map and of a table of tables: 13 where a list is too short, or all rows in every list.
+use Rattle.std.specs.Prelude.{Ok, Err, Some}
 use Prim.Native.Nat.{ℕ, ◌+◌, ◌^◌, ◌≤◌, ◌<◌}
 use mathlib.Core.Bool.{Bool, true, false, ◌&&◌}
 use mathlib.Core.List.{List, [], ◌∷◌, map}
@@ -15,8 +16,7 @@ use Rattle.format.specs.Numbers.{number}
 use Rattle.format.specs.Parts.{Part, sized}
 use Rattle.format.specs.Reading.{Reader}
 use Rattle.format.specs.Tables.{Table, nil, row, rows, table}
-use Rattle.format.specs.declared.Answer.{Answer}
-use Rattle.format.specs.declared.Answer.TheVariants.{Found, Refused}
+use Rattle.format.specs.Returned.{Answer}
 use Rattle.format.specs.declared.Reason.TheVariants.{OutputTooShort}
 use Rattle.reading.specs.Cursors.{part_of}
 use Rattle.reading.specs.Standing.{Stands, Known, TakesPart}
@@ -72,15 +72,15 @@ any_groups nil = no_row
 any_groups (row k v t) = and_row (any_rows v) (any_groups t)
 
 -- 13, whatever is to be listed
-no_room : {A : Type 0} {read : Reader A} (rows_of : A → List (Listed Part)) {columns : List (Listed Part → ℕ)} {s : List ℕ} {place : Cursor} {lists : List (List ℕ)} {r : Answer} {n : ℕ} (w : Known read s place) → length (rows_of w.value) ≡ n → fit_each n lists ≡ false → r ≡ Refused (record { reason = OutputTooShort; offset = record { 0 = n } }) → ListsRows read rows_of columns s place lists lists r
+no_room : {A : Type 0} {read : Reader A} (rows_of : A → List (Listed Part)) {columns : List (Listed Part → ℕ)} {s : List ℕ} {place : Cursor} {lists : List (List ℕ)} {r : Answer} {n : ℕ} (w : Known read s place) → length (rows_of w.value) ≡ n → fit_each n lists ≡ false → r ≡ Err (record { reason = OutputTooShort; offset = record { 0 = n } }) → ListsRows read rows_of columns s place lists lists r
 no_room rows_of w many h q = rw (q, ← many) (record { value = w.value; next = w.next; stands = w.stands; its_lists = lists_short refl (rw many h) })
 
 -- ONE NAME
 module _ {s : List ℕ} {place : Cursor} {lists : List (List ℕ)} {told : Bool} (t : Told 1 lists told) where
-  pub one_short : {columns : List (Listed Part → ℕ)} {r : Answer} → Known sized s place → told ≡ false → r ≡ Refused (record { reason = OutputTooShort; offset = record { 0 = 1 } }) → ListsRows sized one_row columns s place lists lists r
+  pub one_short : {columns : List (Listed Part → ℕ)} {r : Answer} → Known sized s place → told ≡ false → r ≡ Err (record { reason = OutputTooShort; offset = record { 0 = 1 } }) → ListsRows sized one_row columns s place lists lists r
   one_short w h q = no_room one_row w refl (t.says ∙ h) q
 
-  pub one_put : {p : Piece} {lists' : List (List ℕ)} {r : Answer} → TakesPart s place p → told ≡ true → Stores 0 0 0 p.part lists lists' → r ≡ Found (record { offset = record { 0 = 0 }; length = 1 }) → ListsRows sized one_row place_columns s place lists lists' r
+  pub one_put : {p : Piece} {lists' : List (List ℕ)} {r : Answer} → TakesPart s place p → told ≡ true → Stores 0 0 0 p.part lists lists' → r ≡ Ok (Some (record { offset = record { 0 = 0 }; length = 1 })) → ListsRows sized one_row place_columns s place lists lists' r
   one_put {p} k h w q =
       let i = k.in_part in
       let there = w.stored (part_of s p.part) refl (length-slice p.part.at p.part.end s i.within) in
@@ -112,7 +112,7 @@ exchanged t (column w (column x (column y (column z no_column)))) = column (rw (
 
 module _ {s : List ℕ} {place : Cursor} {all : Rows} (i : Stands number s place all.more all.next) where
   module _ {a b c d : List ℕ} {told : Bool} (t : Told all.more (a ∷ b ∷ c ∷ d ∷ []) told) where
-    pub map_short : {r : Answer} → Known (table sized) s place → told ≡ false → r ≡ Refused (record { reason = OutputTooShort; offset = record { 0 = all.more } }) → ListsRows (table sized) plain_rows place_columns s place (a ∷ b ∷ c ∷ d ∷ []) (a ∷ b ∷ c ∷ d ∷ []) r
+    pub map_short : {r : Answer} → Known (table sized) s place → told ≡ false → r ≡ Err (record { reason = OutputTooShort; offset = record { 0 = all.more } }) → ListsRows (table sized) plain_rows place_columns s place (a ∷ b ∷ c ∷ d ∷ []) (a ∷ b ∷ c ∷ d ∷ []) r
     map_short w h q = no_room plain_rows w (plain_count w.value ∙ table_many i w.stands) (t.says ∙ h) q
 
     pub map_fits : Known (table sized) s place → told ≡ true → all.more < 2 ^ 32 → RowsFit AnyPart s all 0 (b ∷ a ∷ c ∷ d ∷ [])
@@ -128,7 +128,7 @@ module _ {s : List ℕ} {place : Cursor} {all : Rows} (i : Stands number s place
         turned : Room all.more (a ∷ b ∷ c ∷ d ∷ []) → Room (0 + all.more) (b ∷ a ∷ c ∷ d ∷ [])
         turned (another h (another g r)) = rw (zero-add all.more) (another g (another h r))
 
-    pub map_put : {put : Put} {a' b' c' d' : List ℕ} {r : Answer} → told ≡ true → PutsRows place_columns s all 0 0 (b ∷ a ∷ c ∷ d ∷ []) (b' ∷ a' ∷ c' ∷ d' ∷ []) put → r ≡ Found (record { offset = record { 0 = 0 }; length = all.more }) → ListsRows (table sized) plain_rows place_columns s place (a ∷ b ∷ c ∷ d ∷ []) (a' ∷ b' ∷ c' ∷ d' ∷ []) r
+    pub map_put : {put : Put} {a' b' c' d' : List ℕ} {r : Answer} → told ≡ true → PutsRows place_columns s all 0 0 (b ∷ a ∷ c ∷ d ∷ []) (b' ∷ a' ∷ c' ∷ d' ∷ []) put → r ≡ Ok (Some (record { offset = record { 0 = 0 }; length = all.more })) → ListsRows (table sized) plain_rows place_columns s place (a ∷ b ∷ c ∷ d ∷ []) (a' ∷ b' ∷ c' ∷ d' ∷ []) r
     map_put {put} h w q =
         let stands = rows_table sized i w.stands in
         let count : all.more ≡ length (plain_rows w.its) = sym (plain_count w.its ∙ table_many i stands) in
@@ -159,10 +159,10 @@ module _ {P : Part → Type 0} {s : List ℕ} {place : Cursor} {all : Rows} (i :
         }
 
 module _ {s : List ℕ} {place : Cursor} {all : Rows} (i : Stands number s place all.more all.next) {n : ℕ} (count : Counts s all n) {lists : List (List ℕ)} {told : Bool} (t : Told n lists told) {columns : List (Listed Part → ℕ)} where
-  pub groups_short : {r : Answer} → told ≡ false → r ≡ Refused (record { reason = OutputTooShort; offset = record { 0 = n } }) → ListsRows (table (table sized)) group_rows columns s place lists lists r
+  pub groups_short : {r : Answer} → told ≡ false → r ≡ Err (record { reason = OutputTooShort; offset = record { 0 = n } }) → ListsRows (table (table sized)) group_rows columns s place lists lists r
   groups_short h q = no_room group_rows (record { value = count.its; next = count.last; stands = rows_table (table sized) i count.stands }) (sym count.count) (t.says ∙ h) q
 
-  pub groups_listed : {lists' : List (List ℕ)} {r : Answer} → told ≡ true → PutsGroups columns s all lists lists' → r ≡ Found (record { offset = record { 0 = 0 }; length = n }) → ListsRows (table (table sized)) group_rows columns s place lists lists' r
+  pub groups_listed : {lists' : List (List ℕ)} {r : Answer} → told ≡ true → PutsGroups columns s all lists lists' → r ≡ Ok (Some (record { offset = record { 0 = 0 }; length = n })) → ListsRows (table (table sized)) group_rows columns s place lists lists' r
   groups_listed h w q =
       let same : count.its ≡ w.its = one_value count.stands w.stands in
       let many : n ≡ length (group_rows w.its) = count.count ∙ ap (λ t. length (group_rows t)) same in

@@ -1,10 +1,10 @@
 -- One subsection of a payload: judged, looked for, and listed where it lies.
+use Rattle.std.specs.Prelude.{Ok, Err, Some, None}
 use Prim.Native.Nat.{ℕ}
 use mathlib.Core.List.{List}
 use mathlib.Core.Option.{none, some}
 use mathlib.Core.Path.{◌≡◌, refl, sym, ap, ◌∙◌}
 use borrow.Author.Rules.{rules}
-use denote.Enum.Declared.{tag_of}
 use lib.ListN.{length}
 use Rattle.format.specs.Entries.{plain_rows, group_rows, name_rows, place_columns, Lists}
 use Rattle.format.proofs.Laws.Entries.{lists_refused, lists_none}
@@ -13,28 +13,24 @@ use Rattle.format.specs.Names.{one_name, name_map, indirect_map, Content, single
 use Rattle.format.specs.Parts.{Part, sized, remaining}
 use Rattle.format.specs.Reading.{accepted, judge, verdict}
 use Rattle.format.specs.Tables.{Table, lookup, table}
-use Rattle.format.specs.Verdicts.{verdict_of, refusal_in}
-use Rattle.format.specs.declared.Answer.{Answer}
-use Rattle.format.specs.declared.Answer.TheVariants.{None, Refused}
+use Rattle.format.specs.Verdicts.{verdict_of}
+use Rattle.format.specs.Returned.{Answer}
 use Rattle.format.specs.declared.Edition.{Edition}
 use Rattle.format.specs.declared.Refusal.{Refusal}
-use Rattle.format.specs.declared.Verdict.{Verdict}
+use Rattle.format.specs.Returned.{Verdict}
 use Rattle.format.proofs.Tags.{judged_refused, judged_accepted}
-use Rattle.format.specs.contracts.Verdict as verdict_type
 use Rattle.reading.specs.Cursors.{left, over_all, part_of}
 use Rattle.reading.specs.Standing.{Known}
 use Rattle.reading.specs.declared.Cursor.{Cursor}
 use Rattle.reading.proofs.Laws.{left_all, over_inside}
 use Rattle.reading.proofs.Standing.{one_value}
-use Rattle.tables.specs.declared.Held.{Held}
-use Rattle.tables.specs.declared.Held.TheVariants.{Part as At}
-use Rattle.tables.specs.contracts.Held as held_type
+use Rattle.tables.specs.Returned.{Held}
 use Rattle.names.specs.Contents.{kind_meant}
 use Rattle.names.specs.Frames.{judge_frames, read_under}
 use Rattle.names.specs.Places.{sub_of, Finds, Stands as LiesAt}
 use Rattle.names.specs.declared.kinds.Kind.{Kind}
 use Rattle.names.specs.declared.kinds.Kind.TheVariants.{OneName, NameMap, IndirectMap, Kept}
-use Rattle.names.proofs.AskLaws.{as_absent, all_framed}
+use Rattle.names.proofs.AskLaws.{all_framed}
 use Rattle.names.proofs.ContentLaws.{Lax, one_stands, map_stands, indirect_stands}
 use Rattle.names.proofs.FrameLaws.{subsections_lie}
 use Rattle.entries.specs.Listing.{one_row, KnownAll, ListsRows, KnownContents, ListsContents}
@@ -84,7 +80,7 @@ module _ {s : List ℕ} {part : Cursor} where
           let same : here.value ≡ names_by w.value = sym l.is ∙ ap names_by (one_value l.stands w.stands) in
           rw e (record { value = names_by w.value; judged = here.judged ∙ ap accepted same; its_lists = w.its_lists })
 
-pub kept_contents : {s : List ℕ} {part : Cursor} {kind : Kind} {lists : List (List ℕ)} → kind ≡ Kept → ListsContents (kind_meant kind) s part lists lists None
+pub kept_contents : {s : List ℕ} {part : Cursor} {kind : Kind} {lists : List (List ℕ)} → kind ≡ Kept → ListsContents (kind_meant kind) s part lists lists (Ok None)
 unfolding contents remaining
 kept_contents e = rw e (record { value = _; judged = refl; its_lists = lists_none refl })
 
@@ -92,11 +88,11 @@ pub ruleset contents_listed = (one_known, map_known, groups_known, one_contents,
 
 -- THE PAYLOAD
 module _ (p : List ℕ) (edition : Edition) (id : ℕ) (v : Verdict) (says : verdict_of v ≡ verdict (judge_names (kind_in edition) 0 p)) where
-  pub names_refused : {lists : List (List ℕ)} {r : Refusal} → tag_of verdict_type.the_type v ≡ 1 → r ≡ refusal_in v → Lists place_columns (name_rows (kind_in edition) id p) lists lists (Refused r)
+  pub names_refused : {lists : List (List ℕ)} {r : Refusal} → v ≡ Err r → Lists place_columns (name_rows (kind_in edition) id p) lists lists (Err r)
   unfolding name_rows
-  names_refused h e = rw e (lists_refused (rw (judged_refused v (judge_names (kind_in edition) 0 p) says h) refl))
+  names_refused e = lists_refused (rw (judged_refused v (judge_names (kind_in edition) 0 p) says e) refl)
 
-  module _ (h : tag_of verdict_type.the_type v ≡ 0) {c : Cursor} (over : c ≡ over_all p) {place : Held} (finds : Finds p c.at (left p c) id place) where
+  module _ (h : v ≡ Ok tt) {c : Cursor} (over : c ≡ over_all p) {place : Held} (finds : Finds p c.at (left p c) id place) where
     -- what stands under the id, and where
     record There : Type 0 where
       value : Table (Content Part)
@@ -114,14 +110,14 @@ module _ (p : List ℕ) (edition : Edition) (id : ℕ) (v : Verdict) (says : ver
         let found : Finds p 0 p id place = rw (over, left_all p) at finds in
         record { value = t; accepts = e; lies = l.table; stands = found.stands l.table (ap judge l.framed_so); reads = l.stands id }
 
-    pub names_none : {lists : List (List ℕ)} → tag_of held_type.the_type place ≡ 0 → Lists place_columns (name_rows (kind_in edition) id p) lists lists None
+    pub names_none : {lists : List (List ℕ)} → place ≡ None → Lists place_columns (name_rows (kind_in edition) id p) lists lists (Ok None)
     unfolding name_rows
     names_none q =
-        let nowhere : lookup id there.lies ≡ none = sym there.stands.is ∙ ap (sub_of p) (as_absent place q) in
+        let nowhere : lookup id there.lies ≡ none = sym there.stands.is ∙ ap (sub_of p) q in
         let nothing : lookup id there.value ≡ none = accepted_is (there.reads ∙ ap (read_under (kind_in edition id)) nowhere) in
         lists_none (rw (there.accepts, nothing))
 
-    module _ {part : Cursor} (e : place ≡ At part) (kind : Kind) (is : kind_meant kind ≡ kind_in edition id) where
+    module _ {part : Cursor} (e : place ≡ Some part) (kind : Kind) (is : kind_meant kind ≡ kind_in edition id) where
       pub contents_there : KnownContents (kind_meant kind) p part
       contents_there =
           let lies : lookup id there.lies ≡ some (part_of p part) = sym there.stands.is ∙ ap (sub_of p) e in

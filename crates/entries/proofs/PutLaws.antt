@@ -1,10 +1,10 @@
 -- Rows put into lists: one row, and the loop over the rows of a map, for any number of lists.
+use Rattle.std.specs.Prelude.{Some, None}
 use Prim.Native.Nat.{ℕ, ◌+◌, ◌-◌, ◌^◌, ◌≤◌, ◌<◌}
 use mathlib.Core.List.{List, [], ◌∷◌, ◌++◌}
 use mathlib.Core.Path.{◌≡◌, refl, sym, ap, ◌∙◌}
 use native.Mathlib.Omega.{arith}
 use borrow.Author.Rules.{rules}
-use denote.Enum.Declared.{tag_of}
 use lib.ListN.{length, set}
 use lib.Seq.{append_snoc, length-slice}
 use Rattle.format.specs.Entries.{Listed, rows_under, place_columns}
@@ -14,12 +14,10 @@ use Rattle.reading.specs.Cursors.{part_of}
 use Rattle.reading.specs.Standing.{Known}
 use Rattle.reading.specs.declared.Cursor.{Cursor}
 use Rattle.tables.specs.Stepping.{behind_at, RowSteps}
-use Rattle.tables.specs.declared.stepping.RowStep.{RowStep}
-use Rattle.tables.specs.declared.stepping.RowStep.TheVariants.{Row}
+use Rattle.tables.specs.Returned.{RowStep}
 use Rattle.tables.specs.declared.stepping.Rows.{Rows}
 use Rattle.tables.proofs.Along.{Along, setting_out, still_known, ended, onward}
 use Rattle.tables.proofs.StepLaws.{no_row as no_row_left, a_row, row_left, row_fewer}
-use Rattle.tables.specs.contracts.stepping.RowStep as row_type
 use Rattle.writing.specs.Columns.{Room, another, Columns, column, no_column}
 use Rattle.writing.proofs.Laws.{wrote_byte, wrote_length}
 use Rattle.writing.proofs.Columns.{less_room, same_room, no_rows_put, columns_join}
@@ -95,16 +93,16 @@ module _ {columns : List (Listed Part → ℕ)} {P : Part → Type 0} {s : List 
     rows_known = still_known t.along
 
     module _ {x : RowStep} (r : RowSteps s left x) where
-      pub rows_put : tag_of row_type.the_type x ≡ 0 → PutsRows columns s all first start lists lists' (record { at = at; next = left.next })
+      pub rows_put : x ≡ None → PutsRows columns s all first start lists lists' (record { at = at; next = left.next })
       unfolding rows_under
       rows_put h =
-          let none_left = no_row_left x r h in
+          let none_left = no_row_left r h in
           let e = ended t.along none_left in
           let all_done : rows_under first t.along.all ≡ t.done = t.split ∙ ap (λ u. t.done ++ rows_under first u) e.nothing ∙ append_none t.done in
           let end : at ≡ start + all.more = omega (arith, t.counts, none_left) in
           record { its = t.along.all; stands = e.stands; put = rw all_done t.put; many = end }
 
-      module _ {k : ℕ} {part next : Cursor} (e : x ≡ Row k part next) where
+      module _ {k : ℕ} {part next : Cursor} (e : x ≡ Some (k, part, next)) where
         pub row_room : Room (at + 1) lists'
         row_room = less_room t.room (omega (arith, row_left r e))
 
@@ -136,7 +134,7 @@ module _ {columns : List (Listed Part → ℕ)} {P : Part → Type 0} {s : List 
             })
 
 -- into four lists
-module _ {P : Part → Type 0} {s : List ℕ} {all : Rows} {first start : ℕ} {lists lists' : List (List ℕ)} {left : Rows} {at : ℕ} (t : Putting place_columns P s all first start lists lists' left at) {x : RowStep} (r : RowSteps s left x) {k : ℕ} {part next : Cursor} (e : x ≡ Row k part next) where
+module _ {P : Part → Type 0} {s : List ℕ} {all : Rows} {first start : ℕ} {lists lists' : List (List ℕ)} {left : Rows} {at : ℕ} (t : Putting place_columns P s all first start lists lists' left at) {x : RowStep} (r : RowSteps s left x) {k : ℕ} {part next : Cursor} (e : x ≡ Some (k, part, next)) where
   pub place_put : {lists'' : List (List ℕ)} {after : Rows} → Stores at first k part lists' lists'' → after ≡ behind_at left next → Putting place_columns P s all first start lists lists'' after (at + 1)
   place_put w is = let i = (a_row r e).in_part in puts_on t r e (w.stored (part_of s part) refl (length-slice part.at part.end s i.within)) is
 

@@ -6,7 +6,7 @@ use Rattle.format.specs.Names.{Kind, Content, contents}
 use Rattle.format.specs.Parts.{Part, sized}
 use Rattle.format.specs.Tables.{Table, table}
 use Rattle.format.specs.Reading.{Reader, accepted, judge}
-use Rattle.format.specs.declared.Answer.{Answer}
+use Rattle.format.specs.Returned.{Answer}
 use Rattle.reading.specs.Cursors.{Inside, left}
 use Rattle.reading.specs.Standing.{Stands}
 use Rattle.reading.specs.declared.Cursor.{Cursor}

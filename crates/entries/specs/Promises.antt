@@ -3,7 +3,7 @@ use Rattle.std.specs.Prelude.{ℕ, List}
 use Rattle.format.specs.Entries.{name_rows, item_rows, place_columns, hint_columns, Lists}
 use Rattle.format.specs.Metadata.{any_item, hint_item}
 use Rattle.format.specs.Names.{kind_in}
-use Rattle.format.specs.declared.Answer.{Answer}
+use Rattle.format.specs.Returned.{Answer}
 use Rattle.format.specs.declared.Edition.{Edition}
 
 -- entries::naming

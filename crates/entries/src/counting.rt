@@ -6,7 +6,7 @@ ghost use Rattle.reading.specs.Standing.{Known};
 ghost use Rattle.entries.specs.Counting.{Counts, four_fit, three_fit};
 
 use tables::finding::behind_table;
-use tables::stepping::{GroupStep, Rows, behind, group_step, rows_here};
+use tables::stepping::{Rows, behind, group_step, rows_here};
 
 // The rows of all groups to come.
 pub fn rows_in_groups(all: Rows, s: &[u8]) -> usize
@@ -15,19 +15,13 @@ pub fn rows_in_groups(all: Rows, s: &[u8]) -> usize
 {
     let mut left = all;
     let mut n: usize = 0;
-    loop {
-        match group_step(left, s) {
-            GroupStep::End => {
-                return n;
-            }
-            GroupStep::Group(_, place) => {
-                let group = rows_here(place, s);
-                n += group.more as usize;
-                let next = behind_table(place, s);
-                left = behind(left, next);
-            }
-        }
+    while let Some((_, place)) = group_step(left, s) {
+        let group = rows_here(place, s);
+        n += group.more as usize;
+        let next = behind_table(place, s);
+        left = behind(left, next);
     }
+    n
 }
 
 // Whether lists of these lengths take so many rows.

@@ -12,7 +12,7 @@ use crate::rows::Put;
 use crate::{found, too_short};
 use format::Answer;
 use reading::{Cursor, wide};
-use tables::stepping::{GroupStep, RowStep, Rows, behind, group_step, row_step, rows_here};
+use tables::stepping::{Rows, behind, group_step, row_step, rows_here};
 
 // The byte that a hint is.
 fn byte_of(part: Cursor, s: &[u8]) -> u32
@@ -56,20 +56,14 @@ fn put_function(
 {
     let mut left = all;
     let mut at = start;
-    loop {
-        match row_step(left, s) {
-            RowStep::End => {
-                let next = left.next;
-                return Put { at, next };
-            }
-            RowStep::Row(second, part, next) => {
-                let byte = byte_of(part, s);
-                put_hint(at, first, second, byte, firsts, seconds, likely);
-                at += 1;
-                left = behind(left, next);
-            }
-        }
+    while let Some((second, part, next)) = row_step(left, s) {
+        let byte = byte_of(part, s);
+        put_hint(at, first, second, byte, firsts, seconds, likely);
+        at += 1;
+        left = behind(left, next);
     }
+    let next = left.next;
+    Put { at, next }
 }
 
 // The hints of all functions to come.
@@ -79,18 +73,11 @@ fn put_functions(all: Rows, s: &[u8], firsts: &mut [u32], seconds: &mut [u32], l
 {
     let mut left = all;
     let mut at: usize = 0;
-    loop {
-        match group_step(left, s) {
-            GroupStep::End => {
-                return;
-            }
-            GroupStep::Group(first, place) => {
-                let group = rows_here(place, s);
-                let put = put_function(group, s, first, at, firsts, seconds, likely);
-                at = put.at;
-                left = behind(left, put.next);
-            }
-        }
+    while let Some((first, place)) = group_step(left, s) {
+        let group = rows_here(place, s);
+        let put = put_function(group, s, first, at, firsts, seconds, likely);
+        at = put.at;
+        left = behind(left, put.next);
     }
 }
 

@@ -4,7 +4,7 @@ ghost use Rattle.entries.specs.Promises.{EntriesListMetadata, EntriesListHints};
 
 use crate::hints::list_functions;
 use crate::maps::list_groups;
-use format::{Answer, Verdict, refusal_of};
+use format::Answer;
 use metadata::{judge, judge_hints};
 use reading::Cursor;
 
@@ -18,10 +18,7 @@ pub fn list_metadata(
 ) -> Answer
     ensures { EntriesListMetadata p.now (firsts.old ∷ seconds.old ∷ offsets.old ∷ lengths.old ∷ []) (firsts.new ∷ seconds.new ∷ offsets.new ∷ lengths.new ∷ []) result }
 {
-    let verdict = judge(p);
-    let Verdict::Accepted = verdict else {
-        return Answer::Refused(refusal_of(verdict));
-    };
+    judge(p)?;
     list_groups(Cursor::over(p), p, firsts, seconds, offsets, lengths)
 }
 
@@ -29,9 +26,6 @@ pub fn list_metadata(
 pub fn list_hints(p: &[u8], firsts: &mut [u32], seconds: &mut [u32], likely: &mut [u32]) -> Answer
     ensures { EntriesListHints p.now (firsts.old ∷ seconds.old ∷ likely.old ∷ []) (firsts.new ∷ seconds.new ∷ likely.new ∷ []) result }
 {
-    let verdict = judge_hints(p);
-    let Verdict::Accepted = verdict else {
-        return Answer::Refused(refusal_of(verdict));
-    };
+    judge_hints(p)?;
     list_functions(Cursor::over(p), p, firsts, seconds, likely)
 }

@@ -8,27 +8,26 @@ mod maps;
 pub mod naming;
 mod rows;
 
-ghost use Rattle.std.specs.Prelude.{◌≡◌};
-ghost use Rattle.format.specs.declared.Answer.TheVariants.{Found, Refused};
+ghost use Rattle.std.specs.Prelude.{◌≡◌, Ok, Err, Some};
 ghost use Rattle.format.specs.declared.Reason.TheVariants.{OutputTooShort};
 
 use format::{Answer, Offset, Place, Reason, Refusal};
 
 // So many rows, all of them in the lists.
 fn found(n: usize) -> Answer
-    ensures { result ≡ Found (record { offset = record { 0 = 0 }; length = n }) }
+    ensures { result ≡ Ok (Some (record { offset = record { 0 = 0 }; length = n })) }
 {
-    Answer::Found(Place {
+    Ok(Some(Place {
         offset: Offset(0),
         length: n,
-    })
+    }))
 }
 
 // So many rows, for which one of the lists is too short.
 fn too_short(n: usize) -> Answer
-    ensures { result ≡ Refused (record { reason = OutputTooShort; offset = record { 0 = n } }) }
+    ensures { result ≡ Err (record { reason = OutputTooShort; offset = record { 0 = n } }) }
 {
-    Answer::Refused(Refusal {
+    Err(Refusal {
         reason: Reason::OutputTooShort,
         offset: Offset(n),
     })

@@ -13,7 +13,7 @@ use crate::{found, too_short};
 use format::Answer;
 use reading::Cursor;
 use reading::again::part_here;
-use tables::stepping::{GroupStep, Rows, behind, group_step, rows_here};
+use tables::stepping::{Rows, behind, group_step, rows_here};
 
 // The one name that stands here, which has no index.
 pub fn list_one(
@@ -70,18 +70,11 @@ fn put_groups(
 {
     let mut left = all;
     let mut at: usize = 0;
-    loop {
-        match group_step(left, s) {
-            GroupStep::End => {
-                return;
-            }
-            GroupStep::Group(first, place) => {
-                let group = rows_here(place, s);
-                let put = put_rows(group, s, first, at, firsts, seconds, offsets, lengths);
-                at = put.at;
-                left = behind(left, put.next);
-            }
-        }
+    while let Some((first, place)) = group_step(left, s) {
+        let group = rows_here(place, s);
+        let put = put_rows(group, s, first, at, firsts, seconds, offsets, lengths);
+        at = put.at;
+        left = behind(left, put.next);
     }
 }
 

@@ -5,11 +5,10 @@ ghost use Rattle.entries.specs.Listing.{KnownContents, ListsContents};
 ghost use Rattle.entries.specs.Promises.{EntriesListNames};
 
 use crate::maps::{list_groups, list_map, list_one};
-use format::{Answer, Edition, Verdict, refusal_of};
+use format::{Answer, Edition};
 use names::judging::{find, judge};
 use names::kinds::{Kind, kind_of};
 use reading::Cursor;
-use tables::Held;
 
 // The contents there, by their kind. What is kept is not looked into, and has no rows.
 fn list_contents(
@@ -28,7 +27,7 @@ fn list_contents(
         Kind::OneName => list_one(part, s, firsts, seconds, offsets, lengths),
         Kind::NameMap => list_map(part, s, firsts, seconds, offsets, lengths),
         Kind::IndirectMap => list_groups(part, s, firsts, seconds, offsets, lengths),
-        Kind::Kept => Answer::None,
+        Kind::Kept => Ok(None),
     }
 }
 
@@ -44,13 +43,10 @@ pub fn list_names(
 ) -> Answer
     ensures { EntriesListNames p.now edition id (firsts.old ∷ seconds.old ∷ offsets.old ∷ lengths.old ∷ []) (firsts.new ∷ seconds.new ∷ offsets.new ∷ lengths.new ∷ []) result }
 {
-    let verdict = judge(p, edition);
-    let Verdict::Accepted = verdict else {
-        return Answer::Refused(refusal_of(verdict));
-    };
+    judge(p, edition)?;
     match find(p, Cursor::over(p), id) {
-        Held::Nothing => Answer::None,
-        Held::Part(part) => {
+        None => Ok(None),
+        Some(part) => {
             let kind = kind_of(edition, id);
             list_contents(kind, part, p, firsts, seconds, offsets, lengths)
         }

@@ -5,7 +5,7 @@ ghost use Rattle.writing.specs.Columns.{Room};
 ghost use Rattle.entries.specs.Putting.{AnyPart, Stores, RowsFit, PutsRows};
 
 use reading::Cursor;
-use tables::stepping::{RowStep, Rows, behind, row_step};
+use tables::stepping::{Rows, behind, row_step};
 
 // Where the lists go on, and the cursor behind what was put.
 #[derive(Clone, Copy)]
@@ -53,17 +53,11 @@ pub fn put_rows(
 {
     let mut left = all;
     let mut at = start;
-    loop {
-        match row_step(left, s) {
-            RowStep::End => {
-                let next = left.next;
-                return Put { at, next };
-            }
-            RowStep::Row(second, part, next) => {
-                put_row(at, first, second, part, firsts, seconds, offsets, lengths);
-                at += 1;
-                left = behind(left, next);
-            }
-        }
+    while let Some((second, part, next)) = row_step(left, s) {
+        put_row(at, first, second, part, firsts, seconds, offsets, lengths);
+        at += 1;
+        left = behind(left, next);
     }
+    let next = left.next;
+    Put { at, next }
 }

@@ -1,4 +1,5 @@
 -- The look at the lists: blocks that rise, the first position at fault, and the last marker not above the key.
+use Rattle.std.specs.Prelude.{Ok, Err, Some, None}
 use Prim.Native.Nat.{ℕ, zero, suc, ◌+◌, ◌-◌, ◌≤◌, ◌<◌}
 use mathlib.Core.Bool.{Bool, true, false, not, ◌&&◌}
 use mathlib.Core.List.{List}
@@ -13,7 +14,6 @@ use lib.ListN.{length, get_or}
 use Rattle.format.specs.MarkerRule.{AtFault, index_stays_lem, offset_stays_lem, not_below, NoFault, LastNotAbove, AllAbove}
 use Rattle.format.specs.Laws.Outcomes.{by_test, on_both, false_true}
 use Rattle.markers.specs.Looking.{Rises, SoundOn, Sound, Near, InBlocks, TellsFault, FaultBehind, LastFrom, Looks}
-use Rattle.markers.specs.declared.looking.Looked.TheVariants.{Fault, Nothing, Start}
 
 -- One number below the next, and two runs of which the second begins where the first ends
 rises_one : (l : List ℕ) (i : ℕ) → Rises l i 1 (ltb (get_or l i 0) (get_or l (i + 1) 0))
@@ -268,21 +268,21 @@ module _ {is os : List ℕ} {end : ℕ} (n : NoFault end is os) where
   }
 
 module _ {is os : List ℕ} {end key : ℕ} where
-  pub looks_empty : length is ≡ 0 → Looks is os end key Nothing
+  pub looks_empty : length is ≡ 0 → Looks is os end key (Ok None)
   looks_empty h = record { finds = (λ i l f. absurd (omega (arith, h, l)), λ i l. absurd (omega (arith, h, l))) }
 
-  pub looks_first : (length is ≡ 0 → ⊥) → {o : ℕ} → o ≡ get_or os 0 0 → end ≤ o → Looks is os end key (Fault 0)
+  pub looks_first : (length is ≡ 0 → ⊥) → {o : ℕ} → o ≡ get_or os 0 0 → end ≤ o → Looks is os end key (Err 0)
   looks_first n e l = record { finds = record { within = omega (arith, n); fault = not_below {i = 0} (omega (arith, e, l)); least = λ j m f. absurd (omega arith) } }
 
   module _ {fault : ℕ} (b : FaultBehind is os end fault) where
-    pub looks_fault : fault < length is → Looks is os end key (Fault fault)
+    pub looks_fault : fault < length is → Looks is os end key (Err fault)
     looks_fault h = record { finds = b.at_fault h }
 
     module _ (h : length is ≤ fault) where
-      pub looks_above : key < get_or is 0 0 → Looks is os end key Nothing
+      pub looks_above : key < get_or is 0 0 → Looks is os end key (Ok None)
       looks_above l = let n = b.no_fault h in record { finds = (n, all_above n key l) }
 
-      pub looks_at : {position near start : ℕ} → get_or is 0 0 ≤ key → InBlocks is os end key position near → LastFrom is near key start → Looks is os end key (Start (get_or os start 0))
+      pub looks_at : {position near start : ℕ} → get_or is 0 0 ≤ key → InBlocks is os end key position near → LastFrom is near key start → Looks is os end key (Ok (Some (get_or os start 0)))
       looks_at {start = start} l t s =
           let n = b.no_fault h in
           record { finds = (n, record { position = start; last = last_not_above n s (t.is_near.not_above l); is_offset = refl; below = below_end n start s.within }) }

@@ -1,4 +1,5 @@
 -- A whole payload: judged, then its markers made where its function names lie.
+use Rattle.std.specs.Prelude.{Ok, Err, Some, None}
 use Prim.Native.Nat.{ℕ, ◌≤◌, ◌<◌}
 use mathlib.Core.List.{List, []}
 use mathlib.Core.Option.{none, some}
@@ -6,7 +7,6 @@ use mathlib.Core.Path.{◌≡◌, refl, sym, ap, ◌∙◌}
 use native.Mathlib.Omega.{arith}
 use borrow.Author.Rules.{rules}
 use borrow.Author.Tests.{lt-ltb}
-use denote.Enum.Declared.{tag_of}
 use lib.ListN.{length}
 use lib.Seq.{length-slice}
 use Rattle.format.specs.Names.{Content, known_kind, known, contents, subsections, payload, judge_names}
@@ -14,32 +14,28 @@ use Rattle.format.specs.Numbers.{limit32}
 use Rattle.format.specs.Parts.{Part, remaining, sized}
 use Rattle.format.specs.Reading.{got, accepted, judge, verdict}
 use Rattle.format.specs.Tables.{Table, lookup, table}
-use Rattle.format.specs.Verdicts.{verdict_of, refusal_in}
+use Rattle.format.specs.Verdicts.{verdict_of}
 use Rattle.format.specs.Markers.{Entry, all_entries, thinned, Markers, unknown, functions_part, markers_of, unless_long, fitting_both, made, Makes}
 use Rattle.format.specs.Laws.Options.{not_some, some_is}
 use Rattle.format.specs.Laws.Outcomes.{accepted_is, judged, mapped, got_value}
 use Rattle.format.proofs.Laws.MarkerEntries.{all_read}
 use Rattle.format.proofs.Laws.MarkerParts.{payload_kept, end_of, MarkersIn, no_functions, of_functions, markers_stand}
 use Rattle.format.proofs.Laws.MarkersMade.{made_refused, made_long, made_fits}
-use Rattle.format.specs.declared.Answer.{Answer}
-use Rattle.format.specs.declared.Answer.TheVariants.{Found, Refused}
+use Rattle.format.specs.Returned.{Answer}
 use Rattle.format.specs.declared.Query.TheVariants.{ItsContents}
 use Rattle.format.specs.declared.Reason.TheVariants.{SubsectionTooLarge}
 use Rattle.format.specs.declared.Refusal.{Refusal}
-use Rattle.format.specs.declared.Verdict.{Verdict}
+use Rattle.format.specs.Returned.{Verdict}
 use Rattle.format.proofs.Tags.{judged_refused, judged_accepted}
-use Rattle.format.specs.contracts.Verdict as verdict_type
 use Rattle.reading.specs.Cursors.{left, over_all, part_of}
 use Rattle.reading.specs.Standing.{Stands, Known}
 use Rattle.reading.specs.declared.Cursor.{Cursor}
 use Rattle.reading.proofs.Laws.{left_all, over_inside}
-use Rattle.tables.specs.declared.Held.{Held}
-use Rattle.tables.specs.declared.Held.TheVariants.{Nothing, Part as At}
-use Rattle.tables.specs.contracts.Held as held_type
+use Rattle.tables.specs.Returned.{Held}
 use Rattle.names.specs.Contents.{asks_in}
 use Rattle.names.specs.Frames.{judge_frames, read_under}
 use Rattle.names.specs.Places.{sub_of, Finds, Stands as LiesAt}
-use Rattle.names.proofs.AskLaws.{as_absent, all_framed}
+use Rattle.names.proofs.AskLaws.{all_framed}
 use Rattle.names.proofs.ContentLaws.{map_stands}
 use Rattle.names.proofs.FrameLaws.{subsections_lie, asked_lies}
 use Rattle.writing.proofs.Laws.{wrote_nothing}
@@ -49,8 +45,8 @@ use Rattle.markers.proofs.MarkLaws.{makes_refused, makes_all}
 -- what is kept of a place is its part
 kept_part : (p : List ℕ) (place : Held) → asks_in (unknown 1) ItsContents (sub_of p place) ≡ accepted (sub_of p place)
 unfolding contents remaining
-kept_part p Nothing = refl
-kept_part p (At part) = refl
+kept_part p None = refl
+kept_part p (Some part) = refl
 
 -- the markers of the part that was found are the payload's
 module _ {p : List ℕ} {t : Table (Content Part)} where
@@ -69,11 +65,11 @@ module _ {p : List ℕ} {t : Table (Content Part)} where
       λ j. record { marked = thinned 0 (entries j); end = end j }
 
 module _ (p : List ℕ) (v : Verdict) (says : verdict_of v ≡ verdict (judge_names known_kind 0 p)) where
-  pub make_refused : {is os : List ℕ} {r : Refusal} → tag_of verdict_type.the_type v ≡ 1 → r ≡ refusal_in v → Makes (made p is os) is os is os (Refused r)
-  make_refused {is} {os} h e = rw e (makes_refused (made_refused p is os (judged_refused v (judge_names known_kind 0 p) says h)))
+  pub make_refused : {is os : List ℕ} {r : Refusal} → v ≡ Err r → Makes (made p is os) is os is os (Err r)
+  make_refused {is} {os} e = makes_refused (made_refused p is os (judged_refused v (judge_names known_kind 0 p) says e))
 
   -- an accepted one has markers
-  module _ (h : tag_of verdict_type.the_type v ≡ 0) where
+  module _ (h : v ≡ Ok tt) where
     record Holds : Type 0 where
       value : Table (Content Part)
       accepts : judge_names known_kind 0 p ≡ accepted value
@@ -87,7 +83,7 @@ module _ (p : List ℕ) (v : Verdict) (says : verdict_of v ≡ verdict (judge_na
         let (m, q, i) = markers_stand p e in
         record { value = t; accepts = e; its = m; own = q; there_are = i }
 
-    pub make_long : {is os : List ℕ} {r : Answer} → limit32 ≤ length p → r ≡ Refused (record { reason = SubsectionTooLarge; offset = record { 0 = 0 } }) → Makes (made p is os) is os is os r
+    pub make_long : {is os : List ℕ} {r : Answer} → limit32 ≤ length p → r ≡ Err (record { reason = SubsectionTooLarge; offset = record { 0 = 0 } }) → Makes (made p is os) is os is os r
     make_long {is} {os} far e = rw e (makes_refused (made_long p is os holds.own far))
 
     -- those of a short one are put where both lists fit
@@ -118,13 +114,13 @@ module _ (p : List ℕ) (v : Verdict) (says : verdict_of v ≡ verdict (judge_na
           let (u, e, _) = payload_kept known_kind 0 p holds.accepts in
           asked_lies unknown 1 ItsContents 0 p e there.framed ∙ ap (asks_in (unknown 1) ItsContents) (sym there.stands.is) ∙ kept_part p place
 
-      pub make_none : {is os : List ℕ} → tag_of held_type.the_type place ≡ 0 → length p < limit32 → Makes (made p is os) is os is os (Found (record { offset = record { 0 = 0 }; length = 0 }))
+      pub make_none : {is os : List ℕ} → place ≡ None → length p < limit32 → Makes (made p is os) is os is os (Ok (Some (record { offset = record { 0 = 0 }; length = 0 })))
       make_none {is} {os} q short =
-          let nothing : functions_part p ≡ accepted none = part_there ∙ ap (λ x. accepted (sub_of p x)) (as_absent place q) in
+          let nothing : functions_part p ≡ accepted none = part_there ∙ ap (λ x. accepted (sub_of p x)) q in
           let own = holds.own ∙ ap accepted (none_marked holds.there_are nothing) in
           makes_all (made_fits p is os own short (omega arith) (omega arith)) (wrote_nothing (omega arith)) (wrote_nothing (omega arith))
 
-      module _ {part : Cursor} (e : place ≡ At part) where
+      module _ {part : Cursor} (e : place ≡ Some part) where
         pub map_there : Known (table sized) p part
         unfolding known_kind known lookup
         map_there =

@@ -1,4 +1,5 @@
 -- The markers of a map that stands there: 13 where a list is too short, or all of them in both lists.
+use Rattle.std.specs.Prelude.{Ok, Err, Some}
 use Prim.Native.Nat.{ℕ, ◌+◌, ◌/◌, ◌≤◌, ◌<◌}
 use mathlib.Core.List.{List, [], ◌∷◌}
 use mathlib.Core.Path.{◌≡◌, refl, ◌∙◌}
@@ -14,8 +15,7 @@ use Rattle.format.specs.Parts.{sized}
 use Rattle.format.specs.Tables.{rows, table}
 use Rattle.format.specs.Markers.{Entry, entries, all_entries, thinned, Markers, indices_of, offsets_of, fitting_both, Makes}
 use Rattle.format.specs.Laws.Outcomes.{and_false}
-use Rattle.format.specs.declared.Answer.{Answer}
-use Rattle.format.specs.declared.Answer.TheVariants.{Found, Refused}
+use Rattle.format.specs.Returned.{Answer}
 use Rattle.format.specs.declared.Reason.TheVariants.{OutputTooShort}
 use Rattle.format.specs.declared.Refusal.{Refusal}
 use Rattle.reading.specs.Standing.{Stands, Known}
@@ -29,10 +29,10 @@ use Rattle.markers.specs.Making.{Room, PutsAll, Marks}
 use Rattle.markers.proofs.PutLaws.{as_entries, marks_of}
 
 -- The answer and both lists, refused and made
-pub makes_refused : {wanted : Judged Markers} {is os : List ℕ} {r : Refusal} → wanted ≡ refused (number_of r.reason) r.offset.0 → Makes wanted is os is os (Refused r)
+pub makes_refused : {wanted : Judged Markers} {is os : List ℕ} {r : Refusal} → wanted ≡ refused (number_of r.reason) r.offset.0 → Makes wanted is os is os (Err r)
 makes_refused e = record { says = rw e; indices = rw e; offsets = rw e }
 
-pub makes_all : {wanted : Judged Markers} {m : Markers} {is os is' os' : List ℕ} → wanted ≡ accepted m → Wrote is is' 0 (length m.marked) (indices_of m) → Wrote os os' 0 (length m.marked) (offsets_of m) → Makes wanted is os is' os' (Found (record { offset = record { 0 = m.end }; length = length m.marked }))
+pub makes_all : {wanted : Judged Markers} {m : Markers} {is os is' os' : List ℕ} → wanted ≡ accepted m → Wrote is is' 0 (length m.marked) (indices_of m) → Wrote os os' 0 (length m.marked) (offsets_of m) → Makes wanted is os is' os' (Ok (Some (record { offset = record { 0 = m.end }; length = length m.marked })))
 makes_all {m = m} e i o = record {
   says = rw e;
   indices = rw (e, length-map m.marked (λ (x : Entry). x.index)) i.written;
@@ -63,7 +63,7 @@ module _ {s : List ℕ} {c : Cursor} {all : Rows} (count : Stands number s c all
   unfolding all_entries
   all_stand w = record { inside = count.inside; reads = rw count.reads w.reads; behind = w.behind; same_end = w.same_end ∙ count.same_end }
 
-  pub marks_put : {is os is' os' : List ℕ} → PutsAll s all is os is' os' → Marks s c is os is' os' (Found (record { offset = record { 0 = c.end }; length = (all.more + 15) / 16 }))
+  pub marks_put : {is os is' os' : List ℕ} → PutsAll s all is os is' os' → Marks s c is os is' os' (Ok (Some (record { offset = record { 0 = c.end }; length = (all.more + 15) / 16 })))
   marks_put {is} {os} p =
       let made = makes_all (both_fit (length is) (length os) (record { marked = thinned 0 p.its; end = c.end }) p.indices.fits p.offsets.fits) p.indices p.offsets in
       record { its = p.its; last = p.last; stands = all_stand p.stands; makes = rw (marks_of all.more p.stands) at made }
@@ -88,10 +88,10 @@ module _ {s : List ℕ} {c : Cursor} {all : Rows} (count : Stands number s c all
           let none_there = no_marker (thinned 0 its.value) (omega (arith, many, h)) in
           record { its = its.value; last = its.next; stands = its.stands; indices = rw none_there (wrote_nothing (omega arith)); offsets = rw none_there (wrote_nothing (omega arith)) }
 
-      pub marks_none : (all.more + 15) / 16 ≤ 0 → Marks s c is os is os (Found (record { offset = record { 0 = c.end }; length = (all.more + 15) / 16 }))
+      pub marks_none : (all.more + 15) / 16 ≤ 0 → Marks s c is os is os (Ok (Some (record { offset = record { 0 = c.end }; length = (all.more + 15) / 16 })))
       marks_none h = marks_put (nothing_put h)
 
-      module _ {r : Answer} (q : r ≡ Refused (record { reason = OutputTooShort; offset = record { 0 = (all.more + 15) / 16 } })) where
+      module _ {r : Answer} (q : r ≡ Err (record { reason = OutputTooShort; offset = record { 0 = (all.more + 15) / 16 } })) where
         too_short : fitting_both (length is) (length os) (record { marked = thinned 0 its.value; end = c.end }) ≡ refused (number_of OutputTooShort) (length (thinned 0 its.value)) → Marks s c is os is os r
         too_short e = rw q (record { its = its.value; last = its.next; stands = all_stand its.stands; makes = makes_refused (e ∙ rw many) })
 

@@ -1,3 +1,4 @@
+pub mod Returned
 pub mod Passing
 pub mod Making
 pub mod Looking

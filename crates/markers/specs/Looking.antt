@@ -1,8 +1,7 @@
 -- What a look at the lists tells. Assumes nothing.
-use Rattle.std.specs.Prelude.{ℕ, ◌+◌, ◌≤◌, ◌<◌, Bool, true, false, List, ◌≡◌, length, get_or}
+use Rattle.std.specs.Prelude.{ℕ, ◌+◌, ◌≤◌, ◌<◌, Bool, true, false, List, ◌≡◌, length, get_or, Ok, Err, Some, None}
 use Rattle.format.specs.MarkerRule.{AtFault, FirstFault, NoFault, LastNotAbove, AllAbove}
-use Rattle.markers.specs.declared.looking.Looked.{Looked}
-use Rattle.markers.specs.declared.looking.Looked.TheVariants.{Fault, Nothing, Start}
+use Rattle.markers.specs.Returned.{Looked}
 
 -- each of `n` numbers from `i` on is below the one behind it
 pub record Rises (list : List ℕ) (i n : ℕ) (told : Bool) : Type 0 where
@@ -52,9 +51,9 @@ pub record Begins (is os : List ℕ) (end key o : ℕ) : Type 0 where
   pub below : o < end
 
 abbrev pub looked : (is os : List ℕ) (end key : ℕ) → Looked → Type 0
-looked is os end key (Fault i) = FirstFault end is os i
-looked is os end key Nothing = NoFault end is os × AllAbove key is
-looked is os end key (Start o) = NoFault end is os × Begins is os end key o
+looked is os end key (Err i) = FirstFault end is os i
+looked is os end key (Ok None) = NoFault end is os × AllAbove key is
+looked is os end key (Ok (Some o)) = NoFault end is os × Begins is os end key o
 
 pub record Looks (is os : List ℕ) (end key : ℕ) (r : Looked) : Type 0 where
   pub finds : looked is os end key r

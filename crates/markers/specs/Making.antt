@@ -4,7 +4,7 @@ use Rattle.format.specs.Numbers.{limit32}
 use Rattle.format.specs.Parts.{sized}
 use Rattle.format.specs.Tables.{rows}
 use Rattle.format.specs.Markers.{Entry, entries, all_entries, thinned, fitting_both, Makes}
-use Rattle.format.specs.declared.Answer.{Answer}
+use Rattle.format.specs.Returned.{Answer}
 use Rattle.reading.specs.Standing.{Stands, Known}
 use Rattle.reading.specs.declared.Cursor.{Cursor}
 use Rattle.tables.specs.declared.stepping.Rows.{Rows}

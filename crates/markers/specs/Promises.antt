@@ -2,7 +2,7 @@
 use Rattle.std.specs.Prelude.{ℕ, List, ◌≡◌}
 use Rattle.format.specs.Markers.{made, Makes, quick}
 use Rattle.format.specs.Questions.{answered, as_place}
-use Rattle.format.specs.declared.Answer.{Answer}
+use Rattle.format.specs.Returned.{Answer}
 use Rattle.format.specs.declared.FunctionIndex.{FunctionIndex}
 
 -- markers::making

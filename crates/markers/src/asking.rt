@@ -3,32 +3,28 @@ ghost use Rattle.reading.specs.Cursors.{Inside};
 ghost use Rattle.markers.specs.Asking.{EntryReads, FindsFirst};
 ghost use Rattle.markers.specs.Promises.{MarkersQuick};
 
-use crate::looking::{Looked, look};
+use crate::looking::look;
 use crate::{STRIDE, TOO_LONG, refused};
 use format::{Answer, FunctionIndex, Reason};
-use reading::{Cursor, NumberRead, PartRead};
+use reading::Cursor;
 use tables::Held;
 use tables::finding::answer_of;
 
 // What reading an entry finds: its index, its text and the cursor behind it; or that it can't be read whole.
-#[derive(Clone, Copy)]
-pub enum EntryRead {
-    Nothing,
-    Entry(u32, Cursor, Cursor),
-}
+pub type EntryRead = Option<(u32, Cursor, Cursor)>;
 
 // An entry: a number and a sized part. Its text is not checked.
 fn entry(c: Cursor, s: &[u8]) -> EntryRead
     requires { Inside s.now c }
     ensures { EntryReads s.now c result }
 {
-    match c.number(s) {
-        NumberRead::Refused(_) => EntryRead::Nothing,
-        NumberRead::Value(index, behind, _) => match behind.sized(s) {
-            PartRead::Refused(_) => EntryRead::Nothing,
-            PartRead::Part(text, next, _) => EntryRead::Entry(index, text, next),
-        },
-    }
+    let Ok((index, behind, _)) = c.number(s) else {
+        return None;
+    };
+    let Ok((text, next, _)) = behind.sized(s) else {
+        return None;
+    };
+    Some((index, text, next))
 }
 
 // The text of the first entry with the key among sixteen that begin here. What can't be read whole ends it, and nothing else does.
@@ -39,20 +35,14 @@ fn first_with(c: Cursor, s: &[u8], key: u32) -> Held
     let mut next = c;
     let mut more: u32 = STRIDE;
     while 0 < more {
-        match entry(next, s) {
-            EntryRead::Nothing => {
-                return Held::Nothing;
-            }
-            EntryRead::Entry(index, text, behind) => {
-                if index == key {
-                    return Held::Part(text);
-                }
-                next = behind;
-            }
+        let (index, text, behind) = entry(next, s)?;
+        if index == key {
+            return Some(text);
         }
+        next = behind;
         more -= 1;
     }
-    Held::Nothing
+    None
 }
 
 // Any bytes, with any lists: these are looked at once, and of the payload sixteen entries at most.
@@ -79,14 +69,16 @@ pub fn quick(
         return refused(Reason::NotMarkers, count);
     }
     match look(indices, offsets, end, function.0) {
-        Looked::Fault(position) => refused(Reason::NotMarkers, position),
-        Looked::Nothing => Answer::None,
-        Looked::Start(at) => {
-            let marker = Cursor {
-                at: at as usize,
-                end: end as usize,
-            };
-            answer_of(first_with(marker, p, function.0))
-        }
+        Err(position) => refused(Reason::NotMarkers, position),
+        Ok(start) => match start {
+            None => Ok(None),
+            Some(at) => {
+                let marker = Cursor {
+                    at: at as usize,
+                    end: end as usize,
+                };
+                answer_of(first_with(marker, p, function.0))
+            }
+        },
     }
 }

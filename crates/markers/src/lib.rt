@@ -6,8 +6,7 @@ mod looking;
 pub mod making;
 mod passing;
 
-ghost use Rattle.std.specs.Prelude.{◌≡◌};
-ghost use Rattle.format.specs.declared.Answer.TheVariants.{Refused};
+ghost use Rattle.std.specs.Prelude.{◌≡◌, Err};
 
 use format::{Answer, Offset, Reason, Refusal};
 
@@ -19,9 +18,9 @@ const TOO_LONG: usize = 1 << 32;
 
 // A refusal for a reason, at an offset, a position or a count.
 fn refused(reason: Reason, at: usize) -> Answer
-    ensures { result ≡ Refused (record { reason = reason; offset = record { 0 = at } }) }
+    ensures { result ≡ Err (record { reason = reason; offset = record { 0 = at } }) }
 {
-    Answer::Refused(Refusal {
+    Err(Refusal {
         reason,
         offset: Offset(at),
     })

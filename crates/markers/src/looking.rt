@@ -9,13 +9,8 @@ const HALF: usize = 8;
 
 const BLOCK: usize = 16;
 
-// What a look finds: a position at fault, no marker that is not above the key, or the offset of the last one.
-#[derive(Clone, Copy)]
-pub enum Looked {
-    Fault(usize),
-    Nothing,
-    Start(u32),
-}
+// What a look finds: the offset of the last marker that is not above the key, or none; or the first position at fault.
+pub type Looked = Result<Option<u32>, usize>;
 
 // How far the lists are in order, a block at a time; and where the last block that begins not above the key does.
 #[derive(Clone, Copy)]
@@ -151,19 +146,19 @@ pub fn look(indices: &[u32], offsets: &[u32], end: u64, key: u32) -> Looked
     ensures { Looks indices.now offsets.now end key result }
 {
     if indices.len() == 0 {
-        return Looked::Nothing;
+        return Ok(None);
     }
     if end <= wide(offsets[0]) {
-        return Looked::Fault(0);
+        return Err(0);
     }
     let reached = in_blocks(indices, offsets, end, key);
     let fault = fault_behind(indices, offsets, end, reached.position);
     if fault < indices.len() {
-        return Looked::Fault(fault);
+        return Err(fault);
     }
     if key < indices[0] {
-        return Looked::Nothing;
+        return Ok(None);
     }
     let start = last_from(indices, reached.near, key);
-    Looked::Start(offsets[start])
+    Ok(Some(offsets[start]))
 }

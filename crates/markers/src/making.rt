@@ -9,10 +9,9 @@ ghost use Rattle.markers.specs.Promises.{MarkersMake};
 
 use crate::passing::{index_here, sixteen_on};
 use crate::{STRIDE, TOO_LONG, refused};
-use format::{Answer, Edition, FUNCTION_NAMES, Offset, Place, Reason, Verdict, refusal_of};
+use format::{Answer, Edition, FUNCTION_NAMES, Offset, Place, Reason};
 use names::judging::{find, judge};
 use reading::Cursor;
-use tables::Held;
 use tables::stepping::{Rows, rows_here};
 
 // Puts index and offset of every sixteenth entry into the lists, which have room.
@@ -55,30 +54,27 @@ fn mark(c: Cursor, s: &[u8], indices: &mut [u32], offsets: &mut [u32]) -> Answer
     if 0 < count {
         put_markers(all, s, indices, offsets);
     }
-    Answer::Found(Place {
+    Ok(Some(Place {
         offset: Offset(end),
         length: count,
-    })
+    }))
 }
 
 // The payload is judged whole, and only then are the lists touched.
 pub fn make(p: &[u8], indices: &mut [u32], offsets: &mut [u32]) -> Answer
     ensures { MarkersMake p.now indices.old offsets.old indices.new offsets.new result }
 {
-    let verdict = judge(p, Edition::First);
-    let Verdict::Accepted = verdict else {
-        return Answer::Refused(refusal_of(verdict));
-    };
+    judge(p, Edition::First)?;
     // looked for before the length is: behind that test the loop takes an instruction more a name
     let place = find(p, Cursor::over(p), FUNCTION_NAMES);
     if TOO_LONG <= p.len() {
         return refused(Reason::SubsectionTooLarge, 0);
     }
     match place {
-        Held::Nothing => Answer::Found(Place {
+        None => Ok(Some(Place {
             offset: Offset(0),
             length: 0,
-        }),
-        Held::Part(part) => mark(part, p, indices, offsets),
+        })),
+        Some(part) => mark(part, p, indices, offsets),
     }
 }

@@ -1,2 +1,3 @@
+pub mod Returned
 pub mod Maps
 pub mod Promises

@@ -5,19 +5,13 @@ pub mod functions;
 pub mod locals;
 mod maps;
 
-use format::Refusal;
-
 // The subsection whose map has the names of functions, and the one that has a map of local names for each function.
 const FUNCTION_NAMES: u8 = 1;
 
 const LOCAL_NAMES: u8 = 2;
 
 // The nearest mapped index on one side, if any.
-#[derive(Clone, Copy)]
-pub enum Neighbour {
-    Nothing,
-    Index(u32),
-}
+pub type Neighbour = Option<u32>;
 
 // Where a name stands, its subsection and its position in its map; or why there is none, with the neighbours below and above.
 #[derive(Clone, Copy)]
@@ -26,5 +20,4 @@ pub enum Why {
     NoSubsection,
     NoGroup,
     NoEntry(Neighbour, Neighbour),
-    Refused(Refusal),
 }

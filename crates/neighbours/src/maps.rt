@@ -4,10 +4,10 @@ ghost use Rattle.format.specs.Tables.{table};
 ghost use Rattle.reading.specs.Standing.{Known};
 ghost use Rattle.neighbours.specs.Maps.{SaysInMap, SaysInGroup};
 
-use crate::{LOCAL_NAMES, Neighbour, Why};
+use crate::{LOCAL_NAMES, Why};
 use reading::Cursor;
 use tables::finding::behind_table;
-use tables::stepping::{GroupStep, RowStep, behind, group_step, row_step, rows_here};
+use tables::stepping::{behind, group_step, row_step, rows_here};
 
 // The index `key` in the map that stands here, in the subsection with an id.
 pub fn entry(c: Cursor, s: &[u8], id: u8, key: u32) -> Why
@@ -15,26 +15,20 @@ pub fn entry(c: Cursor, s: &[u8], id: u8, key: u32) -> Why
     ensures { SaysInMap id key s.now c result }
 {
     let mut left = rows_here(c, s);
-    let mut below = Neighbour::Nothing;
+    let mut below = None;
     let mut position: u32 = 0;
-    loop {
-        match row_step(left, s) {
-            RowStep::End => {
-                return Why::NoEntry(below, Neighbour::Nothing);
+    while let Some((k, _, next)) = row_step(left, s) {
+        if key <= k {
+            if key == k {
+                return Why::Named(id, position);
             }
-            RowStep::Row(k, _, next) => {
-                if key <= k {
-                    if key == k {
-                        return Why::Named(id, position);
-                    }
-                    return Why::NoEntry(below, Neighbour::Index(k));
-                }
-                below = Neighbour::Index(k);
-                position = position + 1;
-                left = behind(left, next);
-            }
+            return Why::NoEntry(below, Some(k));
         }
+        below = Some(k);
+        position = position + 1;
+        left = behind(left, next);
     }
+    Why::NoEntry(below, None)
 }
 
 // The index `inner` in the map of the group `key`, among the groups that stand here.
@@ -43,21 +37,15 @@ pub fn entry_within(c: Cursor, s: &[u8], key: u32, inner: u32) -> Why
     ensures { SaysInGroup key inner s.now c result }
 {
     let mut left = rows_here(c, s);
-    loop {
-        match group_step(left, s) {
-            GroupStep::End => {
-                return Why::NoGroup;
+    while let Some((k, place)) = group_step(left, s) {
+        if key <= k {
+            if key == k {
+                return entry(place, s, LOCAL_NAMES, inner);
             }
-            GroupStep::Group(k, place) => {
-                if key <= k {
-                    if key == k {
-                        return entry(place, s, LOCAL_NAMES, inner);
-                    }
-                    return Why::NoGroup;
-                }
-                let next = behind_table(place, s);
-                left = behind(left, next);
-            }
+            return Why::NoGroup;
         }
+        let next = behind_table(place, s);
+        left = behind(left, next);
     }
+    Why::NoGroup
 }

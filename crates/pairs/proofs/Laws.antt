@@ -1,7 +1,7 @@
 -- Which payload answers, case by case, and that what is handed back is the very bytes of it.
+use Rattle.std.specs.Prelude.{Ok, Err, Some, None}
 use Prim.Native.Nat.{ℕ, ◌+◌}
 use mathlib.Core.List.{List, []}
-use mathlib.Core.Logic.{◌⊎◌, ⊎_elim}
 use mathlib.Core.Option.{Option, none, some}
 use mathlib.Core.Path.{◌≡◌, refl, sym, ap, ◌∙◌}
 use native.Mathlib.Omega.{arith}
@@ -13,31 +13,21 @@ use Rattle.format.specs.Parts.{Part}
 use Rattle.format.specs.Questions.{id_of, query_of, answer, asked, ask_at, ask, as_place, as_bytes, start_of, answered}
 use Rattle.format.specs.Reading.{Judged, accepted, refused, map_judged, verdict}
 use Rattle.format.specs.Verdicts.{verdict_of}
-use Rattle.format.specs.declared.Answer.{Answer}
-use Rattle.format.specs.declared.Answer.TheVariants.{None, Found, Refused}
-use Rattle.format.specs.declared.PairAnswer.{PairAnswer}
-use Rattle.format.specs.declared.PairAnswer.TheVariants.{None as NoName, Found as FoundIn, Refused as RefusedBy}
+use Rattle.format.specs.Returned.{Answer}
+use Rattle.format.specs.Returned.{PairAnswer}
 use Rattle.format.specs.declared.Place.{Place}
 use Rattle.format.specs.declared.Question.{Question}
 use Rattle.format.specs.declared.Refusal.{Refusal}
-use Rattle.format.specs.declared.Verdict.{Verdict}
-use Rattle.format.specs.declared.Verdict.TheVariants.{Accepted, Refused as NotAccepted}
+use Rattle.format.specs.Returned.{Verdict}
 use Rattle.format.specs.declared.Whose.{Whose}
 use Rattle.format.specs.declared.Whose.TheVariants.{Separate, Own}
-use Rattle.format.specs.contracts.Answer as answer_type
-use Rattle.format.specs.contracts.PairAnswer as pair_type
-use Rattle.format.proofs.Tags.{no_answer}
-use Rattle.format.specs.contracts.Verdict as verdict_type
+use Rattle.format.proofs.Nested.{nested}
 use Rattle.format.specs.contracts.Whose as whose_type
 use Rattle.names.proofs.TakenLaws.{question_bytes, question_start}
 use Rattle.reading.specs.Taken.{Takes}
 use Rattle.pairs.specs.Settling.{own_answer, beside_own, HandsBack}
 
 -- An arm that binds nothing gives the tag alone
-as_accepted : (v : Verdict) → tag_of verdict_type.the_type v ≡ 0 → v ≡ Accepted
-as_accepted Accepted h = refl
-as_accepted (NotAccepted r) h = absurd (omega arith)
-
 as_separate : (w : Whose) → tag_of whose_type.the_type w ≡ 0 → w ≡ Separate
 as_separate Separate h = refl
 as_separate Own h = absurd (omega arith)
@@ -48,22 +38,22 @@ as_own Own h = refl
 
 -- The own payload's answer, and a name beside it
 module _ (a : Answer) where
-  pub own_none : tag_of answer_type.the_type a ≡ 0 → NoName ≡ own_answer a
-  own_none h = rw (no_answer a h)
+  pub own_none : a ≡ Ok None → Ok None ≡ own_answer a
+  own_none e = rw e
 
-  pub own_found : {p : Place} → a ≡ Found p → FoundIn Own p ≡ own_answer a
+  pub own_found : {p : Place} → a ≡ Ok (Some p) → Ok (Some (Own, p)) ≡ own_answer a
   own_found e = rw e
 
-  pub own_refused : {r : Refusal} → a ≡ Refused r → RefusedBy Own r ≡ own_answer a
+  pub own_refused : {r : Refusal} → a ≡ Err r → Err (Own, r) ≡ own_answer a
   own_refused e = rw e
 
-pub ruleset owns = (own_none, own_found, own_refused, rules)
+pub ruleset owns = (own_none, own_found, own_refused, nested, rules)
 
 module _ (p : Place) (v : Verdict) where
-  pub beside_accepted : tag_of verdict_type.the_type v ≡ 0 → FoundIn Separate p ≡ beside_own p v
-  beside_accepted h = rw (as_accepted v h)
+  pub beside_accepted : v ≡ Ok tt → Ok (Some (Separate, p)) ≡ beside_own p v
+  beside_accepted e = rw e
 
-  pub beside_refused : {r : Refusal} → v ≡ NotAccepted r → RefusedBy Own r ≡ beside_own p v
+  pub beside_refused : {r : Refusal} → v ≡ Err r → Err (Own, r) ≡ beside_own p v
   beside_refused e = rw e
 
 pub ruleset besides = (beside_accepted, beside_refused, rules)
@@ -79,13 +69,13 @@ says_separate p (accepted x) = agreed (some (record { whose = Separate; value = 
 says_separate p (refused n at) = refused_by Own n at
 
 own_says : (a : Answer) → pair_answered (own_answer a) ≡ says_own (answered a)
-own_says None = refl
-own_says (Found p) = refl
-own_says (Refused r) = refl
+own_says (Ok None) = refl
+own_says (Ok (Some p)) = refl
+own_says (Err r) = refl
 
 beside_says : (p : Place) (v : Verdict) → pair_answered (beside_own p v) ≡ says_separate p (verdict_of v)
-beside_says p Accepted = refl
-beside_says p (NotAccepted r) = refl
+beside_says p (Ok _) = refl
+beside_says p (Err r) = refl
 
 -- a name or none is not the other, and neither is a refusal
 not_none : {p : Place} → ◌≡◌ {A = Judged (Option Place)} (accepted (some p)) (accepted none) → ⊥
@@ -123,16 +113,16 @@ refused_first (refused n at) k e = again e
 
 -- THE QUESTION
 module _ (kind_of : ℕ → Kind) (q : Question) (s o : List ℕ) (a : Answer) (e : answered a ≡ as_place (ask kind_of q s)) where
-  pub pair_refused : {r : Refusal} → a ≡ Refused r → pair_answered (RefusedBy Separate r) ≡ as_places (ask_pair kind_of q s o)
+  pub pair_refused : {r : Refusal} → a ≡ Err r → pair_answered (Err (Separate, r)) ≡ as_places (ask_pair kind_of q s o)
   unfolding ask_pair
   pair_refused h = sym (refused_first (ask kind_of q s) (ask kind_of q o) (sym e ∙ ap answered h))
 
-  pub pair_own : (b : Answer) {r : PairAnswer} → tag_of answer_type.the_type a ≡ 0 → answered b ≡ as_place (ask kind_of q o) → r ≡ own_answer b → pair_answered r ≡ as_places (ask_pair kind_of q s o)
+  pub pair_own : (b : Answer) {r : PairAnswer} → a ≡ Ok None → answered b ≡ as_place (ask kind_of q o) → r ≡ own_answer b → pair_answered r ≡ as_places (ask_pair kind_of q s o)
   unfolding ask_pair
   pair_own b h f is =
-      ap pair_answered is ∙ own_says b ∙ ap says_own f ∙ sym (without_name (ask kind_of q s) (ask kind_of q o) (sym e ∙ ap answered (no_answer a h)))
+      ap pair_answered is ∙ own_says b ∙ ap says_own f ∙ sym (without_name (ask kind_of q s) (ask kind_of q o) (sym e ∙ ap answered h))
 
-  pub pair_separate : {p : Place} (v : Verdict) {r : PairAnswer} → a ≡ Found p → verdict_of v ≡ verdict (judge_names kind_of 0 o) → r ≡ beside_own p v → pair_answered r ≡ as_places (ask_pair kind_of q s o)
+  pub pair_separate : {p : Place} (v : Verdict) {r : PairAnswer} → a ≡ Ok (Some p) → verdict_of v ≡ verdict (judge_names kind_of 0 o) → r ≡ beside_own p v → pair_answered r ≡ as_places (ask_pair kind_of q s o)
   unfolding ask_pair ask ask_at asked
   pair_separate {p} v h f is =
       ap pair_answered is ∙ beside_says p v ∙ ap (says_separate p) (f ∙ judged_so (answer (id_of q) (query_of q)) (judge_names kind_of 0 o)) ∙ sym (with_name (ask kind_of q s) (ask kind_of q o) (sym e ∙ ap answered h))
@@ -141,22 +131,23 @@ module _ (kind_of : ℕ → Kind) (q : Question) (s o : List ℕ) (a : Answer) (
       judged_so f (accepted x) = refl
       judged_so f (refused n at) = refl
 
-pub ruleset settles = (pair_refused, pair_own, pair_separate, rules)
+pub ruleset settles = (pair_refused, pair_own, pair_separate, nested, rules)
 
 -- WHAT IS HANDED BACK. The part at the place, of the one that supplied it
 module _ {s o : List ℕ} {at_s at_o : ℕ × ℕ} {a : PairAnswer} where
-  pub hands_separate : {w : Whose} {p : Place} {bytes : List ℕ} {begins : ℕ × ℕ} → a ≡ FoundIn w p → tag_of whose_type.the_type w ≡ 0 → Takes s at_s (Found p) bytes begins → HandsBack s o at_s at_o a bytes begins
+  pub hands_separate : {w : Whose} {p : Place} {bytes : List ℕ} {begins : ℕ × ℕ} → a ≡ Ok (Some (w, p)) → tag_of whose_type.the_type w ≡ 0 → Takes s at_s (Ok (Some p)) bytes begins → HandsBack s o at_s at_o a bytes begins
   hands_separate {w} e h t = let is : w ≡ Separate = as_separate w h in record { part = rw (e, is) t }
 
-  pub hands_own : {w : Whose} {p : Place} {bytes : List ℕ} {begins : ℕ × ℕ} → a ≡ FoundIn w p → tag_of whose_type.the_type w ≡ 1 → Takes o at_o (Found p) bytes begins → HandsBack s o at_s at_o a bytes begins
+  pub hands_own : {w : Whose} {p : Place} {bytes : List ℕ} {begins : ℕ × ℕ} → a ≡ Ok (Some (w, p)) → tag_of whose_type.the_type w ≡ 1 → Takes o at_o (Ok (Some p)) bytes begins → HandsBack s o at_s at_o a bytes begins
   hands_own {w} e h t = let is : w ≡ Own = as_own w h in record { part = rw (e, is) t }
 
-pub hands_nothing : {s o : List ℕ} {at_s at_o : ℕ × ℕ} (a : PairAnswer) → ((w : Whose) (p : Place) → a ≡ FoundIn w p → ⊥) → HandsBack s o at_s at_o a [] at_s
-hands_nothing NoName h = record { part = (refl, refl) }
-hands_nothing (FoundIn w p) h = absurd (h w p refl)
-hands_nothing (RefusedBy w r) h = record { part = (refl, refl) }
+  pub hands_none : a ≡ Ok None → HandsBack s o at_s at_o a [] at_s
+  hands_none e = record { part = rw e (refl, refl) }
 
-pub ruleset hands = (hands_separate, hands_own, hands_nothing, rules)
+  pub hands_refused : {x : Whose × Refusal} → a ≡ Err x → HandsBack s o at_s at_o a [] at_s
+  hands_refused {x = (w, r)} e = record { part = rw e (refl, refl) }
+
+pub ruleset hands = (hands_separate, hands_own, hands_none, hands_refused, nested, rules)
 
 -- What was answered tells which payload has the name: as that one alone would answer
 abbrev from_one : Whose → (separate own : Judged (Option Place)) → Judged (Option Place)
@@ -229,14 +220,14 @@ handed_nothing (refused_by w n at) e b g = record { bytes_are = b; begins_there 
 module _ (kind_of : ℕ → Kind) (q : Question) (s o : List ℕ) {at_s at_o begins : ℕ × ℕ} {bytes : List ℕ} where
   handed : (a : PairAnswer) → pair_answered a ≡ as_places (ask_pair kind_of q s o) → HandsBack s o at_s at_o a bytes begins → Handed (ask_pair kind_of q s o) at_s at_o bytes begins
   unfolding ask_pair
-  handed NoName e h = let (b, g) = h.part in handed_nothing (both_judged first_of (ask kind_of q s) (ask kind_of q o)) (ap named e) b g
-  handed (FoundIn Separate p) e h =
+  handed (Ok None) e h = let (b, g) = h.part in handed_nothing (both_judged first_of (ask kind_of q s) (ask kind_of q o)) (ap named e) b g
+  handed (Ok (Some (Separate, p))) e h =
       let one = supplied_separate (ask kind_of q s) (ask kind_of q o) (ap from_separate e) in
-      handed_separate (ask kind_of q s) (ask kind_of q o) (ap from_separate e) (question_bytes kind_of q s (Found p) one h.part) (question_start kind_of q s (Found p) one h.part)
-  handed (FoundIn Own p) e h =
+      handed_separate (ask kind_of q s) (ask kind_of q o) (ap from_separate e) (question_bytes kind_of q s (Ok (Some p)) one h.part) (question_start kind_of q s (Ok (Some p)) one h.part)
+  handed (Ok (Some (Own, p))) e h =
       let one = supplied_own (ask kind_of q s) (ask kind_of q o) (ap from_own e) in
-      handed_own (ask kind_of q s) (ask kind_of q o) (ap from_own e) (question_bytes kind_of q o (Found p) one h.part) (question_start kind_of q o (Found p) one h.part)
-  handed (RefusedBy w r) e h = let (b, g) = h.part in handed_nothing (both_judged first_of (ask kind_of q s) (ask kind_of q o)) (ap named e) b g
+      handed_own (ask kind_of q s) (ask kind_of q o) (ap from_own e) (question_bytes kind_of q o (Ok (Some p)) one h.part) (question_start kind_of q o (Ok (Some p)) one h.part)
+  handed (Err (w, r)) e h = let (b, g) = h.part in handed_nothing (both_judged first_of (ask kind_of q s) (ask kind_of q o)) (ap named e) b g
 
   pub very_bytes : (a : PairAnswer) → pair_answered a ≡ as_places (ask_pair kind_of q s o) → HandsBack s o at_s at_o a bytes begins → bytes ≡ supplied_bytes (ask_pair kind_of q s o)
   very_bytes a e h = (handed a e h).bytes_are

@@ -3,7 +3,7 @@ use Rattle.std.specs.Prelude.{ℕ, List, ◌≡◌}
 use Rattle.format.specs.Names.{kind_in}
 use Rattle.format.specs.Pairs.{ask_pair, as_places, supplied_bytes, supplied_from, pair_answered}
 use Rattle.format.specs.declared.Edition.{Edition}
-use Rattle.format.specs.declared.PairAnswer.{PairAnswer}
+use Rattle.format.specs.Returned.{PairAnswer}
 use Rattle.format.specs.declared.Question.{Question}
 
 -- pairs

@@ -14,9 +14,11 @@ fn of_own(answer: Answer) -> PairAnswer
     ensures { result ≡ own_answer answer }
 {
     match answer {
-        Answer::None => PairAnswer::None,
-        Answer::Found(place) => PairAnswer::Found(Whose::Own, place),
-        Answer::Refused(r) => PairAnswer::Refused(Whose::Own, r),
+        Err(r) => Err((Whose::Own, r)),
+        Ok(found) => match found {
+            None => Ok(None),
+            Some(place) => Ok(Some((Whose::Own, place))),
+        },
     }
 }
 
@@ -25,8 +27,8 @@ fn of_separate(place: Place, own: Verdict) -> PairAnswer
     ensures { result ≡ beside_own place own }
 {
     match own {
-        Verdict::Accepted => PairAnswer::Found(Whose::Separate, place),
-        Verdict::Refused(r) => PairAnswer::Refused(Whose::Own, r),
+        Err(refusal) => Err((Whose::Own, refusal)),
+        Ok(()) => Ok(Some((Whose::Separate, place))),
     }
 }
 
@@ -35,9 +37,11 @@ pub fn ask(separate: &[u8], own: &[u8], edition: Edition, q: Question) -> PairAn
     ensures { PairsAsk separate.now own.now edition q result }
 {
     match names::ask(separate, edition, q) {
-        Answer::Refused(r) => PairAnswer::Refused(Whose::Separate, r),
-        Answer::None => of_own(names::ask(own, edition, q)),
-        Answer::Found(place) => of_separate(place, judge(own, edition)),
+        Err(r) => Err((Whose::Separate, r)),
+        Ok(found) => match found {
+            None => of_own(names::ask(own, edition, q)),
+            Some(place) => of_separate(place, judge(own, edition)),
+        },
     }
 }
 
@@ -45,12 +49,16 @@ pub fn ask(separate: &[u8], own: &[u8], edition: Edition, q: Question) -> PairAn
 fn part<'a>(separate: &'a [u8], own: &'a [u8], answer: PairAnswer) -> &'a [u8]
     ensures { HandsBack separate.now own.now separate.entry.ref_ptr own.entry.ref_ptr answer result.now result.ref_ptr }
 {
-    match answer {
-        PairAnswer::Found(whose, place) => match whose {
-            Whose::Separate => taken(separate, Answer::Found(place)),
-            Whose::Own => taken(own, Answer::Found(place)),
-        },
-        _ => &separate[..0],
+    let nothing = &separate[..0];
+    let Ok(found) = answer else {
+        return nothing;
+    };
+    let Some((whose, place)) = found else {
+        return nothing;
+    };
+    match whose {
+        Whose::Separate => taken(separate, Ok(Some(place))),
+        Whose::Own => taken(own, Ok(Some(place))),
     }
 }
 

@@ -1,4 +1,5 @@
 -- A part and the finish: one law for each way through the code.
+use Rattle.std.specs.Prelude.{Ok}
 use Prim.Native.Nat.{ℕ, zero, suc, ◌+◌, ◌-◌, ◌≤◌, ◌<◌}
 use mathlib.Core.Bool.{Bool, true, false, not}
 use mathlib.Core.List.{List}
@@ -13,7 +14,6 @@ use Rattle.format.specs.Reading.{accepted, refused}
 use Rattle.format.specs.Walk.{preamble}
 use Rattle.format.specs.Laws.Outcomes.{on_both, by_test}
 use Rattle.format.specs.declared.Reason.TheVariants.{AfterFinish, TotalTooLarge}
-use Rattle.format.specs.declared.Verdict.TheVariants.{Accepted}
 use Rattle.walk.specs.Sections.{bit}
 use Rattle.stream.specs.Contents.{Contents}
 use Rattle.stream.specs.Stream.{Done, Phase, skipping, in_custom_lem, start_end, end, finish, steps}
@@ -117,8 +117,8 @@ module _ (f : Stream) (part : List ℕ) {open' : Bool} (e : open' ≡ is_open f)
       pub part_feeds : room ≡ true → Feeding f part
       part_feeds h = record { fit = open_fit f (sym e ∙ t); room = leb-true (f.total + length part) most (sym n ∙ h) }
 
-      pub takes : {x : Stream} → room ≡ true → x ≡ held (steps (state_from f) part) → record { stream = x; verdict = Accepted } ≡ taken f part
-      takes h q = (λ i. record { stream = q i; verdict = Accepted }) ∙ sym (part_taken f part (sym e ∙ t) (leb-true (f.total + length part) most (sym n ∙ h)))
+      pub takes : {x : Stream} → room ≡ true → x ≡ held (steps (state_from f) part) → record { stream = x; verdict = (Ok tt) } ≡ taken f part
+      takes h q = (λ i. record { stream = q i; verdict = (Ok tt) }) ∙ sym (part_taken f part (sym e ∙ t) (leb-true (f.total + length part) most (sym n ∙ h)))
 
       pub takes_not : {x : Taken} → room ≡ false → x ≡ untaken f TotalTooLarge → x ≡ taken f part
       takes_not h q = q ∙ sym (part_too_large f part (sym e ∙ t) (leb-false (f.total + length part) most (sym n ∙ h)))

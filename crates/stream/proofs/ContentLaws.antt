@@ -1,4 +1,5 @@
 -- The contents of a custom section: one law for each way through the code.
+use Rattle.std.specs.Prelude.{Result, Ok, Err}
 use Prim.Native.Nat.{ℕ, zero, suc, ◌-◌, ◌≤◌, ◌<◌}
 use mathlib.Core.Bool.{true, ◌&&◌}
 use mathlib.Core.Path.{◌≡◌, refl, sym, ap, ◌∙◌}
@@ -22,8 +23,6 @@ use Rattle.stream.specs.Known.{done_of, known_in, between_at, called_so, judged_
 use Rattle.stream.specs.Laws.Fields.{held_back}
 use Rattle.stream.specs.declared.Spot.{Spot}
 use Rattle.stream.specs.declared.Stream.{Stream}
-use Rattle.stream.specs.declared.known.After.{After}
-use Rattle.stream.specs.declared.known.After.TheVariants as after
 use Rattle.stream.specs.declared.known.Known.{Known}
 use Rattle.stream.proofs.States.{at, at_same, as_custom, as_sizing, as_naming, as_paying, as_failing}
 use Rattle.stream.proofs.SectionLaws.{limit64, custom_on}
@@ -51,17 +50,17 @@ module _ {f : Stream} (k : Closing f × (f.phase ≡ 7) × (f.left ≡ 0)) where
   abbrev spot : Spot
   spot = record { offset = f.text; length = f.total - f.text }
 
-  module _ {g : Known} {x : After} (s : g ≡ known_in f 0) (q : AfterCustom g f.row spot 0 x) where
+  module _ {g : Known} {x : Result Known Reason} (s : g ≡ known_in f 0) (q : AfterCustom g f.row spot 0 x) where
     closed : custom (done_from f) f.at f.left (contents_from f) f.total ≡ settled (judged_after f.at x)
     unfolding custom content_ends
     closed =
         (λ i. custom (done_from f) f.at (k.2 i) (as_paying f k.1 i) f.total)
         ∙ ap settled (ap (λ g. custom_done (done_of g) f.at (accepted (called_so f.row spot))) (sym s) ∙ q.says f.at)
 
-    pub pays_not : {why : Reason} {n : ℕ} {r : Stream} → x ≡ after.Against why → n ≡ number_of why → Refuses f n f.at r → Closes f r
+    pub pays_not : {why : Reason} {n : ℕ} {r : Stream} → x ≡ Err why → n ≡ number_of why → Refuses f n f.at r → Closes f r
     pays_not e n u = record { means = u.means ∙ at_same refl (ap (λ x. settled (refused x f.at)) n ∙ sym (closed ∙ ap (λ x. settled (judged_after f.at x)) e)) }
 
-    pub pays : {next : Known} {r : Stream} → x ≡ after.Behind next → r ≡ between_at f.total next → Closes f r
+    pub pays : {next : Known} {r : Stream} → x ≡ Ok next → r ≡ between_at f.total next → Closes f r
     unfolding held
     pays {next} e u = record { means = ap state_from u ∙ held_back (at f.total (settled (accepted (done_of next)))) ∙ at_same refl (sym (closed ∙ ap (λ x. settled (judged_after f.at x)) e)) }
 

@@ -1,4 +1,5 @@
 -- A part, from its first byte to its last: one law for each way through the code.
+use Rattle.std.specs.Prelude.{Some}
 use Prim.Native.Nat.{ℕ, zero, suc, ◌+◌, ◌-◌, ◌≤◌, ◌<◌}
 use mathlib.Core.Bool.{true}
 use mathlib.Core.List.{List, ◌∷◌}
@@ -25,8 +26,7 @@ use Rattle.stream.specs.declared.Stream.{Stream}
 use Rattle.stream.specs.declared.contents.Spelled.{Spelled}
 use Rattle.stream.specs.declared.heads.Moved.{Moved}
 use Rattle.stream.specs.declared.known.Known.{Known}
-use Rattle.stream.specs.declared.leading.Lead.{Lead}
-use Rattle.stream.specs.declared.leading.Lead.TheVariants as lead
+use Rattle.stream.specs.Returned.{Lead}
 use Rattle.stream.proofs.States.{at, at_same, as_between, as_refused, as_skipping, as_custom, as_naming, as_paying, as_failing, between_count, skipping_left, custom_count, custom_left, custom_contents}
 use Rattle.stream.proofs.SectionLaws.{limit64, skip_on, custom_on, blank_opens, opens_late}
 use Rattle.stream.proofs.NameLaws.{name_on, name_text, name_rest}
@@ -339,7 +339,7 @@ module _ {f : Stream} {part : List ℕ} (k : Feeding f part) where
   pub feeding_first : FeedingFrom f part 0 f.total
   feeding_first = record { fit = k.fit; within = omega arith; total = omega arith; room = k.room }
 
-  module _ {x : Lead} (l : Leads f part x) {g : Known} (e : x ≡ lead.Behind g) where
+  module _ {x : Lead} (l : Leads f part x) {g : Known} (e : x ≡ Some g) where
     led : Led f part g
     led = rw e at l.says
 

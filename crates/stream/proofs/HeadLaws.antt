@@ -1,4 +1,5 @@
 -- Sections whose heads a part has whole: one law for each way through the code.
+use Rattle.std.specs.Prelude.{Result, Ok, Some, None}
 use Prim.Native.Nat.{ℕ, zero, suc, ◌+◌, ◌-◌, ◌≤◌, ◌<◌}
 use mathlib.Core.Bool.{Bool}
 use mathlib.Core.List.{List, [], ◌∷◌}
@@ -8,27 +9,22 @@ use native.Mathlib.Nat.{zero-add, suc-add}
 use native.Mathlib.Omega.{arith}
 use borrow.Author.Rules.{rules}
 use borrow.Author.Tests.{leb-true, le-leb}
-use denote.Enum.Declared.{tag_of}
 use lib.ListN.{length, take, drop, get_or}
 use lib.Seq.{slice, slice-cons, slice_empty, length-slice, take-take, take-nil}
 use Rattle.format.specs.Bytes.{same}
 use Rattle.format.specs.Reading.{got, accepted}
 use Rattle.format.specs.Parts.{name}
 use Rattle.format.specs.Walk.{tracked, first_row, id_rules}
+use Rattle.format.specs.declared.Reason.{Reason}
 use Rattle.reading.specs.Cursors.{Inside, left, NumberReads, PartReads}
 use Rattle.reading.specs.declared.Cursor.{Cursor}
-use Rattle.reading.specs.declared.NumberRead.{NumberRead}
-use Rattle.reading.specs.declared.NumberRead.TheVariants.{Value}
-use Rattle.reading.specs.declared.PartRead.{PartRead}
-use Rattle.reading.specs.declared.PartRead.TheVariants.{Part}
+use Rattle.reading.specs.Returned.{NumberRead}
+use Rattle.reading.specs.Returned.{PartRead}
 use Rattle.reading.proofs.Laws.{number_means, number_inside, number_moves, name_means, name_behind}
 use Rattle.walk.specs.Sections.{bit, seen_of, ruling, IdRuled, row_called, InTable, Calls}
-use Rattle.walk.specs.declared.rules.Called.{Called}
-use Rattle.walk.specs.declared.rules.Called.TheVariants.{Row, Other}
-use Rattle.walk.specs.declared.rules.Ruling.{Ruling}
+use Rattle.walk.specs.Returned.{Called}
+use Rattle.walk.specs.Returned.{Ruling}
 use Rattle.walk.proofs.RowLaws.{row_below}
-use Rattle.walk.specs.contracts.rules.Called as called_type
-use Rattle.walk.specs.contracts.rules.Ruling as ruling_type
 use Rattle.stream.specs.Contents.{paying, content_ends}
 use Rattle.stream.specs.Stream.{seen_in, plain_done, custom_done, Phase, settled, skipping, skip, custom, enter, State, standing, steps}
 use Rattle.stream.specs.Calls.{most}
@@ -46,10 +42,8 @@ use Rattle.stream.specs.declared.heads.Head.TheVariants as head
 use Rattle.stream.specs.declared.heads.Moved.{Moved}
 use Rattle.stream.specs.declared.heads.Passed.{Passed}
 use Rattle.stream.specs.declared.heads.Passed.TheVariants as passed
-use Rattle.stream.specs.declared.known.After.{After}
-use Rattle.stream.specs.declared.known.After.TheVariants as after
 use Rattle.stream.specs.declared.known.Known.{Known}
-use Rattle.stream.proofs.SectionLaws.{limit64, some_so, as_fine, enter_plain, skip_on, custom_on}
+use Rattle.stream.proofs.SectionLaws.{limit64, some_so, enter_plain, skip_on, custom_on}
 
 pub reaches_here : {here left : ℕ} → here < left → Reaches here left here
 reaches_here h = record { inside = omega arith; lent = omega arith; least = λ _. refl; moves = λ a b. a }
@@ -61,14 +55,13 @@ pub ruleset reaching = (reaches_here, reaches_left, rules)
 
 -- A ROW
 
-pub row_none : (x : Called) → tag_of called_type.the_type x ≡ 1 → 0 ≡ row_number (row_called x)
-row_none (Row row) e = absurd (omega arith)
-row_none Other e = refl
+pub row_none : {x : Called} → x ≡ None → 0 ≡ row_number (row_called x)
+row_none e = rw e
 
-pub row_some : {x : Called} {row : ℕ} → x ≡ Row row → row + 1 ≡ row_number (row_called x)
+pub row_some : {x : Called} {row : ℕ} → x ≡ Some row → row + 1 ≡ row_number (row_called x)
 row_some {row = row} e = let one : row + 1 ≡ suc row = omega arith in rw (e, one)
 
-pub row_adds : {x : Called} {row : ℕ} → InTable x → x ≡ Row row → row + 1 < 256
+pub row_adds : {x : Called} {row : ℕ} → InTable x → x ≡ Some row → row + 1 < 256
 row_adds {row = row} h e = let t : row < length tracked = rw e at h in omega arith
 
 pub ruleset row_numbers = (row_none, row_some, row_adds, rules)
@@ -90,12 +83,12 @@ pub found_known : (bs : List ℕ) {x : Called} → Calls bs x → InTable x
 found_known bs {x} q = known x q.row_is
   where
     known : (x : Called) → first_row 0 tracked (λ x. same x bs) ≡ row_called x → InTable x
-    known (Row row) e = row_below 0 tracked (λ x. same x bs) e
-    known Other e = tt
+    known (Some row) e = row_below 0 tracked (λ x. same x bs) e
+    known None e = tt
 
 row_most : (x : Called) → InTable x → row_number (row_called x) ≤ 3
-row_most (Row row) t = omega arith
-row_most Other t = omega arith
+row_most (Some row) t = omega arith
+row_most None t = omega arith
 
 module _ {part : List ℕ} {from size here : ℕ} (k : Sized part from size here) where
   abbrev contents : Cursor
@@ -104,7 +97,7 @@ module _ {part : List ℕ} {from size here : ℕ} (k : Sized part from size here
   pub contents_inside : Inside part contents
   contents_inside = record { ahead = omega arith; within = k.within }
 
-  module _ {x : PartRead} {text payload : Cursor} {told : Bool} (p : PartReads name part contents x) (e : x ≡ Part text payload told) where
+  module _ {x : PartRead} {text payload : Cursor} {told : Bool} (p : PartReads name part contents x) (e : x ≡ Ok (text, payload, told)) where
     pub text_inside : Inside part text
     text_inside = (name_behind contents_inside p e).in_part
 
@@ -149,7 +142,7 @@ module _ {part : List ℕ} {k : Known} (h : Within part k) where
   pub behind_inside : Inside part behind_id
   behind_inside = let l = h.here in record { ahead = omega arith; within = omega arith }
 
-  module _ {x : NumberRead} {size : ℕ} {next : Cursor} {told : Bool} (n : NumberReads part behind_id x) (e : x ≡ Value size next told) where
+  module _ {x : NumberRead} {size : ℕ} {next : Cursor} {told : Bool} (n : NumberReads part behind_id x) (e : x ≡ Ok (size, next, told)) where
     pub size_within : next.at ≤ length part
     size_within = let i = number_inside behind_inside n e in let a = i.ahead in let w = i.within in omega arith
 
@@ -159,9 +152,9 @@ module _ {part : List ℕ} {k : Known} (h : Within part k) where
     pub contents_sized : {here : ℕ} → Reaches (length part - next.at) size here → Sized part next.at size here
     contents_sized r = let w = size_within in let l = r.lent in record { within = omega arith; inside = r.inside }
 
-    module _ {v : Ruling} (j : IdRuled k.seen (get_or part k.at 0) v) (f : tag_of ruling_type.the_type v ≡ 0) where
+    module _ {v : Ruling} (j : IdRuled k.seen (get_or part k.at 0) v) (f : v ≡ Ok tt) where
       admitted : (at : ℕ) → id_rules (seen_in (done_of k)) at (get_or part k.at 0) 0 [] ≡ got tt 0 []
-      admitted at = id_same k at (get_or part k.at 0) ∙ sym (j.says at 0 []) ∙ ap (λ x. ruling x at 0 []) (as_fine v f)
+      admitted at = id_same k at (get_or part k.at 0) ∙ sym (j.says at 0 []) ∙ ap (λ x. ruling x at 0 []) f
 
       head_steps : (at : ℕ) → steps (standing at (settled (accepted (done_of k)))) (slice k.at next.at part) ≡ standing (at + (next.at - k.at)) (enter (done_of k) (get_or part k.at 0) at size (at + (next.at - k.at)))
       head_steps at =
@@ -316,7 +309,7 @@ module _ {base : ℕ} {part : List ℕ} {k : Known} (h : Here base part k) where
       says = held_at e (paid (length part) custom_part.within (omega arith) (omega arith) ∙ ap (standing (base + length part)) (custom_on (done_of k) (base + k.at) (size - (length part - from)) (paying (row_of row) (base + from)) (base + length part) (λ z. omega arith)));
     }
 
-    pub custom_whole : {x : After} {next : Known} → size ≤ length part - from → AfterCustom k row (record { offset = base + from; length = size }) (from + size) x → x ≡ after.Behind next → Onward base part k (passed.Behind next)
+    pub custom_whole : {x : Result Known Reason} {next : Known} → size ≤ length part - from → AfterCustom k row (record { offset = base + from; length = size }) (from + size) x → x ≡ Ok next → Onward base part k (passed.Behind next)
     unfolding custom content_ends
     custom_whole {x} {next} l b e =
         let w = custom_part.within in let m = custom_part.moves in

@@ -1,4 +1,5 @@
 -- What is known of the sections behind: one law for each way through the code.
+use Rattle.std.specs.Prelude.{Result, Ok, Err, Some, None}
 use Prim.Native.Nat.{ℕ, zero, suc, ◌+◌, ◌*◌, ◌/◌, ◌%◌, ◌-◌, ◌≤◌, ◌<◌}
 use mathlib.Core.Bool.{Bool, true, false, cond, ◌||◌}
 use mathlib.Core.Option.{none, some}
@@ -7,7 +8,6 @@ use mathlib.Core.Path.{◌≡◌, refl, sym, ap, ◌∙◌}
 use native.Mathlib.Omega.{arith}
 use borrow.Author.Rules.{rules}
 use borrow.Author.Tests.{eq-eqb, ne_eqb, eqb-true, eqb-false}
-use denote.Enum.Declared.{tag_of}
 use lib.Dec.{eqb}
 use Rattle.format.specs.Options.{or_else}
 use Rattle.format.specs.Reading.{got, accepted}
@@ -15,12 +15,9 @@ use Rattle.format.specs.Walk.{rank, is_row, name_rules}
 use Rattle.format.specs.Laws.Outcomes.{by_test, not_got, false_true}
 use Rattle.format.specs.declared.Reason.{Reason}
 use Rattle.walk.specs.Sections.{bit, seen_of, ruling, NameRuled, Sees}
-use Rattle.walk.specs.declared.rules.Called.{Called}
-use Rattle.walk.specs.declared.rules.Called.TheVariants.{Row, Other}
-use Rattle.walk.specs.declared.rules.Ruling.{Ruling}
-use Rattle.walk.specs.declared.rules.Ruling.TheVariants.{Against}
+use Rattle.walk.specs.Returned.{Called}
+use Rattle.walk.specs.Returned.{Ruling}
 use Rattle.walk.specs.declared.rules.Seen.{Seen}
-use Rattle.walk.specs.contracts.rules.Ruling as ruling_type
 use Rattle.stream.specs.Stream.{seen_in, place, placed, called_done, plain_done, kept, custom_done}
 use Rattle.stream.specs.Calls.{most}
 use Rattle.stream.specs.Fields.{flag, spot_of, rows_there, row_number, place_from, first_row}
@@ -28,9 +25,8 @@ use Rattle.stream.specs.Phases.{CallsRow, seen_so, blank_at}
 use Rattle.stream.specs.Known.{done_of, known_in, between_at, skipping_at, paying_at, Behind, with_place, called_so, AfterCustom}
 use Rattle.stream.specs.declared.Spot.{Spot}
 use Rattle.stream.specs.declared.Stream.{Stream}
-use Rattle.stream.specs.declared.known.After.TheVariants as after
 use Rattle.stream.specs.declared.known.Known.{Known}
-use Rattle.stream.proofs.SectionLaws.{some_so, as_fine, mixed}
+use Rattle.stream.proofs.SectionLaws.{some_so, mixed}
 
 pub spot_kept : {there : Bool} (p : Spot) → there ≡ true → p ≡ spot_of (place_from there p)
 spot_kept p e = rw e
@@ -114,7 +110,7 @@ none_placed : (before : Bool) (now : Bool) (spot : Spot) → now ≡ (before || 
 none_placed true now spot e = rw e
 none_placed false now spot e = rw e
 
-module _ (k : Known) (id : ℕ) {next : Seen} (q : Sees k.seen id Other next) where
+module _ (k : Known) (id : ℕ) {next : Seen} (q : Sees k.seen id None next) where
   there_so : (row : ℕ) → bit next.there row ≡ (bit k.seen.there row || false)
   there_so row = q.there_is.says row
 
@@ -139,16 +135,16 @@ pub ruleset plains = (plain_is, rules)
 
 -- BEHIND A CUSTOM ONE
 
-pub row_other : CallsRow 0 Other
+pub row_other : CallsRow 0 None
 row_other = record { row_is = refl; known = tt }
 
-pub row_called : (row : ℕ) → row ≤ 3 → (row ≡ 0 → ⊥) → CallsRow row (Row (row - 1))
+pub row_called : (row : ℕ) → row ≤ 3 → (row ≡ 0 → ⊥) → CallsRow row (Some (row - 1))
 row_called zero h n = absurd (n refl)
 row_called (suc row) h n =
     let one : suc row - 1 ≡ row = omega arith in
     record { row_is = ap some one; known = omega arith }
 
-pub other_at : {row : ℕ} → row ≡ 0 → CallsRow row Other
+pub other_at : {row : ℕ} → row ≡ 0 → CallsRow row None
 other_at e = rw e row_other
 
 pub ruleset rows = (row_called, other_at, rules)
@@ -202,31 +198,31 @@ name_same k id (suc (suc zero)) h = rw (some_so (bit k.seen.there 1) k.hints)
 name_same k id (suc (suc (suc zero))) h = rw (some_so (bit k.seen.there 2) k.older)
 name_same k id (suc (suc (suc (suc row)))) h = absurd (omega arith)
 
-at_is : {x y : Known} → after.Behind x ≡ after.Behind y → y.at ≡ x.at
+at_is : {x y : Known} → ◌≡◌ {A = Result Known Reason} (Ok x) (Ok y) → y.at ≡ x.at
 at_is {x} {y} f = let s : x ≡ y = cc in ap (λ x. x.at) (sym s)
 
-not_behind : {why : Reason} {next : Known} → after.Against why ≡ after.Behind next → ⊥
+not_behind : {why : Reason} {next : Known} → ◌≡◌ {A = Result Known Reason} (Err why) (Ok next) → ⊥
 not_behind e = let w : ◌≡◌ {A = ℕ} 1 0 = cc in omega arith
 
 -- without a row it is as if it were not custom
-pub after_other : (k : Known) {row : ℕ} (spot : Spot) {to : ℕ} {next : Known} → row ≡ 0 → Behind (plain_done (done_of k) 0) to next → AfterCustom k row spot to (after.Behind next)
+pub after_other : (k : Known) {row : ℕ} (spot : Spot) {to : ℕ} {next : Known} → row ≡ 0 → Behind (plain_done (done_of k) 0) to next → AfterCustom k row spot to (Ok next)
 unfolding custom_done name_rules
 after_other k spot e b = record { says = λ id. rw e (ap accepted (sym b.done)); at = λ x f. at_is f ∙ b.at }
 
-module _ (k : Known) (row : ℕ) (spot : Spot) (to : ℕ) (m : (k.count < most) × (row ≤ 3)) {called : Called} {v : Ruling} (c : CallsRow row called) (q : NameRuled k.seen called v) where
-  ruled : (id : ℕ) → name_rules (seen_in (done_of k)) id (first_row row) 0 [] ≡ ruling v id 0 []
-  ruled id = name_same k id row m.1 ∙ sym (q.says id 0 [] ∙ ap (λ x. name_rules (seen_of k.seen) id x 0 []) c.row_is)
+module _ (k : Known) (row : ℕ) (spot : Spot) (to : ℕ) (m : (k.count < most) × (row ≤ 3)) {called : Called} (c : CallsRow row called) where
+  ruled : {v : Ruling} → NameRuled k.seen called v → (id : ℕ) → name_rules (seen_in (done_of k)) id (first_row row) 0 [] ≡ ruling v id 0 []
+  ruled q id = name_same k id row m.1 ∙ sym (q.says id 0 [] ∙ ap (λ x. name_rules (seen_of k.seen) id x 0 []) c.row_is)
 
-  judged : (id : ℕ) {w : Ruling} → v ≡ w → custom_done (done_of k) id (accepted (called_so row spot)) ≡ kept (ruling w id 0 []) (called_done (done_of k) (called_so row spot))
+  judged : {v : Ruling} → NameRuled k.seen called v → (id : ℕ) → custom_done (done_of k) id (accepted (called_so row spot)) ≡ kept (ruling v id 0 []) (called_done (done_of k) (called_so row spot))
   unfolding custom_done
-  judged id e = ap (λ x. kept x (called_done (done_of k) (called_so row spot))) (ruled id ∙ ap (λ x. ruling x id 0 []) e)
+  judged q id = ap (λ x. kept x (called_done (done_of k) (called_so row spot))) (ruled q id)
 
-  pub after_against : {why : Reason} → v ≡ Against why → AfterCustom k row spot to (after.Against why)
-  after_against e = record { says = λ id. judged id e; at = λ next f. absurd (not_behind f) }
+  pub after_against : {why : Reason} → NameRuled k.seen called (Err why) → AfterCustom k row spot to (Err why)
+  after_against q = record { says = λ id. judged q id; at = λ next f. absurd (not_behind f) }
 
-  module _ (e : tag_of ruling_type.the_type v ≡ 0) {next : Seen} (w : Sees k.seen 0 called next) where
+  module _ (q : NameRuled k.seen called (Ok tt)) {next : Seen} (w : Sees k.seen 0 called next) where
     fresh_row : (j : ℕ) → is_row (first_row row) j ≡ true → bit k.seen.there j ≡ false
-    fresh_row j h = not_there (seen_of k.seen) 0 j (ap (λ x. name_rules (seen_of k.seen) 0 x 0 []) (sym (is row h)) ∙ sym (name_same k 0 row m.1) ∙ ruled 0 ∙ ap (λ x. ruling x 0 0 []) (as_fine v e))
+    fresh_row j h = not_there (seen_of k.seen) 0 j (ap (λ x. name_rules (seen_of k.seen) 0 x 0 []) (sym (is row h)) ∙ sym (name_same k 0 row m.1) ∙ ruled q 0)
       where
         is : (n : ℕ) → is_row (first_row n) j ≡ true → first_row n ≡ some j
         is zero h = false_true h
@@ -242,11 +238,11 @@ module _ (k : Known) (row : ℕ) (spot : Spot) (to : ℕ) (m : (k.count < most) 
         ∙ ap (λ b. place_from b (cond (is_row (first_row row) j) spot before)) (there_after j)
         ∙ put (bit k.seen.there j) (is_row (first_row row) j) spot before (fresh_row j)
 
-    pub after_behind : {g : Known} → g ≡ with_place k row spot → AfterCustom k row spot to (after.Behind (record { at = to; count = k.count + 1; seen = next; name = g.name; hints = g.hints; older = g.older }))
+    pub after_behind : {g : Known} → g ≡ with_place k row spot → AfterCustom k row spot to (Ok (record { at = to; count = k.count + 1; seen = next; name = g.name; hints = g.hints; older = g.older }))
     after_behind {g} p =
         let up : k.count + 1 ≡ suc k.count = omega arith in
         record {
-          says = λ id. judged id (as_fine v e) ∙ ap accepted (sym (λ i. record {
+          says = λ id. judged q id ∙ ap accepted (sym (λ i. record {
             rank = w.rank_is i;
             code = w.code_is i;
             told = record {

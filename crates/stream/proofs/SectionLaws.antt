@@ -1,4 +1,5 @@
 -- From section to section: one law for each way through the code.
+use Rattle.std.specs.Prelude.{Ok, Err, None}
 use Prim.Native.Nat.{ℕ, zero, suc, ◌+◌, ◌-◌, ◌≤◌, ◌<◌}
 use mathlib.Core.Bool.{Bool, true, false, cond, ◌||◌}
 use mathlib.Core.List.{List, [], ◌∷◌}
@@ -20,11 +21,8 @@ use Rattle.format.specs.declared.Place.{Place}
 use Rattle.format.specs.declared.Reason.{Reason}
 use Rattle.format.specs.declared.Reason.TheVariants.{NoPreamble}
 use Rattle.walk.specs.Sections.{bit, seen_of, ruling, IdRuled, Sees}
-use Rattle.walk.specs.declared.rules.Called.TheVariants.{Other}
-use Rattle.walk.specs.declared.rules.Ruling.{Ruling}
-use Rattle.walk.specs.declared.rules.Ruling.TheVariants.{Fine, Against}
+use Rattle.walk.specs.Returned.{Ruling}
 use Rattle.walk.specs.declared.rules.Seen.{Seen}
-use Rattle.walk.specs.contracts.rules.Ruling as ruling_type
 use Rattle.stream.specs.Counting.{fresh, counted}
 use Rattle.stream.specs.Contents.{Contents, sizing, content_ends}
 use Rattle.stream.specs.Stream.{Done, nothing_done, seen_in, plain_done, custom_done, Phase, starting, settled, measuring, skipping, in_custom_lem, skip, custom, enter, measured, admit, opening, start, start_byte, byte, State, step}
@@ -168,10 +166,6 @@ id_same : (f : Stream) (o b : ℕ) → id_rules (seen_in (done_from f)) o b 0 []
 unfolding id_rules
 id_same f o b = rw (some_so (bit f.there 0) f.name)
 
-pub as_fine : (v : Ruling) → tag_of ruling_type.the_type v ≡ 0 → v ≡ Fine
-as_fine Fine h = refl
-as_fine (Against why) h = absurd (omega arith)
-
 module _ (f : Stream) (b : ℕ) {seen : Seen} {v : Ruling} (k : (f.phase ≡ 1) × (f.total < most)) (s : seen ≡ seen_so f) (q : IdRuled seen b v) where
   opened : {w : Ruling} → v ≡ w → step (state_from f) b ≡ at (suc f.total) (admit (ruling w f.total 0 []) (measuring (done_from f) b f.total fresh))
   unfolding byte opening
@@ -183,13 +177,13 @@ module _ (f : Stream) (b : ℕ) {seen : Seen} {v : Ruling} (k : (f.phase ≡ 1) 
   next : f.total + 1 ≡ suc f.total
   next = omega arith
 
-  pub opens_not : {why : Reason} {n : ℕ} {g r : Stream} → v ≡ Against why → n ≡ number_of why → g.total ≡ f.total + 1 → Refuses g n f.total r → Steps f b r
+  pub opens_not : {why : Reason} {n : ℕ} {g r : Stream} → v ≡ Err why → n ≡ number_of why → g.total ≡ f.total + 1 → Refuses g n f.total r → Steps f b r
   unfolding admit
   opens_not {why} e n t u = record { means = u.means ∙ at_same (t ∙ next) (ap (λ x. settled (refused x f.total)) n) ∙ sym (opened e) }
 
-  pub opens : {r : Stream} → tag_of ruling_type.the_type v ≡ 0 → r.phase ≡ 3 → r.total ≡ f.total + 1 → done_from r ≡ done_from f → r.id ≡ b → r.at ≡ f.total → number_from r ≡ fresh → Steps f b r
+  pub opens : {r : Stream} → v ≡ Ok tt → r.phase ≡ 3 → r.total ≡ f.total + 1 → done_from r ≡ done_from f → r.id ≡ b → r.at ≡ f.total → number_from r ≡ fresh → Steps f b r
   unfolding admit
-  opens {r} e p t d i a n = record { means = as_measuring r p ∙ at_same (t ∙ next) (λ j. measuring (d j) (i j) (a j) (n j)) ∙ sym (opened (as_fine v e)) }
+  opens {r} e p t d i a n = record { means = as_measuring r p ∙ at_same (t ∙ next) (λ j. measuring (d j) (i j) (a j) (n j)) ∙ sym (opened e) }
 
 pub ruleset openings = (opens_not, opens, rules)
 
@@ -200,7 +194,7 @@ no_row : (p : Option Place) → or_else p none ≡ p
 no_row none = refl
 no_row (some q) = refl
 
-plain_so : (f : Stream) (id : ℕ) {seen after : Seen} → seen ≡ seen_so f → Sees seen id Other after
+plain_so : (f : Stream) (id : ℕ) {seen after : Seen} → seen ≡ seen_so f → Sees seen id None after
     → plain_done (done_from f) id ≡ record { rank = after.rank; code = after.code; told = record { count = suc f.count; name = (done_from f).told.name; hints = (done_from f).told.hints; older = (done_from f).told.older } }
 plain_so f id e q = λ i. record {
   rank = sym (q.rank_is ∙ ap (λ x. cond (is_custom id) x.rank (rank id)) e) i;
@@ -254,7 +248,7 @@ module _ (f : Stream) (n : ℕ) where
         ∙ sym (at_same refl (rw i (custom_on (done_from f) f.at n (sizing f.total fresh) f.total z)));
   }
 
-  module _ {seen after : Seen} (s : seen ≡ seen_so f) (q : Sees seen f.id Other after) where
+  module _ {seen after : Seen} (s : seen ≡ seen_so f) (q : Sees seen f.id None after) where
     module _ (r : Stream) (z : f.id ≡ 0 → ⊥) (t : r.total ≡ f.total) (c : r.code ≡ flag after.code) (e : (r.rank ≡ after.rank) × (r.count ≡ f.count + 1) × (places_of r ≡ places_of f)) where
       -- what is known behind it
       behind : done_from r ≡ plain_done (done_from f) f.id

@@ -1,13 +1,12 @@
 -- Rules R14.6 to R14.10 of docs/RULES.md.
 -- K5: a part and the finish, with what they refuse. "Refusals, offset 0 and state unchanged: 18, a part or a finish after the finish; then 28, a part that takes the total above 18,446,744,073,709,551,615 bytes." A state that nobody began and that the code cannot count with is answered as one that is over. Assumes nothing.
-use Rattle.std.specs.Prelude.{ℕ, ◌+◌, Bool, true, false, cond, not, ◌&&◌, List, [], ◌∷◌, ◌++◌, ◌≡◌, leb, eqb, length}
+use Rattle.std.specs.Prelude.{ℕ, ◌+◌, Bool, true, false, cond, not, ◌&&◌, List, [], ◌∷◌, ◌++◌, ◌≡◌, leb, eqb, length, Ok, Err}
 use Rattle.std.proofs.Math.Option.{Option, none, some}
 use Rattle.format.specs.Refusals.{number_of}
 use Rattle.format.specs.Reading.{Judged, accepted, refused}
 use Rattle.format.specs.declared.Place.{Place}
 use Rattle.format.specs.declared.Reason.{Reason}
 use Rattle.format.specs.declared.Reason.TheVariants.{AfterFinish, TotalTooLarge}
-use Rattle.format.specs.declared.Verdict.TheVariants.{Accepted, Refused}
 use Rattle.stream.specs.Stream.{Summary, finish, steps}
 use Rattle.stream.specs.Fields.{held, over, over_at, state_from}
 use Rattle.stream.specs.Fits.{fits}
@@ -27,13 +26,13 @@ is_open f = not (eqb f.phase over) && fits (state_from f)
 
 -- A PART
 abbrev pub untaken : Stream → Reason → Taken
-untaken f why = record { stream = f; verdict = Refused (record { reason = why; offset = record { 0 = 0 } }) }
+untaken f why = record { stream = f; verdict = Err (record { reason = why; offset = record { 0 = 0 } }) }
 
 unfoldable pub taken : Stream → List ℕ → Taken
 taken f part =
     cond (is_open f)
     (cond (leb (f.total + length part) most)
-    (record { stream = held (steps (state_from f) part); verdict = Accepted })
+    (record { stream = held (steps (state_from f) part); verdict = (Ok tt) })
     (untaken f TotalTooLarge))
     (untaken f AfterFinish)
 
@@ -55,8 +54,8 @@ ended f =
 -- PARTS ONE AFTER THE OTHER, each of them taken or refused, and those that were taken
 pub data Parts : Stream → List (List ℕ) → Stream → Type 0 where
   no_part : {f : Stream} → Parts f [] f
-  one_taken : {f g : Stream} (p : List ℕ) {ps : List (List ℕ)} → (taken f p).verdict ≡ Accepted → Parts (taken f p).stream ps g → Parts f (p ∷ ps) g
-  one_refused : {f g : Stream} (p : List ℕ) {ps : List (List ℕ)} → ((taken f p).verdict ≡ Accepted → ⊥) → Parts (taken f p).stream ps g → Parts f ps g
+  one_taken : {f g : Stream} (p : List ℕ) {ps : List (List ℕ)} → (taken f p).verdict ≡ (Ok tt) → Parts (taken f p).stream ps g → Parts f (p ∷ ps) g
+  one_refused : {f g : Stream} (p : List ℕ) {ps : List (List ℕ)} → ((taken f p).verdict ≡ (Ok tt) → ⊥) → Parts (taken f p).stream ps g → Parts f ps g
 
 unfoldable pub together : List (List ℕ) → List ℕ
 together [] = []

@@ -1,8 +1,9 @@
 -- Many sections at once: what is known of the sections behind, at a place in a part. The part's first byte stands at `base`. Assumes nothing.
-use Rattle.std.specs.Prelude.{ℕ, ◌+◌, ◌-◌, ◌≤◌, ◌<◌, cond, List, ◌≡◌, eqb, length}
+use Rattle.std.specs.Prelude.{ℕ, ◌+◌, ◌-◌, ◌≤◌, ◌<◌, cond, List, ◌≡◌, eqb, length, Result, Ok, Err, Some, None}
 use Rattle.std.proofs.Math.Seq.{slice}
 use Rattle.format.specs.Refusals.{number_of}
 use Rattle.format.specs.Reading.{Judged, accepted, refused}
+use Rattle.format.specs.declared.Reason.{Reason}
 use Rattle.walk.specs.Sections.{bit}
 use Rattle.stream.specs.Contents.{Called, sizing, paying}
 use Rattle.stream.specs.Counting.{fresh}
@@ -17,11 +18,8 @@ use Rattle.stream.specs.declared.heads.Head.TheVariants as head
 use Rattle.stream.specs.declared.heads.Moved.{Moved}
 use Rattle.stream.specs.declared.heads.Passed.{Passed}
 use Rattle.stream.specs.declared.heads.Passed.TheVariants as passed
-use Rattle.stream.specs.declared.known.After.{After}
-use Rattle.stream.specs.declared.known.After.TheVariants as after
 use Rattle.stream.specs.declared.known.Known.{Known}
-use Rattle.stream.specs.declared.leading.Lead.{Lead}
-use Rattle.stream.specs.declared.leading.Lead.TheVariants as lead
+use Rattle.stream.specs.Returned.{Lead}
 
 abbrev pub done_of : Known → Done
 done_of k = record {
@@ -69,13 +67,13 @@ with_place k row spot = record {
 abbrev pub called_so : (row : ℕ) → Spot → Called
 called_so row spot = record { row = first_row row; at = spot.offset; length = spot.length }
 
-abbrev pub judged_after : (at : ℕ) → After → Judged Done
-judged_after at (after.Behind k) = accepted (done_of k)
-judged_after at (after.Against why) = refused (number_of why) at
+abbrev pub judged_after : (at : ℕ) → Result Known Reason → Judged Done
+judged_after at (Ok k) = accepted (done_of k)
+judged_after at (Err why) = refused (number_of why) at
 
-pub record AfterCustom (k : Known) (row : ℕ) (spot : Spot) (to : ℕ) (r : After) : Type 0 where
+pub record AfterCustom (k : Known) (row : ℕ) (spot : Spot) (to : ℕ) (r : Result Known Reason) : Type 0 where
   pub says : (at : ℕ) → custom_done (done_of k) at (accepted (called_so row spot)) ≡ judged_after at r
-  pub at : (next : Known) → r ≡ after.Behind next → next.at ≡ to
+  pub at : (next : Known) → r ≡ Ok next → next.at ≡ to
 
 -- WHAT A STEP OVER A HEAD OR A SECTION SAYS
 
@@ -171,8 +169,8 @@ pub record Led (f : Stream) (part : List ℕ) (k : Known) : Type 0 where
   pub means : stands f.total k ≡ steps (state_from f) (slice 0 k.at part)
 
 abbrev pub LeadOf : Stream → (part : List ℕ) → Lead → Type 0
-LeadOf f part (lead.Behind k) = Led f part k
-LeadOf f part lead.ByBytes = Unit {0}
+LeadOf f part (Some k) = Led f part k
+LeadOf f part None = Unit {0}
 
 pub record Leads (f : Stream) (part : List ℕ) (r : Lead) : Type 0 where
   pub says : LeadOf f part r

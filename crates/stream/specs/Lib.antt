@@ -1,3 +1,4 @@
+pub mod Returned
 pub mod Counting
 pub mod Texts
 pub mod Naming

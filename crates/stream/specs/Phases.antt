@@ -5,7 +5,7 @@ use Rattle.format.specs.Refusals as Refusals
 use Rattle.format.specs.Reading.{refused}
 use Rattle.format.specs.declared.Reason.TheVariants.{NotText}
 use Rattle.walk.specs.Sections.{row_called, InTable}
-use Rattle.walk.specs.declared.rules.Called.{Called}
+use Rattle.walk.specs.Returned.{Called}
 use Rattle.walk.specs.declared.rules.Seen.{Seen}
 use Rattle.stream.specs.Contents.{Contents, paying, failing, name}
 use Rattle.stream.specs.Counting.{Number, fresh, Counted, whole, partly, over}

@@ -1,5 +1,5 @@
 -- K5. Cases of modules as they arrive (docs/RULES.md): cut in awkward places, and what is refused. Computed by the checker. Assumes nothing.
-use Rattle.std.specs.Prelude.{ℕ, List, [], ◌∷◌, ◌≡◌, refl}
+use Rattle.std.specs.Prelude.{ℕ, List, [], ◌∷◌, ◌≡◌, refl, Ok, Err}
 use Rattle.std.proofs.Math.Option.{none, some}
 use Rattle.format.specs.Bytes.{ascii}
 use Rattle.format.specs.Examples.{digit, hex}
@@ -7,8 +7,7 @@ use Rattle.format.specs.Reading.{accepted, refused}
 use Rattle.format.specs.Walk.{preamble, name_section, hint_section, greatest_id, rank, is_custom, is_code, is_data, id_rules, name_rules}
 use Rattle.format.specs.declared.Reason.{Reason}
 use Rattle.format.specs.declared.Reason.TheVariants.{AfterFinish, TotalTooLarge}
-use Rattle.format.specs.declared.Verdict.{Verdict}
-use Rattle.format.specs.declared.Verdict.TheVariants.{Accepted, Refused}
+use Rattle.format.specs.Returned.{Verdict}
 use Rattle.stream.specs.Counting.{weight, counted}
 use Rattle.stream.specs.Texts.{leading_byte, wanting, wanted_byte, text_byte, nothing_wanted, text_ends}
 use Rattle.stream.specs.Naming.{match_byte, match_ends}
@@ -96,10 +95,10 @@ verdicts =
     []
 
 abbrev untaken : Reason → Verdict
-untaken why = Refused (record { reason = why; offset = record { 0 = 0 } })
+untaken why = Err (record { reason = why; offset = record { 0 = 0 } })
 
 pub judged : List Verdict
-judged = Accepted ∷ untaken TotalTooLarge ∷ Accepted ∷ untaken TotalTooLarge ∷ Accepted ∷ untaken TotalTooLarge ∷ untaken AfterFinish ∷ untaken AfterFinish ∷ untaken AfterFinish ∷ []
+judged = (Ok tt) ∷ untaken TotalTooLarge ∷ (Ok tt) ∷ untaken TotalTooLarge ∷ (Ok tt) ∷ untaken TotalTooLarge ∷ untaken AfterFinish ∷ untaken AfterFinish ∷ untaken AfterFinish ∷ []
 
 pub verdicts_hold : verdicts ≡ judged
 unfolding digit hex preamble held begin phase_from contents_from state_from fits taken ended verdicts judged

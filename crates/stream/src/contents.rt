@@ -4,7 +4,7 @@ ghost use Rattle.std.proofs.Math.Seq.{slice};
 ghost use Rattle.stream.specs.Calls.{most};
 ghost use Rattle.stream.specs.Phases.{Fit, Steps, Closing, Closes, NameBegins, NameSized, NameEnds, SpelledBy, Spelling, Spells};
 
-use crate::known::{After, between, custom_behind, known_in};
+use crate::known::{between, custom_behind, known_in};
 use crate::naming::{meet, row_met};
 use crate::numbers::{Counted, count_byte};
 use crate::sections::{NOT_TEXT, NUMBER_TOO_LARGE, PAST_ITS_PART, number_of, refuse};
@@ -21,8 +21,8 @@ fn end_payload(s: Stream) -> Stream
         length: s.total - s.text,
     };
     match custom_behind(known_in(s, 0), s.row, spot, 0) {
-        After::Against(reason) => refuse(s, number_of(reason), s.at),
-        After::Behind(known) => between(known, s.total),
+        Err(reason) => refuse(s, number_of(reason), s.at),
+        Ok(known) => between(known, s.total),
     }
 }
 

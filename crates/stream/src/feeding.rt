@@ -10,7 +10,7 @@ use crate::contents::{close, sizing_byte, spell, spell_bytes};
 use crate::heads::{Moved, reach, sections_on};
 use crate::holding::{blank, tidy};
 use crate::known::{Known, known_in, skipping};
-use crate::leading::{Lead, lead_of};
+use crate::leading::lead_of;
 use crate::sections::{PREAMBLE_LENGTH, measuring_byte, opening_byte, starting_byte};
 use crate::{BETWEEN, MEASURING, NAMING, PAYING, REFUSED, SIZING, SKIPPING, Stream};
 
@@ -203,7 +203,7 @@ pub fn feed(s: Stream, part: &[u8]) -> Stream
         }
     }
     match lead_of(s, part) {
-        Lead::Behind(known) => feed_sections(known, part, s.total),
-        Lead::ByBytes => feed_from(s, part, 0, s.total),
+        Some(known) => feed_sections(known, part, s.total),
+        None => feed_from(s, part, 0, s.total),
     }
 }

@@ -7,11 +7,11 @@ ghost use Rattle.stream.specs.Fields.{row_number};
 ghost use Rattle.stream.specs.Phases.{Reaches};
 ghost use Rattle.stream.specs.Known.{between_at, Within, Sized, CustomHead, PlainRead, CustomRead, Heads, Here, Onward, Begins, Sectioned};
 
-use crate::known::{After, Known, between, custom_behind, paying, plain_behind, skipping};
+use crate::known::{Known, between, custom_behind, paying, plain_behind, skipping};
 use crate::{Spot, Stream};
-use reading::{Cursor, NumberRead, PartRead};
+use reading::Cursor;
 use walk::rows::called;
-use walk::rules::{CUSTOM, Called, Ruling, judge_id};
+use walk::rules::{CUSTOM, Called, judge_id};
 
 // A head that the part has whole: where the contents behind it begin, and how many bytes they have.
 #[derive(Clone, Copy)]
@@ -39,8 +39,8 @@ fn row_number(called: Called) -> u8
     ensures { result ≡ row_number (row_called called) }
 {
     match called {
-        Called::Other => 0,
-        Called::Row(row) => row + 1,
+        None => 0,
+        Some(row) => row + 1,
     }
 }
 
@@ -51,14 +51,12 @@ fn custom_head(part: &[u8], from: usize, size: u32, here: u32) -> Head
 {
     let end = from + here as usize;
     let contents = Cursor { at: from, end };
-    match contents.name(part) {
-        PartRead::Refused(_) => Head::Unread,
-        PartRead::Part(name, payload, _) => {
-            let row = row_number(called(part, name));
-            let read = (payload.at - from) as u32;
-            Head::Custom(row, payload.at, size - read)
-        }
-    }
+    let Ok((name, payload, _)) = contents.name(part) else {
+        return Head::Unread;
+    };
+    let row = row_number(called(part, name));
+    let read = (payload.at - from) as u32;
+    Head::Custom(row, payload.at, size - read)
 }
 
 fn head_at(known: Known, part: &[u8]) -> Head
@@ -67,23 +65,19 @@ fn head_at(known: Known, part: &[u8]) -> Head
 {
     let at = known.at;
     let id = part[at];
-    match judge_id(known.seen, id) {
-        Ruling::Against(_) => Head::Unread,
-        Ruling::Fine => {
-            let end = part.len();
-            let rest = Cursor { at: at + 1, end };
-            match rest.number(part) {
-                NumberRead::Refused(_) => Head::Unread,
-                NumberRead::Value(size, next, _) => {
-                    let from = next.at;
-                    if id == CUSTOM {
-                        return custom_head(part, from, size, reach(end - from, size));
-                    }
-                    Head::Plain(id, from, size)
-                }
-            }
-        }
+    let Ok(()) = judge_id(known.seen, id) else {
+        return Head::Unread;
+    };
+    let end = part.len();
+    let rest = Cursor { at: at + 1, end };
+    let Ok((size, next, _)) = rest.number(part) else {
+        return Head::Unread;
+    };
+    let from = next.at;
+    if id == CUSTOM {
+        return custom_head(part, from, size, reach(end - from, size));
     }
+    Head::Plain(id, from, size)
 }
 
 // One section: it is behind, or goes on in the next part, or its head is not read here.
@@ -125,8 +119,8 @@ fn custom_on(known: Known, part: &[u8], base: u64, row: u8, from: usize, size: u
     }
     let length = size as u64;
     match custom_behind(known, row, Spot { offset, length }, from + all) {
-        After::Against(_) => Passed::Unread,
-        After::Behind(next) => Passed::Behind(next),
+        Err(_) => Passed::Unread,
+        Ok(next) => Passed::Behind(next),
     }
 }
 

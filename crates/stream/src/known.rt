@@ -11,7 +11,7 @@ use crate::naming::{HINT_ROW, NAME_ROW, OLDER_ROW};
 use crate::sections::{flag, seen_by};
 use crate::{BETWEEN, NOWHERE, PAYING, SKIPPING, Spot, Stream};
 use format::Reason;
-use walk::rules::{CUSTOM, Called, Ruling, Seen, judge_name, see};
+use walk::rules::{CUSTOM, Called, Seen, judge_name, see};
 
 // Between two sections, at a place in the part: how many are behind, what the walk's rules know of them, and where the
 // payloads of the tracked ones lie.
@@ -104,7 +104,7 @@ pub fn plain_behind(known: Known, id: u8, to: usize) -> Known
 {
     let mut next = known;
     let seen = known.seen;
-    let after = see(seen, id, Called::Other);
+    let after = see(seen, id, None);
     next.at = to;
     next.count = known.count + 1;
     next.seen = after;
@@ -117,9 +117,9 @@ fn called_row(row: u8) -> Called
     ensures { CallsRow row result }
 {
     if row == 0 {
-        return Called::Other;
+        return None;
     }
-    Called::Row(row - 1)
+    Some(row - 1)
 }
 
 // A row's place is known.
@@ -143,30 +143,20 @@ fn with_place(known: Known, row: u8, spot: Spot) -> Known
 }
 
 // What is known behind a custom section, or what the walk's rules have against its name.
-#[derive(Clone, Copy)]
-pub enum After {
-    Behind(Known),
-    Against(Reason),
-}
-
-pub fn custom_behind(known: Known, row: u8, spot: Spot, to: usize) -> After
+pub fn custom_behind(known: Known, row: u8, spot: Spot, to: usize) -> Result<Known, Reason>
     requires { (known.count < most) × (row ≤ 3) }
     ensures { AfterCustom known row spot to result }
 {
     if row == 0 {
-        return After::Behind(plain_behind(known, CUSTOM, to)); // most have no row
+        return Ok(plain_behind(known, CUSTOM, to)); // most have no row
     }
     let seen = known.seen;
     let called = called_row(row);
-    match judge_name(seen, called) {
-        Ruling::Against(reason) => After::Against(reason),
-        Ruling::Fine => {
-            let after = see(seen, CUSTOM, called);
-            let mut next = with_place(known, row, spot);
-            next.at = to;
-            next.count = known.count + 1;
-            next.seen = after;
-            After::Behind(next)
-        }
-    }
+    judge_name(seen, called)?;
+    let after = see(seen, CUSTOM, called);
+    let mut next = with_place(known, row, spot);
+    next.at = to;
+    next.count = known.count + 1;
+    next.seen = after;
+    Ok(next)
 }

@@ -4,18 +4,14 @@ ghost use Rattle.stream.specs.Phases.{Feeding};
 ghost use Rattle.stream.specs.Known.{PayloadHere, Leads};
 
 use crate::holding::blank;
-use crate::known::{After, Known, custom_behind, known_in};
+use crate::known::{Known, custom_behind, known_in};
 use crate::sections::{PREAMBLE, PREAMBLE_LENGTH};
 use crate::{BETWEEN, PAYING, SKIPPING, STARTING, Spot, Stream};
 use reading::Cursor;
 use walk::called::is_called;
 
 // It is over within the part, and this is known behind it; or it is read byte by byte.
-#[derive(Clone, Copy)]
-pub enum Lead {
-    Behind(Known),
-    ByBytes,
-}
+pub type Lead = Option<Known>;
 
 // The preamble, whole.
 fn lead_preamble(s: Stream, part: &[u8]) -> Lead
@@ -23,19 +19,19 @@ fn lead_preamble(s: Stream, part: &[u8]) -> Lead
     ensures { Leads s part.now result }
 {
     if s.total != 0 {
-        return Lead::ByBytes;
+        return None;
     }
     if part.len() < PREAMBLE_LENGTH {
-        return Lead::ByBytes;
+        return None;
     }
     let front = Cursor {
         at: 0,
         end: PREAMBLE_LENGTH,
     };
     if is_called(part, front, &PREAMBLE) {
-        return Lead::Behind(known_in(blank(0, BETWEEN), PREAMBLE_LENGTH));
+        return Some(known_in(blank(0, BETWEEN), PREAMBLE_LENGTH));
     }
-    Lead::ByBytes
+    None
 }
 
 // A payload, and with it its section.
@@ -48,10 +44,7 @@ fn lead_payload(s: Stream, part: &[u8]) -> Lead
         offset: s.text,
         length: total - s.text,
     };
-    match custom_behind(known_in(s, 0), s.row, spot, s.left as usize) {
-        After::Against(_) => Lead::ByBytes,
-        After::Behind(known) => Lead::Behind(known),
-    }
+    custom_behind(known_in(s, 0), s.row, spot, s.left as usize).ok()
 }
 
 pub fn lead_of(s: Stream, part: &[u8]) -> Lead
@@ -59,20 +52,20 @@ pub fn lead_of(s: Stream, part: &[u8]) -> Lead
     ensures { Leads s part.now result }
 {
     if s.phase == BETWEEN {
-        return Lead::Behind(known_in(s, 0));
+        return Some(known_in(s, 0));
     }
     if s.phase == STARTING {
         return lead_preamble(s, part);
     }
     let left = s.left as usize;
     if part.len() < left {
-        return Lead::ByBytes;
+        return None;
     }
     if s.phase == SKIPPING {
-        return Lead::Behind(known_in(s, left));
+        return Some(known_in(s, left));
     }
     if s.phase == PAYING {
         return lead_payload(s, part);
     }
-    Lead::ByBytes
+    None
 }

@@ -164,7 +164,7 @@ fn not_taken(s: Stream, reason: Reason) -> Taken
     ensures { result ≡ untaken s reason }
 {
     let offset = Offset(0);
-    let verdict = Verdict::Refused(Refusal { reason, offset });
+    let verdict = Err(Refusal { reason, offset });
     Taken { stream: s, verdict }
 }
 
@@ -182,7 +182,7 @@ pub fn take_part(s: Stream, part: &[u8]) -> Taken
     if is_open(s) {
         if has_room(s.total, part.len() as u64) {
             let stream = feed(s, part);
-            let verdict = Verdict::Accepted;
+            let verdict = Ok(());
             return Taken { stream, verdict };
         }
         return not_taken(s, Reason::TotalTooLarge);

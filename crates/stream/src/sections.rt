@@ -8,7 +8,7 @@ ghost use Rattle.stream.specs.Phases.{Fit, Steps, Refuses, Enters, seen_so, Star
 use crate::numbers::{Counted, count_byte};
 use crate::{BETWEEN, MEASURING, REFUSED, SIZING, SKIPPING, Stream};
 use format::Reason;
-use walk::rules::{CUSTOM, Called, Ruling, Seen, judge_id, see};
+use walk::rules::{CUSTOM, Seen, judge_id, see};
 
 pub const PREAMBLE_LENGTH: usize = 8;
 
@@ -89,8 +89,8 @@ pub fn opening_byte(s: Stream, b: u8) -> Stream
     let mut next = s;
     next.total = s.total + 1;
     match judge_id(seen_by(s), b) {
-        Ruling::Against(reason) => refuse(next, number_of(reason), s.total),
-        Ruling::Fine => {
+        Err(reason) => refuse(next, number_of(reason), s.total),
+        Ok(()) => {
             next.phase = MEASURING;
             next.id = b;
             next.at = s.total;
@@ -118,7 +118,7 @@ fn enter(s: Stream, n: u32) -> Stream
         next.low = 0;
         return next;
     }
-    let seen = see(seen_by(s), s.id, Called::Other);
+    let seen = see(seen_by(s), s.id, None);
     next.count = s.count + 1;
     next.rank = seen.rank;
     next.code = flag(seen.code);

@@ -10,7 +10,7 @@ use Rattle.format.specs.Bytes.{same}
 use Rattle.format.specs.Questions.{answered, as_place}
 use Rattle.format.specs.Walk.{branch_hint, custom_payload}
 use Rattle.format.specs.Laws.Outcomes.{by_test}
-use Rattle.format.specs.declared.Answer.{Answer}
+use Rattle.format.specs.Returned.{Answer}
 use Rattle.reading.proofs.Laws.{over_inside, over_left}
 use Rattle.reading.specs.Cursors.{over_all, left}
 use Rattle.reading.specs.declared.Cursor.{Cursor}

@@ -8,7 +8,7 @@ use Rattle.format.specs.Questions.{as_place, as_bytes, start_of, answered}
 use Rattle.format.specs.declared.Question.{Question}
 use Rattle.format.specs.Through.{ask_through, ask_metadata_through}
 use Rattle.format.proofs.Laws.Found.{name_lies_through, item_lies_through}
-use Rattle.format.specs.declared.Answer.{Answer}
+use Rattle.format.specs.Returned.{Answer}
 use Rattle.format.specs.declared.CodeOffset.{CodeOffset}
 use Rattle.format.specs.declared.FunctionIndex.{FunctionIndex}
 use Rattle.reading.specs.Taken.{Takes}

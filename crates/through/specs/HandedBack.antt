@@ -1,5 +1,5 @@
 -- What users demand of the calls through a module, said of what they hand back.
-use Rattle.std.specs.Prelude.{ℕ, ◌+◌, ◌≤◌, List, ◌≡◌, length, take, drop}
+use Rattle.std.specs.Prelude.{ℕ, ◌+◌, ◌≤◌, List, ◌≡◌, length, take, drop, Ok, Err, Some, None}
 use Rattle.std.proofs.Math.Option.{Option, none, some}
 use Rattle.std.proofs.Math.Path.{sym, ap}
 use Rattle.std.proofs.Common.{◌∙◌}
@@ -15,12 +15,10 @@ use Rattle.format.specs.Through.{through, ask_through, metadata_section, item_of
 use Rattle.format.proofs.Theorems.{VeryBytes, names_through, metadata_through}
 use Rattle.format.proofs.Laws.Answers.{place_found}
 use Rattle.format.proofs.Laws.Calls.{none_told, refused_told, hint_answer_is}
-use Rattle.format.specs.declared.Answer.{Answer}
-use Rattle.format.specs.declared.Answer.TheVariants.{None, Found, Refused}
+use Rattle.format.specs.Returned.{Answer}
 use Rattle.format.specs.declared.CodeOffset.{CodeOffset}
 use Rattle.format.specs.declared.FunctionIndex.{FunctionIndex}
-use Rattle.format.specs.declared.HintAnswer.{HintAnswer}
-use Rattle.format.specs.declared.HintAnswer.TheVariants.{None as NoHint, Refused as NotHinted}
+use Rattle.format.specs.Returned.{HintAnswer}
 use Rattle.format.specs.declared.Place.{Place}
 use Rattle.format.specs.declared.Refusal.{Refusal}
 
@@ -31,9 +29,9 @@ pub record LentAt (m bytes : List ℕ) (place : Place) : Type 0 where
 
 module _ (section : List ℕ) (question : ℕ → List ℕ → Judged (Option Part)) where
   pub record CallThrough (m : List ℕ) (r : Answer) (bytes : List ℕ) : Type 0 where
-    pub found : (place : Place) → r ≡ Found place → LentAt m bytes place
-    pub without : custom_payload section m ≡ accepted none → r ≡ None
-    pub walk_first : (f : Refusal) → walk m ≡ refused (number_of f.reason) f.offset.0 → r ≡ Refused f
+    pub found : (place : Place) → r ≡ Ok (Some place) → LentAt m bytes place
+    pub without : custom_payload section m ≡ accepted none → r ≡ (Ok None)
+    pub walk_first : (f : Refusal) → walk m ≡ refused (number_of f.reason) f.offset.0 → r ≡ Err f
     pub then_asked : (p : Part) → custom_payload section m ≡ accepted (some p) → answered r ≡ as_place (question p.at p.bytes)
 
   through_call : (m : List ℕ) (r : Answer) (bytes : List ℕ) → ((x : Part) → through section question m ≡ accepted (some x) → VeryBytes m x) → answered r ≡ as_place (through section question m) → bytes ≡ as_bytes (through section question m) → CallThrough m r bytes
@@ -59,14 +57,14 @@ metadata_call_through format f at m r bytes e b = through_call (metadata_section
 
 -- The same for hints, which have no bytes to hand back.
 pub record HintsThrough (f : FunctionIndex) (at : CodeOffset) (m : List ℕ) (r : HintAnswer) : Type 0 where
-  pub without : custom_payload hint_section m ≡ accepted none → r ≡ NoHint
-  pub walk_first : (e : Refusal) → walk m ≡ refused (number_of e.reason) e.offset.0 → r ≡ NotHinted e
+  pub without : custom_payload hint_section m ≡ accepted none → r ≡ (Ok None)
+  pub walk_first : (e : Refusal) → walk m ≡ refused (number_of e.reason) e.offset.0 → r ≡ Err e
   pub then_asked : (p : Part) → custom_payload hint_section m ≡ accepted (some p) → hint_answered r ≡ ask_hint f at p.at p.bytes
 
 pub hint_call_through : (f : FunctionIndex) (at : CodeOffset) (m : List ℕ) (r : HintAnswer) → hint_answered r ≡ ask_hint_through f at m → HintsThrough f at m r
 unfolding ask_hint_through through custom_payload
 hint_call_through f at m r e = record {
-  without = λ h. (hint_answer_is r NoHint e).1 (rw h);
-  walk_first = λ x h. (hint_answer_is r (NotHinted x) e).1 (rw h);
+  without = λ h. (hint_answer_is r (Ok None) e).1 (rw h);
+  walk_first = λ x h. (hint_answer_is r (Err x) e).1 (rw h);
   then_asked = λ p h. e ∙ rw h;
 }

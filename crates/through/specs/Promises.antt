@@ -6,10 +6,10 @@ use Rattle.format.specs.Questions.{as_place, as_bytes, start_of, answered}
 use Rattle.format.specs.declared.Edition.{Edition}
 use Rattle.format.specs.declared.Question.{Question}
 use Rattle.format.specs.Through.{ask_through, ask_metadata_through, ask_hint_through, ask_older_through}
-use Rattle.format.specs.declared.Answer.{Answer}
+use Rattle.format.specs.Returned.{Answer}
 use Rattle.format.specs.declared.CodeOffset.{CodeOffset}
 use Rattle.format.specs.declared.FunctionIndex.{FunctionIndex}
-use Rattle.format.specs.declared.HintAnswer.{HintAnswer}
+use Rattle.format.specs.Returned.{HintAnswer}
 use Rattle.format.specs.declared.InstructionOffset.{InstructionOffset}
 
 -- through

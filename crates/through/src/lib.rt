@@ -17,9 +17,8 @@ mod sections;
 pub fn ask(m: &[u8], edition: Edition, q: Question) -> Answer
     ensures { ThroughAsk m.now edition q result }
 {
-    let found = name_section(m);
-    let Answer::Found(place) = found else {
-        return found;
+    let Some(place) = name_section(m)? else {
+        return Ok(None);
     };
     ask_in(m, over(m, place), edition, q)
 }
@@ -34,9 +33,8 @@ pub fn ask_bytes(m: &[u8], edition: Edition, q: Question) -> &[u8]
 pub fn metadata(m: &[u8], format: &[u8], f: FunctionIndex, at: CodeOffset) -> Answer
     ensures { ThroughMetadata m.now format.now f at result }
 {
-    let found = metadata_section(m, format);
-    let Answer::Found(place) = found else {
-        return found;
+    let Some(place) = metadata_section(m, format)? else {
+        return Ok(None);
     };
     let item = item_of(format);
     find_in(m, over(m, place), item, f, at)
@@ -52,20 +50,18 @@ pub fn metadata_bytes<'a>(m: &'a [u8], format: &[u8], f: FunctionIndex, at: Code
 pub fn hint(m: &[u8], f: FunctionIndex, at: CodeOffset) -> HintAnswer
     ensures { ThroughHint m.now f at result }
 {
-    match hint_section(m) {
-        Answer::Refused(r) => HintAnswer::Refused(r),
-        Answer::None => HintAnswer::None,
-        Answer::Found(place) => hint_in(m, over(m, place), f, at),
-    }
+    let Some(place) = hint_section(m)? else {
+        return Ok(None);
+    };
+    hint_in(m, over(m, place), f, at)
 }
 
 // K2: the hint of the older edition at an offset of a function, which counts from its first instruction.
 pub fn older_hint(m: &[u8], f: FunctionIndex, at: InstructionOffset) -> HintAnswer
     ensures { ThroughOlderHint m.now f at result }
 {
-    match older_hint_section(m) {
-        Answer::Refused(why) => HintAnswer::Refused(why),
-        Answer::None => HintAnswer::None,
-        Answer::Found(place) => older::hint_in(m, over(m, place), f, at),
-    }
+    let Some(place) = older_hint_section(m)? else {
+        return Ok(None);
+    };
+    older::hint_in(m, over(m, place), f, at)
 }

@@ -1,8 +1,8 @@
 use Rattle.branches.proofs.CheckSteps.{bodies_found}
 use Rattle.branches.proofs.all_bodies.Goals as goal
 
-pub returns-in-Nowhere : goal.returns-in-Nowhere
-returns-in-Nowhere c = search bodies_found
+pub returns-in_default : goal.returns-in_default
+returns-in_default c = search bodies_found
 
-pub returns-in-At : goal.returns-in-At
-returns-in-At c = search bodies_found
+pub returns : goal.returns
+returns c = search bodies_found

@@ -1,8 +1,8 @@
 use Rattle.branches.proofs.CheckSteps.{imported_steps}
 use Rattle.branches.proofs.imported.Goals as goal
 
-pub returns-in-Nowhere : goal.returns-in-Nowhere
-returns-in-Nowhere c = search imported_steps
+pub returns-in_default : goal.returns-in_default
+returns-in_default c = search imported_steps
 
-pub returns-in-At : goal.returns-in-At
-returns-in-At c = search imported_steps
+pub returns : goal.returns
+returns c = search imported_steps

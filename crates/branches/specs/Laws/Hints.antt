@@ -5,7 +5,6 @@ use Rattle.std.specs.Prelude.{◌≡◌, refl}
 use Rattle.std.proofs.Math.Path.{ap₂}
 use Rattle.std.proofs.Common.{◌∙◌}
 use Rattle.format.specs.Metadata.{hint_item, metadata, judge_metadata}
-use Rattle.format.specs.Numbers.{number}
 use Rattle.format.specs.Older.{times, vector}
 use Rattle.format.specs.Parts.{Part, sized}
 use Rattle.format.specs.Reading.{got, Reader, accepted}

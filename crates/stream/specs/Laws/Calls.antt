@@ -1,5 +1,5 @@
 -- What follows of parts one after the other: however they are cut, whatever was refused between them.
-use Rattle.std.specs.Prelude.{ℕ, ◌+◌, ◌≤◌, ◌<◌, true, false, List, ◌≡◌, refl, leb, eqb}
+use Rattle.std.specs.Prelude.{ℕ, ◌+◌, ◌≤◌, ◌<◌, true, false, List, ◌≡◌, refl, leb, eqb, Ok}
 use Rattle.std.proofs.Common.{sym, ap, ◌∙◌}
 use borrow.Author.Tests.{le-leb, lt-leb}
 use Rattle.std.proofs.Math.ListN.{length}
@@ -9,7 +9,6 @@ use Rattle.format.specs.Laws.Outcomes.{by_test, not_accepted}
 use Rattle.format.specs.Verdicts.{verdict_of}
 use Rattle.format.specs.declared.Reason.{Reason}
 use Rattle.format.specs.declared.Reason.TheVariants.{AfterFinish, TotalTooLarge}
-use Rattle.format.specs.declared.Verdict.TheVariants.{Accepted}
 use Rattle.stream.specs.Contents.{sizing, naming, paying, failing}
 use Rattle.stream.specs.Stream.{Phase, starting, settled, measuring, skipping, in_custom_lem, State, begin, finish, steps}
 use Rattle.stream.specs.Walked.{walked}
@@ -44,7 +43,7 @@ over_shut total = refl
 -- A part is taken, or changes nothing
 
 module _ (f : Stream) (p : List ℕ) where
-  pub part_taken : is_open f ≡ true → f.total + length p ≤ most → taken f p ≡ record { stream = held (steps (state_from f) p); verdict = Accepted }
+  pub part_taken : is_open f ≡ true → f.total + length p ≤ most → taken f p ≡ record { stream = held (steps (state_from f) p); verdict = (Ok tt) }
   unfolding taken
   part_taken t h = rw (t, le-leb (f.total + length p) most h)
 
@@ -56,10 +55,10 @@ module _ (f : Stream) (p : List ℕ) where
   unfolding taken
   part_too_late t = rw t
 
-  not_both : (why : Reason) → (untaken f why).verdict ≡ Accepted → ⊥
+  not_both : (why : Reason) → (untaken f why).verdict ≡ (Ok tt) → ⊥
   not_both why e = not_accepted (ap verdict_of e)
 
-  pub refused_stays : ((taken f p).verdict ≡ Accepted → ⊥) → (taken f p).stream ≡ f
+  pub refused_stays : ((taken f p).verdict ≡ (Ok tt) → ⊥) → (taken f p).stream ≡ f
   unfolding taken
   refused_stays h =
       by_test (is_open f)
@@ -68,7 +67,7 @@ module _ (f : Stream) (p : List ℕ) where
       (λ u. rw u)))
       (λ t. rw t)
 
-  taken_steps : (taken f p).verdict ≡ Accepted → (taken f p).stream ≡ held (steps (state_from f) p)
+  taken_steps : (taken f p).verdict ≡ (Ok tt) → (taken f p).stream ≡ held (steps (state_from f) p)
   unfolding taken
   taken_steps e =
       by_test (is_open f)

@@ -1,14 +1,18 @@
+use Rattle.format.proofs.Nested.{handed_on}
 use Rattle.through.proofs.ThroughLaws.{name_questions}
 use Rattle.through.proofs.ask.Goals as goal
 
+pub returns-in_err-place : goal.returns-in_err-place
+returns-in_err-place c = rw (handed_on c.from_residual.result c.from_residual.ensures) (search (c.in_err-place.was, name_questions))
+
 pub returns-in_default : goal.returns-in_default
-returns-in_default c = search name_questions
+returns-in_default c = search (c.in_ok-place.was, name_questions)
 
 pub over-requires : goal.over-requires
-over-requires c = search name_questions
+over-requires c = search (c.in_ok-place.was, name_questions)
 
 pub ask_in-requires : goal.ask_in-requires
-ask_in-requires c = search name_questions
+ask_in-requires c = search (c.in_ok-place.was, name_questions)
 
 pub returns : goal.returns
-returns c = search name_questions
+returns c = search (c.in_ok-place.was, name_questions)

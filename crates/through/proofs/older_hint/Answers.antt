@@ -1,17 +1,18 @@
+use Rattle.format.proofs.Nested.{handed_on}
 use Rattle.through.proofs.ThroughLaws.{older_hint_questions}
 use Rattle.through.proofs.older_hint.Goals as goal
 
+pub returns-in_err-place : goal.returns-in_err-place
+returns-in_err-place c = rw (handed_on c.from_residual.result c.from_residual.ensures) (search (c.in_err-place.was, older_hint_questions))
+
+pub returns-in_default : goal.returns-in_default
+returns-in_default c = search (c.in_ok-place.was, older_hint_questions)
+
 pub over-requires : goal.over-requires
-over-requires c = search older_hint_questions
+over-requires c = search (c.in_ok-place.was, older_hint_questions)
 
 pub hint_in-requires : goal.hint_in-requires
-hint_in-requires c = search older_hint_questions
+hint_in-requires c = search (c.in_ok-place.was, older_hint_questions)
 
-pub returns-in-Refused : goal.returns-in-Refused
-returns-in-Refused c = search older_hint_questions
-
-pub returns-in-None : goal.returns-in-None
-returns-in-None c = search older_hint_questions
-
-pub returns-in-Found : goal.returns-in-Found
-returns-in-Found c = search older_hint_questions
+pub returns : goal.returns
+returns c = search (c.in_ok-place.was, older_hint_questions)

@@ -1,8 +1,8 @@
 use Rattle.branches.proofs.ImportSteps.{limits_steps}
 use Rattle.branches.proofs.imports.global_read.Goals as goal
 
-pub returns-in-Refused : goal.returns-in-Refused
-returns-in-Refused c = search limits_steps
+pub returns-in_err-next : goal.returns-in_err-next
+returns-in_err-next c = search (c.in_err-next.was, limits_steps)
 
-pub returns-in-Value : goal.returns-in-Value
-returns-in-Value c = search limits_steps
+pub returns : goal.returns
+returns c = search (c.in_ok-next.was, limits_steps)

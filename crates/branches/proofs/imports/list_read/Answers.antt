@@ -1,8 +1,8 @@
 use Rattle.branches.proofs.ImportSteps.{list_steps}
 use Rattle.branches.proofs.imports.list_read.Goals as goal
 
-pub returns-in-Refused : goal.returns-in-Refused
-returns-in-Refused c = search list_steps
+pub returns-in_err-n : goal.returns-in_err-n
+returns-in_err-n c = search (c.in_err-n.was, list_steps)
 
-pub returns-in-Value : goal.returns-in-Value
-returns-in-Value c = search list_steps
+pub returns : goal.returns
+returns c = search (c.in_ok-n.was, list_steps)

@@ -1,5 +1,5 @@
 use Rattle.branches.proofs.ReadLaws.{number_reads}
 use Rattle.branches.proofs.reads.number_read.Goals as goal
 
-pub returns-in-Value : goal.returns-in-Value
-returns-in-Value c = search number_reads
+pub returns : goal.returns
+returns c = search (c.in_ok-n.was, number_reads)

@@ -10,8 +10,8 @@ returns-then-wanted-gone c = search walking
 pub returns-then-wanted-gone-2 : goal.returns-then-wanted-gone-2
 returns-then-wanted-gone-2 c = search walking
 
-pub returns-in-Unreadable : goal.returns-in-Unreadable
-returns-in-Unreadable c = search walking
+pub returns-in_default : goal.returns-in_default
+returns-in_default c = search walking
 
 pub loop-here-smaller : goal.loop-here-smaller
 loop-here-smaller c = search walking

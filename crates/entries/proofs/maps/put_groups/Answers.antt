@@ -4,8 +4,8 @@ use Rattle.entries.proofs.maps.put_groups.Goals as goal
 pub loop-first-init : goal.loop-first-init
 loop-first-init c = search grouping
 
-pub returns-in-End : goal.returns-in-End
-returns-in-End c = search grouping
+pub returns : goal.returns
+returns c = search grouping
 
 pub rows_here-group-requires : goal.rows_here-group-requires
 rows_here-group-requires c = search grouping

@@ -4,11 +4,11 @@ use Rattle.markers.proofs.asking.entry.Goals as goal
 pub sized-requires : goal.sized-requires
 sized-requires c = search one_entry
 
-pub returns-in-Refused : goal.returns-in-Refused
-returns-in-Refused c = search one_entry
+pub returns-in_default : goal.returns-in_default
+returns-in_default c = search one_entry
 
-pub returns-in-Refused-sized : goal.returns-in-Refused-sized
-returns-in-Refused-sized c = search one_entry
+pub returns-in_default-sized : goal.returns-in_default-sized
+returns-in_default-sized c = search one_entry
 
-pub returns-in-Part : goal.returns-in-Part
-returns-in-Part c = search one_entry
+pub returns : goal.returns
+returns c = search one_entry

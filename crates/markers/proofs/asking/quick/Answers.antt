@@ -13,11 +13,11 @@ returns-then-offsets-indices c = search question
 pub returns-then-p-end : goal.returns-then-p-end
 returns-then-p-end c = search question
 
-pub returns-in-Fault : goal.returns-in-Fault
-returns-in-Fault c = search question
+pub returns-in-Err : goal.returns-in-Err
+returns-in-Err c = search question
 
-pub returns-in-Nothing : goal.returns-in-Nothing
-returns-in-Nothing c = search question
+pub returns-in-None : goal.returns-in-None
+returns-in-None c = search question
 
-pub returns-in-Start : goal.returns-in-Start
-returns-in-Start c = search question
+pub returns-in-Some : goal.returns-in-Some
+returns-in-Some c = search question

@@ -1,17 +1,18 @@
+use Rattle.format.proofs.Nested.{handed_on}
 use Rattle.neighbours.proofs.WholeLaws.{whole}
 use Rattle.neighbours.proofs.locals.why_local.Goals as goal
 
-pub returns-in_default : goal.returns-in_default
-returns-in_default c = search whole
+pub returns-in_err-judge : goal.returns-in_err-judge
+returns-in_err-judge c = rw (handed_on c.from_residual.result c.from_residual.ensures) (search (c.in_err-judge.was, whole))
 
 pub find-requires : goal.find-requires
-find-requires c = search whole
+find-requires c = search (c.in_ok-judge.was, whole)
 
 pub entry_within-requires : goal.entry_within-requires
-entry_within-requires c = search whole
+entry_within-requires c = search (c.in_ok-judge.was, whole)
 
-pub returns-in-Nothing : goal.returns-in-Nothing
-returns-in-Nothing c = search whole
+pub returns-in-None : goal.returns-in-None
+returns-in-None c = search (c.in_ok-judge.was, whole)
 
-pub returns-in-Part : goal.returns-in-Part
-returns-in-Part c = search whole
+pub returns-in-Some : goal.returns-in-Some
+returns-in-Some c = search (c.in_ok-judge.was, whole)

@@ -7,8 +7,8 @@ rows_here-left-requires c = search map_way
 pub loop-k-init : goal.loop-k-init
 loop-k-init c = search map_way
 
-pub returns-in-End : goal.returns-in-End
-returns-in-End c = search map_way
+pub returns : goal.returns
+returns c = search map_way
 
 pub returns-then-key-k-2 : goal.returns-then-key-k-2
 returns-then-key-k-2 c = search map_way

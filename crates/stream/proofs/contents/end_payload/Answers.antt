@@ -7,8 +7,8 @@ overflow_sub-spot c = search payloads
 pub custom_behind-requires : goal.custom_behind-requires
 custom_behind-requires c = search payloads
 
-pub returns-in-Against : goal.returns-in-Against
-returns-in-Against c = search payloads
+pub returns-in-Err : goal.returns-in-Err
+returns-in-Err c = search payloads
 
-pub returns-in-Behind : goal.returns-in-Behind
-returns-in-Behind c = search payloads
+pub returns-in-Ok : goal.returns-in-Ok
+returns-in-Ok c = search payloads

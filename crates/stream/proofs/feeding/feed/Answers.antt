@@ -7,5 +7,5 @@ returns-then-n-s c = search feeding
 pub feed_sections-requires : goal.feed_sections-requires
 feed_sections-requires c = search feeding
 
-pub returns-in-Behind : goal.returns-in-Behind
-returns-in-Behind c = search feeding
+pub returns-in-Some : goal.returns-in-Some
+returns-in-Some c = search feeding

@@ -13,5 +13,5 @@ overflow_cast-read c = search name_heads
 pub overflow_sub-result : goal.overflow_sub-result
 overflow_sub-result c = search name_heads
 
-pub returns-in-Part : goal.returns-in-Part
-returns-in-Part c = search name_heads
+pub returns : goal.returns
+returns c = search name_heads

@@ -4,5 +4,5 @@ use Rattle.stream.proofs.heads.custom_on.Goals as goal
 pub returns-then-here-all : goal.returns-then-here-all
 returns-then-here-all c = search custom_sections
 
-pub returns-in-Behind : goal.returns-in-Behind
-returns-in-Behind c = search custom_sections
+pub returns-in-Ok : goal.returns-in-Ok
+returns-in-Ok c = search custom_sections

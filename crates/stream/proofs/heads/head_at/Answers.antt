@@ -10,5 +10,5 @@ custom_head-requires c = search whole_heads
 pub returns-then-id-eq-CUSTOM : goal.returns-then-id-eq-CUSTOM
 returns-then-id-eq-CUSTOM c = search whole_heads
 
-pub returns-else-id-eq-CUSTOM : goal.returns-else-id-eq-CUSTOM
-returns-else-id-eq-CUSTOM c = search whole_heads
+pub returns : goal.returns
+returns c = search whole_heads

@@ -7,5 +7,5 @@ overflow_sub-spot c = search payload_leads
 pub custom_behind-requires : goal.custom_behind-requires
 custom_behind-requires c = search payload_leads
 
-pub returns-in-Behind : goal.returns-in-Behind
-returns-in-Behind c = search payload_leads
+pub returns : goal.returns
+returns c = search payload_leads
