@@ -1,4 +1,5 @@
 -- What is written of a module, line by line, is its listing.
+use Rattle.std.specs.Prelude.{Ok, Err, Some, None}
 use Prim.Native.Nat.{ℕ, suc, ◌+◌, ◌-◌, ◌*◌, ◌≤◌, ◌<◌}
 use Prim.Native.String.{String}
 use mathlib.Core.List.{List, [], ◌∷◌, ◌++◌, append_assoc, append-nil}
@@ -7,7 +8,6 @@ use mathlib.Core.Path.{◌≡◌, refl, sym, ap, ◌∙◌}
 use native.Mathlib.Omega.{arith}
 use borrow.Author.Rules.{rules}
 use borrow.Author.Tests.{le-leb, lt-leb}
-use denote.Enum.Declared.{tag_of}
 use lib.ListN.{length, drop}
 use lib.Seq.{length-slice}
 use Rattle.format.specs.Bytes.{ascii}
@@ -26,52 +26,38 @@ use Rattle.format.proofs.Laws.Passing.{number_passes, Reaches, reach, reach_step
 use Rattle.format.proofs.Laws.Numbers.{shortest_positive}
 use Rattle.format.proofs.Laws.Codecs.{number_sound}
 use Rattle.format.proofs.Laws.Walk.{walk_ended, walk_stepped, walk_refused, walk_begun, walk_not_begun}
-use Rattle.format.specs.declared.Answer.{Answer}
-use Rattle.format.specs.declared.Answer.TheVariants.{None as NoAnswer, Found as FoundAt, Refused as NotAnswered}
+use Rattle.format.specs.Returned.{Answer}
 use Rattle.format.specs.declared.Place.{Place}
 use Rattle.format.specs.declared.Reason.TheVariants.{InputTooLarge}
 use Rattle.format.specs.declared.Refusal.{Refusal}
-use Rattle.format.specs.contracts.Answer as answer_type
-use Rattle.format.proofs.Tags.{no_answer}
+use Rattle.format.proofs.Nested.{nested}
 use Rattle.listing.specs.Lines.{space, labelled, place_line, count_line, AnswerPut, custom_line, Adds, AddsFrom}
 use Rattle.walk.specs.Sections.{seen_of, section_of}
 use Rattle.walk.specs.Steps.{Forward, Steps, Begins}
 use Rattle.walk.specs.Surveys.{counted}
-use Rattle.walk.specs.declared.Counted.{Counted}
-use Rattle.walk.specs.declared.Counted.TheVariants.{Count, Refused as NotCounted}
-use Rattle.walk.specs.declared.step.Began.{Began}
-use Rattle.walk.specs.declared.step.Began.TheVariants.{At, Refused as NotBegun}
+use Rattle.walk.specs.Returned.{Counted}
+use Rattle.walk.specs.Returned.{Began}
 use Rattle.walk.specs.declared.step.Section.{Section}
-use Rattle.walk.specs.declared.step.Step.{Step}
-use Rattle.walk.specs.declared.step.Step.TheVariants.{Section as ASection, Done as AtTheEnd, Refused as StepRefused}
+use Rattle.walk.specs.Returned.{Step}
 use Rattle.walk.specs.declared.step.Walk.{Walk}
 use Rattle.walk.proofs.SurveyLaws.{begun_within}
-use Rattle.walk.specs.contracts.step.Began as began_type
-use Rattle.walk.specs.contracts.step.Step as step_type
-use Rattle.walk.proofs.Tags.{at_end}
 use Rattle.writing.specs.Wrote.{Wrote}
 use Rattle.writing.proofs.Laws.{wrote_nothing, wrote_join, wrote_length}
 
--- an arm that binds nothing gives the tag alone
-is_refused : (x : Answer) → tag_of answer_type.the_type x ≡ 2 → (r : Refusal) × (x ≡ NotAnswered r)
-is_refused NoAnswer h = absurd (omega arith)
-is_refused (FoundAt p) h = absurd (omega arith)
-is_refused (NotAnswered r) h = (r, refl)
-
 -- the line of an answer
 module _ {label : List ℕ} {a : Answer} {old : List ℕ} {at : ℕ} where
-  pub answer_refused : tag_of answer_type.the_type a ≡ 2 → AnswerPut label a old old at at
-  answer_refused h = let (r, e) = is_refused a h in record { says = λ found q. absurd (not_accepted (rw e at q)) }
+  pub answer_refused : {r : Refusal} → a ≡ Err r → AnswerPut label a old old at at
+  answer_refused e = record { says = λ found q. absurd (not_accepted (rw e at q)) }
 
-  pub answer_none : {mid new : List ℕ} {i next : ℕ} → tag_of answer_type.the_type a ≡ 0 → Wrote old mid at i (label ++ space) → Wrote mid new i next (110 ∷ 111 ∷ 110 ∷ 101 ∷ 10 ∷ []) → AnswerPut label a old new at next
+  pub answer_none : {mid new : List ℕ} {i next : ℕ} → a ≡ Ok None → Wrote old mid at i (label ++ space) → Wrote mid new i next (110 ∷ 111 ∷ 110 ∷ 101 ∷ 10 ∷ []) → AnswerPut label a old new at next
   unfolding place_line labelled line piece ascii
-  answer_none h p q = record { says = λ found e. rw (← accepted_is (rw (no_answer a h) at e)) (rw append_assoc at (wrote_join p q)) }
+  answer_none h p q = record { says = λ found e. rw (← accepted_is (rw h at e)) (rw append_assoc at (wrote_join p q)) }
 
-  pub answer_found : {new : List ℕ} {next : ℕ} {p : Place} → a ≡ FoundAt p → Wrote old new at next (labelled label (num p.offset.0 ∷ num p.length ∷ [])) → AnswerPut label a old new at next
+  pub answer_found : {new : List ℕ} {next : ℕ} {p : Place} → a ≡ Ok (Some p) → Wrote old new at next (labelled label (num p.offset.0 ∷ num p.length ∷ [])) → AnswerPut label a old new at next
   unfolding place_line
   answer_found h w = record { says = λ found e. rw (← accepted_is (rw h at e)) w }
 
-pub ruleset answers = (answer_refused, answer_none, answer_found, rules)
+pub ruleset answers = (answer_refused, answer_none, answer_found, nested, rules)
 
 -- the payload of a name
 pub custom_put : (m name label : List ℕ) {a : Answer} {old new : List ℕ} {at next : ℕ} → answered a ≡ as_place (custom_payload name m) → AnswerPut label a old new at next → Adds m (custom_line name label) old new at next
@@ -106,11 +92,6 @@ none_done : (j : Judged (List AnySection)) → j ≡ map_judged (λ more. [] ++ 
 none_done (accepted ss) = refl
 none_done (refused n at) = refl
 
-is_stopped : (x : Step) → tag_of step_type.the_type x ≡ 2 → (r : Refusal) × (x ≡ StepRefused r)
-is_stopped (ASection s w) h = absurd (omega arith)
-is_stopped AtTheEnd h = absurd (omega arith)
-is_stopped (StepRefused r) h = (r, refl)
-
 pub record Turn (m : List ℕ) (begun walk : Walk) (old new : List ℕ) (at next : ℕ) : Type 0 where
   pub within : walk.at ≤ length m
   pub room : next ≤ at + 32 * walk.at
@@ -124,7 +105,7 @@ unfolding section_lines
 turn_first {m} {begun} h r = record { within = h; room = omega arith; long = refl; done = []; so_far = wrote_nothing (omega arith); same = none_done (walk_from m (seen_of begun.seen) begun.at) }
 
 module _ {m : List ℕ} {walk : Walk} {x : Step} (p : Steps m walk x) where
-  module _ {s : Section} {after : Walk} (e : x ≡ ASection s after) where
+  module _ {s : Section} {after : Walk} (e : x ≡ Ok (Some (s, after))) where
     forward : Forward m walk s after
     forward = rw e at p.forward
 
@@ -141,21 +122,20 @@ module _ {m : List ℕ} {walk : Walk} {x : Step} (p : Steps m walk x) where
     goes_on = let f = forward in omega (arith, f.moves, f.within)
 
   module _ {begun : Walk} {old new : List ℕ} {at next : ℕ} (t : Turn m begun walk old new at next) where
-    pub turn_stopped : tag_of step_type.the_type x ≡ 2 → AddsFrom m begun section_lines old new at next
-    turn_stopped h =
-        let (r, e) = is_stopped x h in
+    pub turn_stopped : {r : Refusal} → x ≡ Err r → AddsFrom m begun section_lines old new at next
+    turn_stopped e =
         let refusal = t.same ∙ ap (map_judged (λ more. t.done ++ more)) (walk_refused m (seen_of walk.seen) walk.at (sym (rw e at p.means))) in
         record { says = λ ss q. absurd (not_accepted (sym refusal ∙ q)) }
 
-    pub turn_done : tag_of step_type.the_type x ≡ 1 → AddsFrom m begun section_lines old new at next
+    pub turn_done : x ≡ Ok None → AddsFrom m begun section_lines old new at next
     turn_done h =
-        let all = t.same ∙ ap (map_judged (λ more. t.done ++ more)) (walk_ended m (seen_of walk.seen) walk.at (sym (rw (at_end x h) at p.means))) in
+        let all = t.same ∙ ap (map_judged (λ more. t.done ++ more)) (walk_ended m (seen_of walk.seen) walk.at (sym (rw h at p.means))) in
         record { says = λ ss q. rw (← accepted_is (sym all ∙ q), append-nil) t.so_far }
 
     pub turn_room : next ≤ at + 32 * length m
     turn_room = omega arith
 
-    module _ {s : Section} {after : Walk} (e : x ≡ ASection s after) where
+    module _ {s : Section} {after : Walk} (e : x ≡ Ok (Some (s, after))) where
       pub section_room : at + 32 * length m ≤ length old → next + 64 ≤ length new
       section_room r = let f = forward e in omega (arith, f.within, two_further e)
 
@@ -172,21 +152,16 @@ module _ {m : List ℕ} {walk : Walk} {x : Step} (p : Steps m walk x) where
             same = t.same ∙ ap (map_judged (λ more. t.done ++ more)) (stepped e) ∙ one_more t.done (section_of m s) (walk_from m (seen_of after.seen) after.at);
           }
 
-pub ruleset list_turns = (turn_first, turn_stopped, turn_done, turn_room, section_room, turn_next, contents_ahead, goes_on, rules)
+pub ruleset list_turns = (turn_first, turn_stopped, turn_done, turn_room, section_room, turn_next, contents_ahead, goes_on, nested, rules)
 
 -- and from the preamble on
-not_begun : (x : Began) → tag_of began_type.the_type x ≡ 1 → (r : Refusal) × (x ≡ NotBegun r)
-not_begun (At w) h = absurd (omega arith)
-not_begun (NotBegun r) h = (r, refl)
-
 module _ {m : List ℕ} {x : Began} (b : Begins m x) where
-  pub sections_refused : {old : List ℕ} {at : ℕ} → tag_of began_type.the_type x ≡ 1 → Adds m section_lines old old at at
-  sections_refused h =
-      let (r, e) = not_begun x h in
+  pub sections_refused : {old : List ℕ} {at : ℕ} → {r : Refusal} → x ≡ Err r → Adds m section_lines old old at at
+  sections_refused e =
       let refusal = walk_not_begun m (sym (rw e at b.means)) in
       record { says = λ ss q. absurd (not_accepted (sym refusal ∙ q)) }
 
-  pub sections_put : {begun : Walk} {old new : List ℕ} {at next : ℕ} → x ≡ At begun → AddsFrom m begun section_lines old new at next → Adds m section_lines old new at next
+  pub sections_put : {begun : Walk} {old new : List ℕ} {at next : ℕ} → x ≡ Ok begun → AddsFrom m begun section_lines old new at next → Adds m section_lines old new at next
   sections_put {begun} e f =
       let seen = rw e at b.seen in
       let from = ap (λ s. walk_from m s begun.at) seen.0 ∙ sym (walk_begun m (sym (rw e at b.means))) in
@@ -232,11 +207,11 @@ module _ (m : List ℕ) {old new : List ℕ} {next : ℕ} where
     unfolding listing greatest_input
     list_accepted w = rw (le-leb (length m) 65_536 h) w
 
-    pub list_refused : {x : Counted} {r : Refusal} → counted x ≡ section_count m → x ≡ NotCounted r → Wrote old new 0 next (printed (refused (number_of r.reason) r.offset.0)) → Wrote old new 0 next (listing m)
+    pub list_refused : {x : Counted} {r : Refusal} → counted x ≡ section_count m → x ≡ Err r → Wrote old new 0 next (printed (refused (number_of r.reason) r.offset.0)) → Wrote old new 0 next (listing m)
     unfolding section_count
     list_refused e q w = list_accepted (rw ((refused_exactly length (walk m)).0 (sym (rw q at e))) w)
 
-pub count_is : (m : List ℕ) {x : Counted} {n : ℕ} → counted x ≡ section_count m → x ≡ Count n → accepted n ≡ section_count m
+pub count_is : (m : List ℕ) {x : Counted} {n : ℕ} → counted x ≡ section_count m → x ≡ Ok n → accepted n ≡ section_count m
 count_is m e q = rw q at e
 
 pub ruleset lists = (list_too_long, list_accepted, list_refused, count_is, rules)

@@ -7,7 +7,7 @@ use Rattle.format.specs.Parts.{place_of}
 use Rattle.format.specs.Questions.{answered}
 use Rattle.format.specs.Walk.{Section, walk, walk_from, payload_in}
 use Rattle.format.specs.Listing.{Piece, text, num, line}
-use Rattle.format.specs.declared.Answer.{Answer}
+use Rattle.format.specs.Returned.{Answer}
 use Rattle.format.specs.declared.Place.{Place}
 use Rattle.walk.specs.Sections.{seen_of}
 use Rattle.walk.specs.declared.step.Walk.{Walk}

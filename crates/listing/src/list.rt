@@ -9,9 +9,8 @@ ghost use Rattle.writing.specs.Wrote.{Wrote};
 
 use crate::lines::{put_labelled, put_number, put_refusal, put_section, put_word};
 use format::{Answer, Offset, Reason, Refusal};
-use walk::Counted;
 use walk::rows::{BRANCH_HINT, METADATA, NAME_SECTION};
-use walk::step::{Began, Step, Walk};
+use walk::step::Walk;
 use writing::put_bytes;
 
 // The longest module that is listed.
@@ -23,17 +22,15 @@ fn put_answer(out: &mut [u8], at: usize, label: &[u8], answer: Answer) -> usize
     ensures answer_put { AnswerPut label.now answer out.old out.new at result }
     ensures upper_bound { result ≤ at + length label.now + 43 }
 {
-    match answer {
-        Answer::Refused(_) => at,
-        Answer::None => {
-            let next = put_word(out, at, label);
-            put_bytes(out, next, b"none\n")
-        }
-        Answer::Found(place) => {
-            let offset = place.offset;
-            put_labelled(out, at, label, offset.0 as u64, place.length as u64)
-        }
-    }
+    let Ok(found) = answer else {
+        return at;
+    };
+    let Some(place) = found else {
+        let next = put_word(out, at, label);
+        return put_bytes(out, next, b"none\n");
+    };
+    let offset = place.offset;
+    put_labelled(out, at, label, offset.0 as u64, place.length as u64)
 }
 
 // Where the payload of the first custom section of a name lies. The name stands in two slices.
@@ -56,20 +53,16 @@ fn put_from(m: &[u8], first: Walk, out: &mut [u8], at: usize) -> usize
     let mut walk = first;
     let mut next = at;
     loop {
-        match walk.step(m) {
-            Step::Refused(_) => {
-                return next;
-            }
-            Step::Done => {
-                return next;
-            }
-            Step::Section(s, after) => {
-                let offset = s.at;
-                let contents = s.contents;
-                next = put_section(out, next, s.id, offset.0, contents.end - contents.at);
-                walk = after;
-            }
-        }
+        let Ok(read) = walk.step(m) else {
+            return next;
+        };
+        let Some((s, after)) = read else {
+            return next;
+        };
+        let offset = s.at;
+        let contents = s.contents;
+        next = put_section(out, next, s.id, offset.0, contents.end - contents.at);
+        walk = after;
     }
 }
 
@@ -80,8 +73,8 @@ fn put_sections(m: &[u8], out: &mut [u8], at: usize) -> usize
     ensures upper_bound { result ≤ at + 32 * length m.now }
 {
     match Walk::begin(m) {
-        Began::Refused(_) => at,
-        Began::At(first) => put_from(m, first, out, at),
+        Err(_) => at,
+        Ok(first) => put_from(m, first, out, at),
     }
 }
 
@@ -122,7 +115,7 @@ pub fn list(m: &[u8], out: &mut [u8]) -> usize
         );
     }
     match walk::count(m) {
-        Counted::Refused(r) => put_refusal(out, r),
-        Counted::Count(count) => put_accepted(m, count, out),
+        Err(r) => put_refusal(out, r),
+        Ok(count) => put_accepted(m, count, out),
     }
 }

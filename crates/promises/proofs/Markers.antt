@@ -11,7 +11,7 @@ use Rattle.format.specs.Questions.{answered, answer, asked, as_place}
 use Rattle.format.specs.Reading.{Judged, map_judged}
 use Rattle.format.specs.Tables.{lookup, rows, table}
 use Rattle.format.specs.Text.{utf8, characters, character, completes}
-use Rattle.format.specs.declared.Answer.{Answer}
+use Rattle.format.specs.Returned.{Answer}
 use Rattle.format.specs.declared.Place.{Place}
 use Rattle.markers.specs.Promises.{MarkersMake, MarkersQuick}
 use Rattle.wakemiono.specs.Calls as call

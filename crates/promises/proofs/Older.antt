@@ -19,7 +19,7 @@ use Rattle.format.specs.Text.{utf8, characters, character, completes}
 use Rattle.format.specs.Through.{through, ask_hint_through, ask_older_through}
 use Rattle.format.specs.Walk.{preamble, begins, greatest_id, is_custom, is_code, is_data, rank, custom, is_called, name_section, hint_section, nothing, seeing, id_rules, name_rules, section, sections, framing, walk, payload_of, payload_in, custom_payload}
 use Rattle.format.specs.Verdicts.{verdict_of}
-use Rattle.format.specs.declared.Answer.{Answer}
+use Rattle.format.specs.Returned.{Answer}
 use Rattle.format.specs.declared.CodeOffset.{CodeOffset}
 use Rattle.format.specs.declared.FunctionIndex.{FunctionIndex}
 use Rattle.format.specs.declared.Hint.TheVariants.{Unlikely, Likely}

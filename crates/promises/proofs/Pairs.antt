@@ -14,8 +14,8 @@ use Rattle.format.specs.Questions.{answer, asked, ask_at, ask}
 use Rattle.format.specs.Tables.{lookup, size, map_table, rows, table}
 use Rattle.format.specs.Text.{utf8, characters, character, completes}
 use Rattle.format.specs.declared.Edition.TheVariants.{First}
-use Rattle.format.specs.declared.JoinWritten.{JoinWritten}
-use Rattle.format.specs.declared.PairAnswer.{PairAnswer}
+use Rattle.format.specs.Returned.{JoinWritten}
+use Rattle.format.specs.Returned.{PairAnswer}
 use Rattle.format.specs.declared.Place.{Place}
 use Rattle.joining.specs.Promises.{JoiningJoin}
 use Rattle.pairs.specs.Promises.{PairsAsk}

@@ -1,5 +1,5 @@
 -- Wrong walks: one that refuses everything, one that accepts everything, one whose count of sections, or whose length of a section or of a payload, is not taken from the bytes, one that finds no section. Each promise of the walk rules them out, and so does that of its C call.
-use Rattle.std.specs.Prelude.{ℕ, List, [], ◌++◌, ◌≡◌, eqb}
+use Rattle.std.specs.Prelude.{ℕ, List, [], ◌++◌, ◌≡◌, eqb, Ok, Err, Some, None}
 use Rattle.std.proofs.Math.Path.{refl}
 use Rattle.std.proofs.Common.{ap, ◌∙◌}
 use Rattle.format.specs.Bytes.{ascii, same}
@@ -14,9 +14,6 @@ use Rattle.format.specs.Walk.{preamble, begins, greatest_id, is_custom, is_code,
 use Rattle.walk.specs.Steps.{Begins, Steps}
 use Rattle.walk.proofs.AnswerLaws.{count_refused, count_found}
 use Rattle.walk.specs.Surveys.{counted, section_answered, section_place, Surveys}
-use Rattle.walk.specs.declared.survey.Surveyed.TheVariants.{Done as WholeSurveyed, Refused as NotSurveyed}
-use Rattle.walk.specs.declared.step.Began.TheVariants.{At, Refused as NotBegun}
-use Rattle.walk.specs.declared.step.Step.TheVariants.{Section as ASection, Done, Refused}
 use Rattle.walk.specs.declared.step.Walk.{Walk}
 use Rattle.wakemiono.specs.Calls as call
 use Rattle.promises.specs.Answers.{says_count, count_said, says_section, section_said}
@@ -31,8 +28,8 @@ pub wm_walk : CountsRightly (λ m a. call.WmWalk m a) says_count
 wm_walk = counts_rightly (λ m a meets. ap says_count meets ∙ count_said (section_count m))
 
 survey_told : (position : ℕ) (name : List ℕ) → Tells (λ m r. Surveys m position name r) count_surveyed section_count
-survey_told position _ m (WholeSurveyed t) meets = count_found meets refl
-survey_told position _ m (NotSurveyed r) meets = count_refused meets refl
+survey_told position _ m (Ok t) meets = count_found meets
+survey_told position _ m (Err r) meets = count_refused meets
 
 pub survey : (position : ℕ) (name : List ℕ) → CountsRightly (λ m r. Surveys m position name r) count_surveyed
 survey position name = counts_rightly (survey_told position name)
@@ -80,8 +77,8 @@ custom_joined = answers_rightly (λ x r meets. meets) (place_answers _
     refl refl refl refl refl)
 
 begin_told : Tells (λ m r. Begins m r) begun (λ m. came (begins preamble 0 m))
-begin_told m (At w) meets = ap came meets.means
-begin_told m (NotBegun r) meets = ap came meets.means
+begin_told m (Ok w) meets = ap came meets.means
+begin_told m (Err r) meets = ap came meets.means
 
 pub begin_refuses : RuledOut (λ m r. Begins m r) (λ _ r. Refuses (begun r))
 unfolding module' hex preamble begins
@@ -92,9 +89,9 @@ unfolding preamble begins
 begin_accepts = by_input begin_told (λ j. Accepts j) [] (λ h. h)
 
 step_told : Tells (λ (x : List ℕ × Walk) r. Steps x.0 x.1 r) gone_on step_wanted
-step_told x (ASection s next) meets = ap goes_on meets.means
-step_told x Done meets = ap goes_on meets.means
-step_told x (Refused r) meets = ap goes_on meets.means
+step_told x (Ok (Some (s, next))) meets = ap goes_on meets.means
+step_told x (Ok None) meets = ap goes_on meets.means
+step_told x (Err r) meets = ap goes_on meets.means
 
 step_answers : Answers step_wanted (λ next. next) 10 (eqb 10)
 unfolding module' hex digit preamble greatest_id is_custom is_data rank is_called name_section hint_section id_rules name_rules section step number groups sized custom

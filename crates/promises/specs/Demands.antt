@@ -1,6 +1,6 @@
 -- THE FRONT DOOR. What users of the library demand, as types about its C calls, each under the sentence that it comes from, with the name of its proof in Proved.antt. A call is known by its promise alone: what is said here is said of every answer that meets the promise; that the call's own answer meets it is proved of its code.
 -- The rules are those of docs/RULES.md, named by its numbers. What stands in quotes is the users' own wording: "document 01" in it is what RULES says in the chapters 1 to 9 and 17 to 20.
-use Rattle.std.specs.Prelude.{ℕ, suc, ◌+◌, ◌*◌, ◌/◌, ◌≤◌, ◌<◌, List, [], ◌∷◌, ◌++◌, Bool, true, false, cond, ◌||◌, eqb, ◌↔◌, ◌≢◌, ◌⊎◌, ◌≡◌, length, take, drop, get_or}
+use Rattle.std.specs.Prelude.{ℕ, suc, ◌+◌, ◌*◌, ◌/◌, ◌≤◌, ◌<◌, List, [], ◌∷◌, ◌++◌, Bool, true, false, cond, ◌||◌, eqb, ◌↔◌, ◌≢◌, ◌⊎◌, ◌≡◌, length, take, drop, get_or, Ok}
 -- `cond t x y` is x where the test t holds, and y where it does not; `eqb m n` tests m ≡ n, and `s || t` is either test
 -- `A ↔ B`: each follows from the other; `x ≢ y`: they are not equal; `A ⊎ B`: one of them; `A × B`: both, and `(x : A) × B`: some x with B; `⊥`: never
 use Rattle.std.proofs.Math.Option.{Option, none, some}
@@ -106,7 +106,6 @@ use Rattle.format.specs.Numbers.{shortest}
 use Rattle.reading.specs.Cursors.{Inside, left}
 use Rattle.reading.specs.Promises.{ReadingNumber}
 use Rattle.reading.specs.declared.Cursor.{Cursor}
-use Rattle.reading.specs.declared.NumberRead.TheVariants.{Value}
 -- THE PART that is handed back in Rattle, by the promise of `pairs::ask_bytes`: of two payloads that begin at two places in memory, each a block and an offset in it, the part's bytes and the place where it begins.
 use Rattle.pairs.specs.Promises.{PairsAskBytes}
 
@@ -452,7 +451,7 @@ module _ (judging : List ℕ → WmAnswer → Type 0) (rewriting : (payload old 
 
 pub record K10 : Type 0 where
   -- a number took its fewest bytes exactly when the bytes read are its shortest form
-  pub numbers : (s : List ℕ) (c next : Cursor) (v : ℕ) (told : Bool) → Bytes s → Inside s c → ReadingNumber c s (Value v next told) → (told ≡ true) ↔ (left s c ≡ shortest v ++ left s next)
+  pub numbers : (s : List ℕ) (c next : Cursor) (v : ℕ) (told : Bool) → Bytes s → Inside s c → ReadingNumber c s (Ok (v, next, told)) → (told ≡ true) ↔ (left s c ≡ shortest v ++ left s next)
   pub names : TellsCanonical WmNamesJudge WmNamesCanonical WmNamesIsCanonical
   pub metadata : TellsCanonical WmMetadataJudge WmMetadataCanonical WmMetadataIsCanonical
   pub hints : TellsCanonical WmHintsJudge WmHintsCanonical WmHintsIsCanonical

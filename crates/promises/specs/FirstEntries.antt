@@ -3,7 +3,7 @@ use Rattle.std.specs.Prelude.{ℕ, List, [], ◌∷◌, map, ◌++◌, ◌≡◌
 use Rattle.std.proofs.Common.{ap, ◌∙◌}
 use Rattle.wakemiono.specs.Boundary.{WmWrites}
 use Rattle.wakemiono.specs.declared.WmAnswer.{WmAnswer}
-use Rattle.format.specs.declared.Written.{Written}
+use Rattle.format.specs.Returned.{Written}
 use Rattle.format.specs.Outputs.{fitting, write_answer, output_after, written_as, Writes}
 use Rattle.format.specs.Canonical.{write_part, write_rows, write_table, unless_empty, keep_rows, bare, write_content, write_subsections, rewrite_names, canonical_names, rewrite_metadata, canonical_of, canonical_metadata, canonical_hints}
 use Rattle.format.specs.Bytes.{ascii, same}

@@ -1,7 +1,7 @@
 -- Wrong second calls: one that hands back one fixed part, or always the empty one; one that takes its part always from the same place of what was lent. Each promise of a call that hands back bytes rules them out.
 use Prim.Native.Nat.{ℕ, ◌+◌}
 use Prim.Native.String.{String}
-use Rattle.std.specs.Prelude.{map, List, [], ◌∷◌, ◌≡◌, eqb}
+use Rattle.std.specs.Prelude.{map, List, [], ◌∷◌, ◌≡◌, eqb, Ok, Some, None}
 use Rattle.std.proofs.Math.Option.{Option, some}
 use Rattle.std.proofs.Math.Path.{refl, ap}
 use Rattle.std.proofs.Common.{sym, ◌∙◌, arith}
@@ -21,8 +21,7 @@ use Rattle.format.specs.Tables.{lookup, rows, table}
 use Rattle.format.specs.Text.{utf8, characters, character, completes}
 use Rattle.format.specs.Through.{through, ask_through, metadata_section, item_of, ask_metadata_through}
 use Rattle.format.specs.Walk.{preamble, begins, greatest_id, is_custom, is_code, is_data, rank, custom, is_called, name_section, hint_section, nothing, seeing, id_rules, name_rules, section, sections, framing, walk, payload_of, payload_in, custom_payload}
-use Rattle.format.specs.declared.Answer.{Answer}
-use Rattle.format.specs.declared.Answer.TheVariants.{None, Found}
+use Rattle.format.specs.Returned.{Answer}
 use Rattle.format.specs.declared.CodeOffset.{CodeOffset}
 use Rattle.format.specs.declared.FunctionIndex.{FunctionIndex}
 use Rattle.reading.specs.Taken.{taken_of, Takes}
@@ -102,4 +101,4 @@ metadata_bytes = record {
 -- An answer's part of any bytes
 pub taken : (y : List ℕ) → RuledOut (λ (x : List ℕ × (ℕ × ℕ) × Answer) (r : List ℕ × (ℕ × ℕ)). Takes x.0 x.1 x.2 r.0 r.1) (λ _ r. r.0 ≡ y)
 unfolding taken_of same
-taken y = by_two_inputs {says = λ r. r.0} (λ x r meets. meets.bytes_are) (λ part. some part) (same []) (0x61 ∷ [], (0, 0), None) (0x61 ∷ [], (0, 0), Found (record { offset = record { 0 = 0 }; length = 1 })) refl refl refl refl y
+taken y = by_two_inputs {says = λ r. r.0} (λ x r meets. meets.bytes_are) (λ part. some part) (same []) (0x61 ∷ [], (0, 0), (Ok None)) (0x61 ∷ [], (0, 0), Ok (Some (record { offset = record { 0 = 0 }; length = 1 }))) refl refl refl refl y

@@ -1,5 +1,5 @@
 -- Wrong programs in the place of the public functions that the calls stand on: one that gives the same whatever it is given, one that never refuses, one that always does. Each promise rules them out.
-use Rattle.std.specs.Prelude.{ℕ, Bool, true, false, ◌||◌, List, [], ◌∷◌, ◌≡◌, refl, eqb, ltb, length}
+use Rattle.std.specs.Prelude.{ℕ, Bool, true, false, ◌||◌, List, [], ◌∷◌, ◌≡◌, refl, eqb, ltb, length, Err, Some, None}
 use Rattle.std.proofs.Math.Option.{some}
 use Rattle.std.proofs.Common.{ap}
 use Rattle.format.specs.Names.{Kind, one_name, name_map, indirect_map, kept, known, known_kind, wider, wider_kind, kind_in}
@@ -13,21 +13,18 @@ use Rattle.format.specs.Walk.{greatest_id, is_custom, is_data, rank, name_row, i
 use Rattle.format.specs.declared.Reason.TheVariants.{NoPreamble, PastItsPart}
 use Rattle.names.specs.Contents.{kind_meant}
 use Rattle.format.specs.Verdicts.{refusal_in}
-use Rattle.format.specs.declared.Verdict.{Verdict}
-use Rattle.format.specs.declared.Verdict.TheVariants.{Refused}
+use Rattle.format.specs.Returned.{Verdict}
 use Rattle.format.specs.declared.Edition.{Edition}
 use Rattle.format.specs.declared.Edition.TheVariants.{First, Wider}
 use Rattle.tables.specs.Telling.{is_filled}
-use Rattle.tables.specs.declared.telling.Tidy.{Tidy}
-use Rattle.tables.specs.declared.telling.Tidy.TheVariants.{Behind}
+use Rattle.tables.specs.Returned.{Tidy}
 use Rattle.reading.specs.Cursors.{over_all}
 use Rattle.sorting.specs.Order.{code}
 use Rattle.reading.specs.declared.Cursor.{Cursor}
 use Rattle.walk.specs.Sections.{bit, seen_of, ruling, IdRuled, row_called, NameRuled, Sees}
-use Rattle.walk.specs.declared.rules.Called.{Called}
-use Rattle.walk.specs.declared.rules.Called.TheVariants.{Row, Other}
+use Rattle.walk.specs.Returned.{Called}
 use Rattle.walk.specs.declared.rules.Seen.{Seen}
-use Rattle.walk.specs.declared.rules.Ruling.{Ruling}
+use Rattle.walk.specs.Returned.{Ruling}
 use Rattle.promises.specs.RuledOut.{RuledOut, Refuses, Accepts, Tells, by_input, by_two_inputs}
 
 -- format: one number for every reason
@@ -40,7 +37,7 @@ question_id id = by_two_inputs {says = λ r. r} (λ q r meets. meets) (λ r. som
 
 -- format: every refusal at one offset
 abbrev refused_at : ℕ → Verdict
-refused_at at = Refused (record { reason = PastItsPart; offset = record { 0 = at } })
+refused_at at = Err (record { reason = PastItsPart; offset = record { 0 = at } })
 
 pub refusal_of : (at : ℕ) → RuledOut (λ verdict r. r ≡ refusal_in verdict) (λ _ r. r.offset.0 ≡ at)
 refusal_of at = by_two_inputs {says = λ r. r.offset.0} (λ verdict r meets. ap (λ r. r.offset.0) meets) (λ o. some o) (eqb 0) (refused_at 0) (refused_at 1) refl refl refl refl at
@@ -80,7 +77,7 @@ abbrev front : Cursor
 front = record { at = 2; end = 3 }
 
 pub is_filled_lem : (wrong : Bool) → RuledOut (λ (read : Tidy) r. r ≡ is_filled read) (λ _ r. r ≡ wrong)
-is_filled_lem wrong = by_two_inputs {says = λ r. r} (λ read r meets. meets) (λ b. some b) (λ b. b) (Behind (record { at = 1; end = 1 })) (Behind front) refl refl refl refl wrong
+is_filled_lem wrong = by_two_inputs {says = λ r. r} (λ read r meets. meets) (λ b. some b) (λ b. b) (Some (record { at = 1; end = 1 })) (Some front) refl refl refl refl wrong
 
 -- walk: never against an id, or always. 255 is no section; 1 may be the first
 abbrev came_out : Outcome (Unit {0}) → Judged (Unit {0})
@@ -110,15 +107,15 @@ name_told x v meets = ap came_out (meets.says 0 0 [])
 
 pub judge_name_refuses : RuledOut (λ (x : Seen × Called) v. NameRuled x.0 x.1 v) (λ _ v. Refuses (ruled v))
 unfolding name_rules
-judge_name_refuses = by_input name_told (λ j. Refuses j) (nothing_seen, Row name_row) (λ h. h)
+judge_name_refuses = by_input name_told (λ j. Refuses j) (nothing_seen, Some name_row) (λ h. h)
 
 pub judge_name_accepts : RuledOut (λ (x : Seen × Called) v. NameRuled x.0 x.1 v) (λ _ v. Accepts (ruled v))
 unfolding name_rules
-judge_name_accepts = by_input name_told (λ j. Accepts j) (record { rank = 0; code = false; there = 1 }, Row name_row) (λ h. h)
+judge_name_accepts = by_input name_told (λ j. Accepts j) (record { rank = 0; code = false; there = 1 }, Some name_row) (λ h. h)
 
 -- walk: the name section is never seen, or always
 pub see : (seen : Bool) → RuledOut (λ (x : Seen × ℕ × Called) r. Sees x.0 x.1 x.2 r) (λ _ r. bit r.there name_row ≡ seen)
-see seen = by_two_inputs {says = λ r. bit r.there name_row} {wanted = λ x. bit x.0.there name_row || is_row (row_called x.2) name_row} (λ x r meets. meets.there_is.says name_row) (λ b. some b) (λ b. b) (nothing_seen, 0, Row name_row) (nothing_seen, 0, Other) refl refl refl refl seen
+see seen = by_two_inputs {says = λ r. bit r.there name_row} {wanted = λ x. bit x.0.there name_row || is_row (row_called x.2) name_row} (λ x r meets. meets.there_is.says name_row) (λ b. some b) (λ b. b) (nothing_seen, 0, Some name_row) (nothing_seen, 0, None) refl refl refl refl seen
 
 -- sorting: always below, or never
 pub is_below : (wrong : Bool) → RuledOut (λ (x : ℕ × ℕ × ℕ × ℕ) r. r ≡ ltb (code x.0 x.1) (code x.2 x.3)) (λ _ r. r ≡ wrong)

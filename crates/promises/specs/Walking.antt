@@ -1,5 +1,5 @@
 -- Wrong walks: one that refuses everything, one that accepts everything, one whose count of sections, or whose length of a section or of a payload, is not taken from the bytes, one that finds no section. Each promise of the walk rules them out, and so does that of its C call.
-use Rattle.std.specs.Prelude.{ℕ, List, ◌++◌, false, eqb, drop}
+use Rattle.std.specs.Prelude.{ℕ, List, ◌++◌, false, eqb, drop, Ok, Err, Some, None}
 use Prim.Native.String.{String}
 use Rattle.std.proofs.Math.Option.{Option, none, some}
 use Rattle.std.proofs.Math.Path.{refl}
@@ -13,12 +13,9 @@ use Rattle.format.specs.Walk.{preamble, begins, greatest_id, is_custom, is_code,
 use Rattle.walk.specs.Sections.{seen_of}
 use Rattle.walk.specs.Surveys.{section_place}
 use Rattle.walk.specs.declared.survey.SectionPlace.{SectionPlace}
-use Rattle.walk.specs.declared.survey.Surveyed.{Surveyed}
-use Rattle.walk.specs.declared.survey.Surveyed.TheVariants.{Done as WholeSurveyed, Refused as NotSurveyed}
-use Rattle.walk.specs.declared.step.Began.{Began}
-use Rattle.walk.specs.declared.step.Began.TheVariants.{At, Refused as NotBegun}
-use Rattle.walk.specs.declared.step.Step.{Step}
-use Rattle.walk.specs.declared.step.Step.TheVariants.{Section as ASection, Done, Refused}
+use Rattle.walk.specs.Returned.{Surveyed}
+use Rattle.walk.specs.Returned.{Began}
+use Rattle.walk.specs.Returned.{Step}
 use Rattle.walk.specs.declared.step.Walk.{Walk}
 use Rattle.promises.specs.Judging.{JudgesRightly, Verdicts, judges_rightly}
 use Rattle.promises.specs.RuledOut.{RuledOut, Always, accepted_in, refuses, Tells, by_two_inputs}
@@ -47,8 +44,8 @@ module _ {Result : Type 0} {promise : List ℕ → Result → Type 0} {says : Re
 
 -- the one pass that all questions of the walk share, whichever position and name it looks for
 abbrev pub count_surveyed : Surveyed → Judged ℕ
-count_surveyed (WholeSurveyed t) = accepted t.count
-count_surveyed (NotSurveyed r) = refused (number_of r.reason) r.offset.0
+count_surveyed (Ok t) = accepted t.count
+count_surveyed (Err r) = refused (number_of r.reason) r.offset.0
 
 -- the section at a position: an empty one, one of a byte; what is refused is damaged behind it
 abbrev pub section_wanted : List ℕ × ℕ → Judged (Option SectionPlace)
@@ -56,8 +53,8 @@ section_wanted x = map_judged (map_some section_place) (section_at x.1 x.0)
 
 -- Behind the preamble: a walk that never begins, and one that begins anywhere
 abbrev pub begun : Began → Judged ℕ
-begun (At w) = accepted w.at
-begun (NotBegun r) = refused (number_of r.reason) r.offset.0
+begun (Ok w) = accepted w.at
+begun (Err r) = refused (number_of r.reason) r.offset.0
 
 -- how far a reading came
 abbrev pub came : {A : Type 0} → Outcome A → Judged ℕ
@@ -66,9 +63,9 @@ came (stop n at) = refused n at
 
 -- A step: one that refuses everything, never refuses, ends at once, or goes on always at the same offset. An empty section is a section: the walk goes on behind it, at 10
 abbrev pub gone_on : Step → Judged (Option ℕ)
-gone_on (ASection s next) = accepted (some next.at)
-gone_on Done = accepted none
-gone_on (Refused r) = refused (number_of r.reason) r.offset.0
+gone_on (Ok (Some (s, next))) = accepted (some next.at)
+gone_on (Ok None) = accepted none
+gone_on (Err r) = refused (number_of r.reason) r.offset.0
 
 abbrev pub goes_on : {A : Type 0} → Outcome (Option A) → Judged (Option ℕ)
 goes_on (got none o bs) = accepted none

@@ -18,7 +18,7 @@ use Rattle.format.specs.Reading.{Judged, accepted, refused, map_judged}
 use Rattle.format.specs.Tables.{lookup, size, map_table, rows, table}
 use Rattle.format.specs.Text.{utf8, characters, character, completes}
 use Rattle.format.specs.Walk.{preamble, begins, name_section, hint_section, nothing, sections, framing, walk, payload_in}
-use Rattle.format.specs.declared.Written.{Written}
+use Rattle.format.specs.Returned.{Written}
 use Rattle.wakemiono.specs.Boundary.{WmWrites}
 use Rattle.wakemiono.specs.declared.WmAnswer.{WmAnswer}
 use Rattle.writing.specs.Wrote.{Wrote}

@@ -1,4 +1,5 @@
 -- The C boundary says what the calls beneath it say.
+use Rattle.std.specs.Prelude.{Ok, Err, Some, None}
 use Prim.Native.Nat.{ℕ}
 use mathlib.Core.List.{List}
 use mathlib.Core.Option.{Option}
@@ -16,33 +17,21 @@ use Rattle.format.specs.Metadata.{hint_answered}
 use Rattle.format.specs.Outputs.{written_as, Writes}
 use Rattle.format.specs.Questions.{answered, ask, as_place}
 use Rattle.format.specs.Through.{ask_through}
-use Rattle.format.specs.declared.Answer.{Answer}
-use Rattle.format.specs.declared.Answer.TheVariants.{Found, Refused}
+use Rattle.format.specs.Returned.{Answer}
 use Rattle.format.specs.declared.Hint.{Hint}
 use Rattle.format.specs.declared.Hint.TheVariants.{Unlikely, Likely}
-use Rattle.format.specs.declared.HintAnswer.{HintAnswer}
-use Rattle.format.specs.declared.HintAnswer.TheVariants.{None as NoHint, Found as AHint, Refused as NotHinted}
+use Rattle.format.specs.Returned.{HintAnswer}
 use Rattle.format.specs.declared.Place.{Place}
 use Rattle.format.specs.declared.Question.{Question}
 use Rattle.format.specs.declared.Refusal.{Refusal}
-use Rattle.format.specs.declared.Written.{Written}
-use Rattle.format.specs.declared.Written.TheVariants.{Length, Refused as NotWritten}
-use Rattle.format.specs.contracts.Answer as answer_type
-use Rattle.format.proofs.Tags.{no_answer, as_accepted}
+use Rattle.format.specs.Returned.{Written}
 use Rattle.format.specs.contracts.Hint as likelihood_type
-use Rattle.format.specs.contracts.HintAnswer as hint_type
 use Rattle.format.specs.Verdicts.{verdict_of}
-use Rattle.format.specs.declared.Verdict.{Verdict}
-use Rattle.format.specs.declared.Verdict.TheVariants.{Refused as NotAccepted}
-use Rattle.format.specs.contracts.Verdict as verdict_type
+use Rattle.format.specs.Returned.{Verdict}
 use Rattle.walk.specs.Surveys.{counted, section_answered}
-use Rattle.walk.specs.declared.Counted.{Counted}
-use Rattle.walk.specs.declared.Counted.TheVariants.{Count, Refused as NotCounted}
-use Rattle.walk.specs.declared.survey.SectionAnswer.{SectionAnswer}
-use Rattle.walk.specs.declared.survey.SectionAnswer.TheVariants.{Found as ASection, Refused as NotFound}
+use Rattle.walk.specs.Returned.{Counted}
+use Rattle.walk.specs.Returned.{SectionAnswer}
 use Rattle.walk.specs.declared.survey.SectionPlace.{SectionPlace}
-use Rattle.walk.specs.contracts.survey.SectionAnswer as section_type
-use Rattle.walk.proofs.Tags.{no_section}
 use Rattle.wakemiono.specs.Boundary.{wm_none, wm_found, wm_refused, wm_place, wm_section, wm_count, wm_judged, wm_hinted, wm_hint, WmWrites, WmMakes, WmLists, wm_yes}
 use Rattle.wakemiono.specs.declared.WmAnswer.{WmAnswer}
 
@@ -51,49 +40,49 @@ refusal_is r n e = λ i. record { kind = 2; code = e i; offset = r.offset.0; len
 
 -- a count
 module _ (c : Counted) where
-  pub count_refused : (a : WmAnswer) (r : Refusal) → c ≡ NotCounted r → a ≡ wm_refused (number_of r.reason) r.offset.0 → a ≡ wm_count (counted c)
+  pub count_refused : (a : WmAnswer) (r : Refusal) → c ≡ Err r → a ≡ wm_refused (number_of r.reason) r.offset.0 → a ≡ wm_count (counted c)
   count_refused a r e q = rw e q
 
-  pub count_is : (n : ℕ) → c ≡ Count n → wm_found 0 0 n ≡ wm_count (counted c)
+  pub count_is : (n : ℕ) → c ≡ Ok n → wm_found 0 0 n ≡ wm_count (counted c)
   count_is n e = rw e
 
 -- a write
 module _ (w : Written) where
-  pub written_refused : (a : WmAnswer) (r : Refusal) → w ≡ NotWritten r → a ≡ wm_refused (number_of r.reason) r.offset.0 → a ≡ wm_count (written_as w)
+  pub written_refused : (a : WmAnswer) (r : Refusal) → w ≡ Err r → a ≡ wm_refused (number_of r.reason) r.offset.0 → a ≡ wm_count (written_as w)
   written_refused a r e q = rw e q
 
-  pub written_is : (a : WmAnswer) (n : ℕ) → w ≡ Length n → a ≡ wm_found 0 0 n → a ≡ wm_count (written_as w)
+  pub written_is : (a : WmAnswer) (n : ℕ) → w ≡ Ok n → a ≡ wm_found 0 0 n → a ≡ wm_count (written_as w)
   written_is a n e q = rw e q
 
 -- a section
 module _ (s : SectionAnswer) where
-  pub section_none : tag_of section_type.the_type s ≡ 0 → wm_none ≡ wm_section (section_answered s)
-  section_none h = rw (no_section s h)
+  pub section_none : s ≡ Ok None → wm_none ≡ wm_section (section_answered s)
+  section_none h = rw h
 
-  pub section_refused : (a : WmAnswer) (r : Refusal) → s ≡ NotFound r → a ≡ wm_refused (number_of r.reason) r.offset.0 → a ≡ wm_section (section_answered s)
+  pub section_refused : (a : WmAnswer) (r : Refusal) → s ≡ Err r → a ≡ wm_refused (number_of r.reason) r.offset.0 → a ≡ wm_section (section_answered s)
   section_refused a r e q = rw e q
 
-  pub section_is : (p : SectionPlace) → s ≡ ASection p → wm_found p.id p.at.0 p.length ≡ wm_section (section_answered s)
+  pub section_is : (p : SectionPlace) → s ≡ Ok (Some p) → wm_found p.id p.at.0 p.length ≡ wm_section (section_answered s)
   section_is p e = rw e
 
 -- a place
 module _ (x : Answer) where
-  pub place_none : tag_of answer_type.the_type x ≡ 0 → wm_none ≡ wm_place (answered x)
-  place_none h = rw (no_answer x h)
+  pub place_none : x ≡ Ok None → wm_none ≡ wm_place (answered x)
+  place_none h = rw h
 
-  pub place_refused : (a : WmAnswer) (r : Refusal) → x ≡ Refused r → a ≡ wm_refused (number_of r.reason) r.offset.0 → a ≡ wm_place (answered x)
+  pub place_refused : (a : WmAnswer) (r : Refusal) → x ≡ Err r → a ≡ wm_refused (number_of r.reason) r.offset.0 → a ≡ wm_place (answered x)
   place_refused a r e q = rw e q
 
-  pub place_is : (p : Place) → x ≡ Found p → wm_found 0 p.offset.0 p.length ≡ wm_place (answered x)
+  pub place_is : (p : Place) → x ≡ Ok (Some p) → wm_found 0 p.offset.0 p.length ≡ wm_place (answered x)
   place_is p e = rw e
 
 -- a judgement
 module _ (j : Verdict) (n : ℕ) where
-  pub judged_refused : (a : WmAnswer) (r : Refusal) → j ≡ NotAccepted r → a ≡ wm_refused (number_of r.reason) r.offset.0 → a ≡ wm_judged n (verdict_of j)
+  pub judged_refused : (a : WmAnswer) (r : Refusal) → j ≡ Err r → a ≡ wm_refused (number_of r.reason) r.offset.0 → a ≡ wm_judged n (verdict_of j)
   judged_refused a r e q = rw e q
 
-  pub judged_is : (a : WmAnswer) → tag_of verdict_type.the_type j ≡ 0 → a ≡ wm_found 0 0 n → a ≡ wm_judged n (verdict_of j)
-  judged_is a h e = rw (as_accepted j h) e
+  pub judged_is : (a : WmAnswer) → j ≡ Ok tt → a ≡ wm_found 0 0 n → a ≡ wm_judged n (verdict_of j)
+  judged_is a h e = rw h e
 
 -- a yes or no
 pub told_is : (b x : Bool) {a : ℕ} → a ≡ wm_yes b → b ≡ x → a ≡ wm_yes x
@@ -108,19 +97,14 @@ pub likely_is : (h : Hint) → tag_of likelihood_type.the_type h ≡ 1 → recor
 likely_is Unlikely t = absurd (omega arith)
 likely_is Likely t = refl
 
-no_hint : (x : HintAnswer) → tag_of hint_type.the_type x ≡ 0 → x ≡ NoHint
-no_hint NoHint h = refl
-no_hint (AHint p) h = absurd (omega arith)
-no_hint (NotHinted r) h = absurd (omega arith)
-
 module _ (x : HintAnswer) where
-  pub hint_none : tag_of hint_type.the_type x ≡ 0 → wm_none ≡ wm_hint (hint_answered x)
-  hint_none h = rw (no_hint x h)
+  pub hint_none : x ≡ Ok None → wm_none ≡ wm_hint (hint_answered x)
+  hint_none h = rw h
 
-  pub hint_refused : (a : WmAnswer) (r : Refusal) → x ≡ NotHinted r → a ≡ wm_refused (number_of r.reason) r.offset.0 → a ≡ wm_hint (hint_answered x)
+  pub hint_refused : (a : WmAnswer) (r : Refusal) → x ≡ Err r → a ≡ wm_refused (number_of r.reason) r.offset.0 → a ≡ wm_hint (hint_answered x)
   hint_refused a r e q = rw e q
 
-  pub hint_is : (a : WmAnswer) (h : Hint) → x ≡ AHint h → a ≡ wm_hinted h → a ≡ wm_hint (hint_answered x)
+  pub hint_is : (a : WmAnswer) (h : Hint) → x ≡ Ok (Some h) → a ≡ wm_hinted h → a ≡ wm_hint (hint_answered x)
   hint_is a h e q = rw e q
 
 pub ruleset fields = (refusal_is, count_refused, count_is, written_refused, written_is, section_none, section_refused, section_is, place_none, place_refused, place_is, judged_refused, judged_is, told_is, unlikely_is, likely_is, hint_none, hint_refused, hint_is, rules)

@@ -1,4 +1,6 @@
 -- K3: the boundary says what `pairs` and `joining` say.
+use Rattle.format.specs.declared.JoinRefusal.TheVariants.{Payload, Output}
+use Rattle.std.specs.Prelude.{Ok, Err, Some, None}
 use Prim.Native.Nat.{ℕ}
 use mathlib.Core.List.{List}
 use mathlib.Core.Option.{Option}
@@ -11,16 +13,13 @@ use Rattle.format.specs.Names.{Kind}
 use Rattle.format.specs.Pairs.{Paired, Supplied, ask_pair, as_places, pair_answered}
 use Rattle.format.specs.Reading.{Judged}
 use Rattle.format.specs.Refusals.{number_of}
-use Rattle.format.specs.declared.JoinWritten.{JoinWritten}
-use Rattle.format.specs.declared.JoinWritten.TheVariants.{Length, PayloadRefused, Refused as NotWritten}
-use Rattle.format.specs.declared.PairAnswer.{PairAnswer}
-use Rattle.format.specs.declared.PairAnswer.TheVariants.{None, Found, Refused}
+use Rattle.format.specs.Returned.{JoinWritten}
+use Rattle.format.specs.Returned.{PairAnswer}
 use Rattle.format.specs.declared.Place.{Place}
 use Rattle.format.specs.declared.Question.{Question}
 use Rattle.format.specs.declared.Refusal.{Refusal}
 use Rattle.format.specs.declared.Whose.{Whose}
 use Rattle.format.specs.declared.Whose.TheVariants.{Separate, Own}
-use Rattle.format.specs.contracts.PairAnswer as pair_type
 use Rattle.format.specs.contracts.Whose as whose_type
 use Rattle.wakemiono.specs.Pairs.{wm_whose, wm_pair_refused, wm_pair, wm_join, WmJoins}
 use Rattle.wakemiono.specs.declared.beside.WmPairAnswer.{WmPairAnswer}
@@ -38,29 +37,24 @@ whose_own Own h = refl
 pub refusal_is : (r : Refusal) (whose : ℕ) {n : ℕ} → n ≡ number_of r.reason → record { kind = 2; code = n; offset = r.offset.0; length = 0; whose = whose } ≡ wm_pair_refused whose (number_of r.reason) r.offset.0
 refusal_is r whose e = rw e
 
-no_name : (a : PairAnswer) → tag_of pair_type.the_type a ≡ 0 → a ≡ None
-no_name None h = refl
-no_name (Found w p) h = absurd (omega arith)
-no_name (Refused w r) h = absurd (omega arith)
-
 module _ (a : PairAnswer) where
-  pub pair_none : tag_of pair_type.the_type a ≡ 0 → record { kind = 0; code = 0; offset = 0; length = 0; whose = 0 } ≡ wm_pair (pair_answered a)
-  pair_none h = rw (no_name a h)
+  pub pair_none : a ≡ Ok None → record { kind = 0; code = 0; offset = 0; length = 0; whose = 0 } ≡ wm_pair (pair_answered a)
+  pair_none h = rw h
 
-  pub pair_refused : {w : Whose} {r : Refusal} {n : ℕ} {x : WmPairAnswer} → a ≡ Refused w r → n ≡ wm_whose w → x ≡ wm_pair_refused n (number_of r.reason) r.offset.0 → x ≡ wm_pair (pair_answered a)
+  pub pair_refused : {w : Whose} {r : Refusal} {n : ℕ} {x : WmPairAnswer} → a ≡ Err (w, r) → n ≡ wm_whose w → x ≡ wm_pair_refused n (number_of r.reason) r.offset.0 → x ≡ wm_pair (pair_answered a)
   pair_refused e q h = h ∙ rw (e, q)
 
-  pub pair_found : {w : Whose} {p : Place} {n : ℕ} → a ≡ Found w p → n ≡ wm_whose w → record { kind = 1; code = 0; offset = p.offset.0; length = p.length; whose = n } ≡ wm_pair (pair_answered a)
+  pub pair_found : {w : Whose} {p : Place} {n : ℕ} → a ≡ Ok (Some (w, p)) → n ≡ wm_whose w → record { kind = 1; code = 0; offset = p.offset.0; length = p.length; whose = n } ≡ wm_pair (pair_answered a)
   pair_found e q = rw (e, q)
 
 module _ (j : JoinWritten) where
-  pub join_payload_refused : {w : Whose} {r : Refusal} {n : ℕ} {x : WmPairAnswer} → j ≡ PayloadRefused w r → n ≡ wm_whose w → x ≡ wm_pair_refused n (number_of r.reason) r.offset.0 → x ≡ wm_join (join_written_as j)
+  pub join_payload_refused : {w : Whose} {r : Refusal} {n : ℕ} {x : WmPairAnswer} → j ≡ Err (Payload w r) → n ≡ wm_whose w → x ≡ wm_pair_refused n (number_of r.reason) r.offset.0 → x ≡ wm_join (join_written_as j)
   join_payload_refused e q h = h ∙ rw (e, q)
 
-  pub join_refused : {r : Refusal} {x : WmPairAnswer} → j ≡ NotWritten r → x ≡ wm_pair_refused 0 (number_of r.reason) r.offset.0 → x ≡ wm_join (join_written_as j)
+  pub join_refused : {r : Refusal} {x : WmPairAnswer} → j ≡ Err (Output r) → x ≡ wm_pair_refused 0 (number_of r.reason) r.offset.0 → x ≡ wm_join (join_written_as j)
   join_refused e h = h ∙ rw e
 
-  pub join_length : {n : ℕ} → j ≡ Length n → record { kind = 1; code = 0; offset = 0; length = n; whose = 0 } ≡ wm_join (join_written_as j)
+  pub join_length : {n : ℕ} → j ≡ Ok n → record { kind = 1; code = 0; offset = 0; length = n; whose = 0 } ≡ wm_join (join_written_as j)
   join_length e = rw e
 
 -- and so does each call

@@ -1,18 +1,16 @@
 -- K12, K13: what the calls on the shared table leave and answer, from what is promised of `sharing`.
+use Rattle.std.specs.Prelude.{Ok, Err, Some, None}
 use Prim.Native.Nat.{ℕ}
 use mathlib.Core.List.{List, []}
 use mathlib.Core.Path.{◌≡◌, refl, ap, ◌∙◌}
 use native.Mathlib.Omega.{arith}
 use borrow.Author.Rules.{rules}
-use denote.Enum.Declared.{tag_of}
 use Rattle.format.specs.Outputs.{written_as}
 use Rattle.format.specs.Refusals.{number_of}
 use Rattle.format.specs.Verdicts.{verdict_of}
 use Rattle.format.specs.declared.Refusal.{Refusal}
-use Rattle.format.specs.declared.Verdict.{Verdict}
-use Rattle.format.specs.declared.Verdict.TheVariants.{Accepted, Refused}
-use Rattle.format.specs.declared.Written.{Written}
-use Rattle.format.specs.declared.Written.TheVariants.{Length, Refused as NotWritten}
+use Rattle.format.specs.Returned.{Verdict}
+use Rattle.format.specs.Returned.{Written}
 use Rattle.sharing.specs.Arrays.{table_of}
 use Rattle.sharing.specs.Calls.{opened_as, asked_as, closed_as, tidied_as}
 use Rattle.sharing.specs.Model.{Call, Answer, opening, asking, closing, tidying}
@@ -23,9 +21,7 @@ use Rattle.sharing.specs.Table.{Table}
 use Rattle.sharing.specs.declared.Turned.{Turned}
 use Rattle.sharing.specs.declared.Opened.{Opened}
 use Rattle.sharing.specs.declared.Table.{Table as Arrays}
-use Rattle.sharing.specs.declared.Told.{Told}
-use Rattle.sharing.specs.declared.Told.TheVariants.{None, Length as Copied, Refused as NotTold}
-use Rattle.sharing.specs.contracts.Told as told_type
+use Rattle.sharing.specs.Returned.{Told}
 use Rattle.wakemiono.specs.Boundary.{wm_count, wm_judged, wm_found, wm_none, wm_refused}
 use Rattle.wakemiono.specs.Shared.{wm_shared, wm_told, buffer_of, Shares, WmShares}
 use Rattle.wakemiono.specs.declared.WmAnswer.{WmAnswer}
@@ -33,38 +29,38 @@ use Rattle.wakemiono.specs.declared.WmAnswer.{WmAnswer}
 -- An answer tells the buffer and the fields
 
 opened_fields : (w : Written) (left : List ℕ) → wm_count (written_as w) ≡ wm_shared (opened_as w left)
-opened_fields (Length hold) left = refl
-opened_fields (NotWritten r) left = refl
+opened_fields (Ok hold) left = refl
+opened_fields (Err r) left = refl
 
 opened_buffer : (w : Written) (left : List ℕ) → left ≡ buffer_of (opened_as w left)
-opened_buffer (Length hold) left = refl
-opened_buffer (NotWritten r) left = refl
+opened_buffer (Ok hold) left = refl
+opened_buffer (Err r) left = refl
 
 told_fields : (t : Told) (left : List ℕ) → wm_told t ≡ wm_shared (asked_as t left)
-told_fields None left = refl
-told_fields (Copied size) left = refl
-told_fields (NotTold r) left = refl
+told_fields (Ok None) left = refl
+told_fields (Ok (Some size)) left = refl
+told_fields (Err r) left = refl
 
 told_buffer : (t : Told) (left : List ℕ) → left ≡ buffer_of (asked_as t left)
-told_buffer None left = refl
-told_buffer (Copied size) left = refl
-told_buffer (NotTold r) left = refl
+told_buffer (Ok None) left = refl
+told_buffer (Ok (Some size)) left = refl
+told_buffer (Err r) left = refl
 
 closed_fields : (v : Verdict) → wm_judged 0 (verdict_of v) ≡ wm_shared (closed_as v)
-closed_fields Accepted = refl
-closed_fields (Refused r) = refl
+closed_fields (Ok _) = refl
+closed_fields (Err r) = refl
 
 closed_buffer : (v : Verdict) → [] ≡ buffer_of (closed_as v)
-closed_buffer Accepted = refl
-closed_buffer (Refused r) = refl
+closed_buffer (Ok _) = refl
+closed_buffer (Err r) = refl
 
 tidied_fields : (v : Verdict) → wm_judged 0 (verdict_of v) ≡ wm_shared (tidied_as v)
-tidied_fields Accepted = refl
-tidied_fields (Refused r) = refl
+tidied_fields (Ok _) = refl
+tidied_fields (Err r) = refl
 
 tidied_buffer : (v : Verdict) → [] ≡ buffer_of (tidied_as v)
-tidied_buffer Accepted = refl
-tidied_buffer (Refused r) = refl
+tidied_buffer (Ok _) = refl
+tidied_buffer (Err r) = refl
 
 -- what is left and answered as the step says is shared
 shares_so : (t : Table) (store : List ℕ) (call : Call) (after : Table) (left buffer : List ℕ) (x : Answer) (a : WmAnswer)
@@ -104,18 +100,13 @@ compacts_shared t store r {left} {a} p e = record {
 
 -- the answer to a question, from its three ways
 module _ (t : Told) where
-  pub told_none : tag_of told_type.the_type t ≡ 0 → wm_none ≡ wm_told t
-  told_none h = rw (nothing_told t h)
-    where
-      nothing_told : (t : Told) → tag_of told_type.the_type t ≡ 0 → t ≡ None
-      nothing_told None h = refl
-      nothing_told (Copied size) h = absurd (omega arith)
-      nothing_told (NotTold r) h = absurd (omega arith)
+  pub told_none : t ≡ Ok None → wm_none ≡ wm_told t
+  told_none e = rw e
 
-  pub told_refused : {a : WmAnswer} {r : Refusal} → t ≡ NotTold r → a ≡ wm_refused (number_of r.reason) r.offset.0 → a ≡ wm_told t
+  pub told_refused : {a : WmAnswer} {r : Refusal} → t ≡ Err r → a ≡ wm_refused (number_of r.reason) r.offset.0 → a ≡ wm_told t
   told_refused e q = rw e q
 
-  pub told_length : {a : WmAnswer} {n : ℕ} → t ≡ Copied n → a ≡ wm_found 0 0 n → a ≡ wm_told t
+  pub told_length : {a : WmAnswer} {n : ℕ} → t ≡ Ok (Some n) → a ≡ wm_found 0 0 n → a ≡ wm_told t
   told_length e q = rw e q
 
 pub ruleset tellings = (told_none, told_refused, told_length, rules)

@@ -7,7 +7,7 @@ use Rattle.sharing.specs.Named.{names}
 use Rattle.sharing.specs.Step.{step}
 use Rattle.sharing.specs.Table.{Table}
 use Rattle.sharing.specs.declared.Table.{Table as Arrays}
-use Rattle.sharing.specs.declared.Told.{Told}
+use Rattle.sharing.specs.Returned.{Told}
 use Rattle.wakemiono.specs.Boundary.{wm_none, wm_found, wm_refused}
 use Rattle.wakemiono.specs.declared.WmAnswer.{WmAnswer}
 

@@ -25,9 +25,12 @@ abbrev pub wm_why_refused : (number offset : ℕ) → WmWhy
 wm_why_refused number offset = record { kind = 2; code = number; offset = offset; position = 0; has_below = 0; below = 0; has_above = 0; above = 0 }
 
 -- what a call answers, from what it means
+abbrev pub wm_reason : Why → WmWhy
+wm_reason (named id position) = wm_named id position
+wm_reason no_subsection = wm_alone 5
+wm_reason no_group = wm_alone 6
+wm_reason (no_entry below above) = wm_no_entry below above
+
 abbrev pub wm_why : Judged Why → WmWhy
-wm_why (accepted (named id position)) = wm_named id position
-wm_why (accepted no_subsection) = wm_alone 5
-wm_why (accepted no_group) = wm_alone 6
-wm_why (accepted (no_entry below above)) = wm_no_entry below above
+wm_why (accepted why) = wm_reason why
 wm_why (refused number offset) = wm_why_refused number offset

@@ -9,9 +9,9 @@ ghost use Rattle.wakemiono.specs.Calls.{WmPair, WmPairJoin, WmWidePair, WmWidePa
 
 use crate::{FOUND, NONE, REFUSED};
 use format::{
-    DataIndex, Edition, ElementIndex, FieldIndex, FunctionIndex, GlobalIndex, JoinWritten,
-    LabelIndex, LocalIndex, MemoryIndex, PairAnswer, Question, Refusal, TableIndex, TagIndex,
-    TypeIndex, Whose,
+    DataIndex, Edition, ElementIndex, FieldIndex, FunctionIndex, GlobalIndex, JoinRefusal,
+    JoinWritten, LabelIndex, LocalIndex, MemoryIndex, PairAnswer, Question, Refusal, TableIndex,
+    TagIndex, TypeIndex, Whose,
 };
 
 // Whose a name or a refusal is; nobody's where there is none, and of what both are joined to.
@@ -59,24 +59,26 @@ fn of_pair(answer: PairAnswer) -> WmPairAnswer
     ensures { result ≡ wm_pair (pair_answered answer) }
 {
     match answer {
-        PairAnswer::None => WmPairAnswer {
-            kind: NONE,
-            code: 0,
-            offset: 0,
-            length: 0,
-            whose: NOBODY,
-        },
-        PairAnswer::Refused(whose, r) => of_refusal(of_whose(whose), r),
-        PairAnswer::Found(whose, place) => {
-            let at = place.offset;
-            WmPairAnswer {
-                kind: FOUND,
+        Err((whose, r)) => of_refusal(of_whose(whose), r),
+        Ok(found) => match found {
+            None => WmPairAnswer {
+                kind: NONE,
                 code: 0,
-                offset: at.0 as u64,
-                length: place.length as u64,
-                whose: of_whose(whose),
+                offset: 0,
+                length: 0,
+                whose: NOBODY,
+            },
+            Some((whose, place)) => {
+                let at = place.offset;
+                WmPairAnswer {
+                    kind: FOUND,
+                    code: 0,
+                    offset: at.0 as u64,
+                    length: place.length as u64,
+                    whose: of_whose(whose),
+                }
             }
-        }
+        },
     }
 }
 
@@ -84,9 +86,11 @@ fn of_join(written: JoinWritten) -> WmPairAnswer
     ensures { result ≡ wm_join (join_written_as written) }
 {
     match written {
-        JoinWritten::PayloadRefused(whose, r) => of_refusal(of_whose(whose), r),
-        JoinWritten::Refused(r) => of_refusal(NOBODY, r),
-        JoinWritten::Length(n) => WmPairAnswer {
+        Err(refusal) => match refusal {
+            JoinRefusal::Payload(whose, r) => of_refusal(of_whose(whose), r),
+            JoinRefusal::Output(r) => of_refusal(NOBODY, r),
+        },
+        Ok(n) => WmPairAnswer {
             kind: FOUND,
             code: 0,
             offset: 0,

@@ -80,8 +80,8 @@ fn of_count(c: Counted) -> WmAnswer
     ensures { result ≡ wm_count (counted c) }
 {
     match c {
-        Counted::Refused(r) => of_refusal(r),
-        Counted::Count(n) => WmAnswer {
+        Err(r) => of_refusal(r),
+        Ok(n) => WmAnswer {
             kind: FOUND,
             code: 0,
             offset: 0,
@@ -94,8 +94,8 @@ fn of_written(w: Written) -> WmAnswer
     ensures { result ≡ wm_count (written_as w) }
 {
     match w {
-        Written::Refused(r) => of_refusal(r),
-        Written::Length(n) => all_of(n),
+        Err(r) => of_refusal(r),
+        Ok(n) => all_of(n),
     }
 }
 
@@ -103,17 +103,19 @@ fn of_section(s: SectionAnswer) -> WmAnswer
     ensures { result ≡ wm_section (section_answered s) }
 {
     match s {
-        SectionAnswer::None => ANSWERED_NONE,
-        SectionAnswer::Refused(r) => of_refusal(r),
-        SectionAnswer::Found(p) => {
-            let at = p.at;
-            WmAnswer {
-                kind: FOUND,
-                code: p.id as u32,
-                offset: at.0 as u64,
-                length: p.length as u64,
+        Err(r) => of_refusal(r),
+        Ok(found) => match found {
+            None => ANSWERED_NONE,
+            Some(p) => {
+                let at = p.at;
+                WmAnswer {
+                    kind: FOUND,
+                    code: p.id as u32,
+                    offset: at.0 as u64,
+                    length: p.length as u64,
+                }
             }
-        }
+        },
     }
 }
 
@@ -121,17 +123,19 @@ fn of_answer(answer: Answer) -> WmAnswer
     ensures { result ≡ wm_place (answered answer) }
 {
     match answer {
-        Answer::None => ANSWERED_NONE,
-        Answer::Refused(r) => of_refusal(r),
-        Answer::Found(p) => {
-            let at = p.offset;
-            WmAnswer {
-                kind: FOUND,
-                code: 0,
-                offset: at.0 as u64,
-                length: p.length as u64,
+        Err(r) => of_refusal(r),
+        Ok(found) => match found {
+            None => ANSWERED_NONE,
+            Some(p) => {
+                let at = p.offset;
+                WmAnswer {
+                    kind: FOUND,
+                    code: 0,
+                    offset: at.0 as u64,
+                    length: p.length as u64,
+                }
             }
-        }
+        },
     }
 }
 
@@ -151,8 +155,8 @@ fn of_verdict(verdict: Verdict, length: usize) -> WmAnswer
     ensures { result ≡ wm_judged length (verdict_of verdict) }
 {
     match verdict {
-        Verdict::Refused(r) => of_refusal(r),
-        Verdict::Accepted => all_of(length),
+        Err(r) => of_refusal(r),
+        Ok(()) => all_of(length),
     }
 }
 
@@ -179,9 +183,11 @@ fn of_hint(answer: HintAnswer) -> WmAnswer
     ensures { result ≡ wm_hint (hint_answered answer) }
 {
     match answer {
-        HintAnswer::None => ANSWERED_NONE,
-        HintAnswer::Refused(r) => of_refusal(r),
-        HintAnswer::Found(hint) => of_likelihood(hint),
+        Err(r) => of_refusal(r),
+        Ok(found) => match found {
+            None => ANSWERED_NONE,
+            Some(hint) => of_likelihood(hint),
+        },
     }
 }
 

@@ -19,9 +19,11 @@ fn of_told(t: Told) -> WmAnswer
     ensures { result ≡ wm_told t }
 {
     match t {
-        Told::None => ANSWERED_NONE,
-        Told::Refused(r) => of_refusal(r),
-        Told::Length(n) => all_of(n),
+        Err(r) => of_refusal(r),
+        Ok(found) => match found {
+            None => ANSWERED_NONE,
+            Some(n) => all_of(n),
+        },
     }
 }
 

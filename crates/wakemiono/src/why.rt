@@ -1,8 +1,8 @@
 // K7: the calls that say why a function or a local has no name, and where a name that is found stands. No call has a precondition.
 ghost use Rattle.std.specs.Prelude.{◌≡◌};
 ghost use Rattle.format.specs.Refusals.{number_of};
-ghost use Rattle.neighbours.specs.Maps.{near_meant, why_meant};
-ghost use Rattle.wakemiono.specs.Why.{wm_side, wm_alone, wm_named, wm_no_entry, wm_why_refused, wm_why};
+ghost use Rattle.neighbours.specs.Maps.{near_meant, reason_meant, why_meant};
+ghost use Rattle.wakemiono.specs.Why.{wm_side, wm_alone, wm_named, wm_no_entry, wm_why_refused, wm_reason, wm_why};
 ghost use Rattle.wakemiono.specs.Calls.{WmWhyFunction, WmWhyLocal};
 
 use crate::{FOUND, NO, REFUSED, YES};
@@ -42,8 +42,8 @@ fn of_neighbour(neighbour: Neighbour) -> Side
     ensures { result ≡ wm_side (near_meant neighbour) }
 {
     match neighbour {
-        Neighbour::Nothing => Side { has: NO, index: 0 },
-        Neighbour::Index(index) => Side { has: YES, index },
+        None => Side { has: NO, index: 0 },
+        Some(index) => Side { has: YES, index },
     }
 }
 
@@ -112,15 +112,23 @@ fn refused(r: Refusal) -> WmWhy
     }
 }
 
-fn of_why(why: Why) -> WmWhy
-    ensures { result ≡ wm_why (why_meant why) }
+fn of_reason(why: Why) -> WmWhy
+    ensures { result ≡ wm_reason (reason_meant why) }
 {
     match why {
         Why::Named(id, position) => named(id, position),
         Why::NoSubsection => alone(NO_SUBSECTION),
         Why::NoGroup => alone(NO_GROUP),
         Why::NoEntry(below, above) => no_entry(below, above),
-        Why::Refused(r) => refused(r),
+    }
+}
+
+fn of_why(answer: Result<Why, Refusal>) -> WmWhy
+    ensures { result ≡ wm_why (why_meant answer) }
+{
+    match answer {
+        Err(r) => refused(r),
+        Ok(why) => of_reason(why),
     }
 }
 

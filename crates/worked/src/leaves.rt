@@ -2,7 +2,7 @@
 use crate::pieces::which;
 use crate::telling::tell;
 use format::Refusal;
-use reading::{Cursor, NumberRead, PartRead};
+use reading::Cursor;
 use std::io;
 use std::io::Stdout;
 
@@ -19,8 +19,8 @@ fn told_number(stdout: Stdout, s: &[u8]) -> io::Result<bool> {
         end: s.len(),
     };
     match all.number(s) {
-        NumberRead::Refused(r) => told_refusal(stdout, r),
-        NumberRead::Value(v, next, _) => tell(stdout, b"  value", &[v as u64, next.at as u64]),
+        Err(r) => told_refusal(stdout, r),
+        Ok((v, next, _)) => tell(stdout, b"  value", &[v as u64, next.at as u64]),
     }
 }
 
@@ -31,8 +31,8 @@ fn told_name(stdout: Stdout, s: &[u8]) -> io::Result<bool> {
         end: s.len(),
     };
     match all.name(s) {
-        PartRead::Refused(r) => told_refusal(stdout, r),
-        PartRead::Part(_, next, _) => tell(stdout, b"  accepted", &[next.at as u64]),
+        Err(r) => told_refusal(stdout, r),
+        Ok((_, next, _)) => tell(stdout, b"  accepted", &[next.at as u64]),
     }
 }
 

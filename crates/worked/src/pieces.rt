@@ -34,14 +34,12 @@ pub fn end_of(s: &[u8], from: usize, stop: u8) -> usize
     requires { from ≤ length s.now }
     ensures { (from ≤ result) × (result ≤ length s.now) }
 {
-    let mut at = from;
-    while at < s.len() {
+    for at in from..s.len() {
         if s[at] == stop {
             return at;
         }
-        at += 1;
     }
-    at
+    s.len()
 }
 
 // What stands before the first such byte: all, where there is none.
@@ -87,18 +85,7 @@ pub fn other_words(name: &[u8]) -> &[u8] {
 
 // Whether two are the same bytes.
 pub fn is(s: &[u8], word: &[u8]) -> bool {
-    let n = s.len();
-    if n != word.len() {
-        return false;
-    }
-    let mut at = 0;
-    while at < n {
-        if s[at] != word[at] {
-            return false;
-        }
-        at += 1;
-    }
-    true
+    s == word
 }
 
 // Where a word stands in a list of words, counted from 0: behind the last, where it does not. So a group of calls is told apart by one call, and not by a comparison with each word.
@@ -177,13 +164,11 @@ fn put_byte(out: &mut [u8], at: usize, b: u8) -> usize
 pub fn numbers(s: &[u8], out: &mut [u32]) -> usize {
     let mut count = 0;
     let mut value = 0;
-    let mut at = 0;
-    while at < s.len() {
+    for at in 0..s.len() {
         let digit = digit_of(s[at]);
-        at += 1;
         if digit < TEN {
             value = with_digit(value, digit);
-            if is_end(s, at) {
+            if is_end(s, at + 1) {
                 count = put_number(out, count, value);
                 value = 0;
             }
@@ -196,10 +181,8 @@ pub fn numbers(s: &[u8], out: &mut [u32]) -> usize {
 pub fn bytes(s: &[u8], out: &mut [u8]) -> usize {
     let mut count = 0;
     let mut high = SIXTEEN;
-    let mut at = 0;
-    while at < s.len() {
-        let digit = digit_of(s[at]);
-        at += 1;
+    for b in s {
+        let digit = digit_of(*b);
         if digit < SIXTEEN {
             if high == SIXTEEN {
                 high = digit;

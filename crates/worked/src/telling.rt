@@ -1,7 +1,7 @@
 // What calls answer, in the header's words and numbers, each on a line of its own behind its case.
 use format::{
-    Answer, Hint, HintAnswer, JoinWritten, Offset, PairAnswer, Place, Refusal, Verdict, Whose,
-    Written,
+    Answer, Hint, HintAnswer, JoinRefusal, JoinWritten, Offset, PairAnswer, Place, Refusal,
+    Verdict, Whose, Written,
 };
 use neighbours::{Neighbour, Why};
 use std::io;
@@ -35,10 +35,8 @@ fn say_byte(mut stdout: Stdout, b: u8) -> io::Result<()> {
 // Words and numbers. This, and whatever tells by it, says that there was such a call.
 pub fn tell(stdout: Stdout, words: &[u8], numbers: &[u64]) -> io::Result<bool> {
     say(stdout, words)?;
-    let mut at = 0;
-    while at < numbers.len() {
-        say_number(stdout, numbers[at])?;
-        at += 1;
+    for n in numbers {
+        say_number(stdout, *n)?;
     }
     say(stdout, b"\n")?;
     Ok(true)
@@ -76,46 +74,46 @@ fn told_refusal(stdout: Stdout, r: Refusal) -> io::Result<bool> {
 
 pub fn told(stdout: Stdout, answer: Answer) -> io::Result<bool> {
     match answer {
-        Answer::None => told_none(stdout),
-        Answer::Refused(r) => told_refusal(stdout, r),
-        Answer::Found(p) => told_place(stdout, 0, p.offset, p.length),
+        Ok(None) => told_none(stdout),
+        Err(r) => told_refusal(stdout, r),
+        Ok(Some(p)) => told_place(stdout, 0, p.offset, p.length),
     }
 }
 
 pub fn told_verdict(stdout: Stdout, verdict: Verdict, length: usize) -> io::Result<bool> {
     match verdict {
-        Verdict::Refused(r) => told_refusal(stdout, r),
-        Verdict::Accepted => told_all(stdout, length),
+        Err(r) => told_refusal(stdout, r),
+        Ok(()) => told_all(stdout, length),
     }
 }
 
 pub fn told_count(stdout: Stdout, count: Counted) -> io::Result<bool> {
     match count {
-        Counted::Refused(r) => told_refusal(stdout, r),
-        Counted::Count(n) => told_all(stdout, n),
+        Err(r) => told_refusal(stdout, r),
+        Ok(n) => told_all(stdout, n),
     }
 }
 
 pub fn told_length(stdout: Stdout, written: Written) -> io::Result<bool> {
     match written {
-        Written::Refused(r) => told_refusal(stdout, r),
-        Written::Length(n) => told_all(stdout, n),
+        Err(r) => told_refusal(stdout, r),
+        Ok(n) => told_all(stdout, n),
     }
 }
 
 pub fn told_section(stdout: Stdout, answer: SectionAnswer) -> io::Result<bool> {
     match answer {
-        SectionAnswer::None => told_none(stdout),
-        SectionAnswer::Refused(r) => told_refusal(stdout, r),
-        SectionAnswer::Found(p) => told_place(stdout, p.id, p.at, p.length),
+        Ok(None) => told_none(stdout),
+        Err(r) => told_refusal(stdout, r),
+        Ok(Some(p)) => told_place(stdout, p.id, p.at, p.length),
     }
 }
 
 pub fn told_hint(stdout: Stdout, answer: HintAnswer) -> io::Result<bool> {
     match answer {
-        HintAnswer::None => told_none(stdout),
-        HintAnswer::Refused(r) => told_refusal(stdout, r),
-        HintAnswer::Found(hint) => match hint {
+        Ok(None) => told_none(stdout),
+        Err(r) => told_refusal(stdout, r),
+        Ok(Some(hint)) => match hint {
             Hint::Unlikely => tell_answer(stdout, b"  unlikely", 0, 0, 0),
             Hint::Likely => tell_answer(stdout, b"  likely", 0, 0, 0),
         },
@@ -161,17 +159,17 @@ fn told_its_place(stdout: Stdout, whose: u64, p: Place) -> io::Result<bool> {
 
 pub fn told_pair(stdout: Stdout, answer: PairAnswer) -> io::Result<bool> {
     match answer {
-        PairAnswer::None => tell_whose(stdout, b"  none", 0, 0, 0, NOBODY),
-        PairAnswer::Refused(whose, r) => told_its_refusal(stdout, of_whose(whose), r),
-        PairAnswer::Found(whose, p) => told_its_place(stdout, of_whose(whose), p),
+        Ok(None) => tell_whose(stdout, b"  none", 0, 0, 0, NOBODY),
+        Err((whose, r)) => told_its_refusal(stdout, of_whose(whose), r),
+        Ok(Some((whose, p))) => told_its_place(stdout, of_whose(whose), p),
     }
 }
 
 pub fn told_join(stdout: Stdout, written: JoinWritten) -> io::Result<bool> {
     match written {
-        JoinWritten::PayloadRefused(whose, r) => told_its_refusal(stdout, of_whose(whose), r),
-        JoinWritten::Refused(r) => told_its_refusal(stdout, NOBODY, r),
-        JoinWritten::Length(n) => tell_whose(stdout, b"  found", 0, 0, n as u64, NOBODY),
+        Err(JoinRefusal::Payload(whose, r)) => told_its_refusal(stdout, of_whose(whose), r),
+        Err(JoinRefusal::Output(r)) => told_its_refusal(stdout, NOBODY, r),
+        Ok(n) => tell_whose(stdout, b"  found", 0, 0, n as u64, NOBODY),
     }
 }
 
@@ -195,8 +193,8 @@ struct Side {
 
 fn on_side(neighbour: Neighbour) -> Side {
     match neighbour {
-        Neighbour::Nothing => Side { has: 0, index: 0 },
-        Neighbour::Index(index) => Side {
+        None => Side { has: 0, index: 0 },
+        Some(index) => Side {
             has: 1,
             index: index as u64,
         },
@@ -217,13 +215,19 @@ fn told_why_refused(stdout: Stdout, r: Refusal) -> io::Result<bool> {
     tell_why(stdout, b"  refused", reason.number() as u64, at.0 as u64, 0)
 }
 
-pub fn told_why(stdout: Stdout, why: Why) -> io::Result<bool> {
+fn told_reason(stdout: Stdout, why: Why) -> io::Result<bool> {
     match why {
         Why::Named(id, position) => tell_why(stdout, b"  found", id as u64, 0, position as u64),
         Why::NoSubsection => tell_why(stdout, b"  no subsection", 0, 0, 0),
         Why::NoGroup => tell_why(stdout, b"  no group", 0, 0, 0),
         Why::NoEntry(below, above) => told_between(stdout, on_side(below), on_side(above)),
-        Why::Refused(r) => told_why_refused(stdout, r),
+    }
+}
+
+pub fn told_why(stdout: Stdout, answer: Result<Why, Refusal>) -> io::Result<bool> {
+    match answer {
+        Err(r) => told_why_refused(stdout, r),
+        Ok(why) => told_reason(stdout, why),
     }
 }
 
@@ -235,10 +239,8 @@ pub fn told_yes(stdout: Stdout, yes: bool) -> io::Result<bool> {
 // Bytes, in hexadecimal.
 pub fn say_bytes(stdout: Stdout, words: &[u8], bytes: &[u8]) -> io::Result<()> {
     say(stdout, words)?;
-    let mut at = 0;
-    while at < bytes.len() {
-        say_byte(stdout, bytes[at])?;
-        at += 1;
+    for b in bytes {
+        say_byte(stdout, *b)?;
     }
     say(stdout, b"\n")
 }
@@ -246,10 +248,8 @@ pub fn say_bytes(stdout: Stdout, words: &[u8], bytes: &[u8]) -> io::Result<()> {
 // Numbers of 32 bits.
 pub fn say_numbers(stdout: Stdout, words: &[u8], numbers: &[u32]) -> io::Result<()> {
     say(stdout, words)?;
-    let mut at = 0;
-    while at < numbers.len() {
-        say_index(stdout, numbers[at])?;
-        at += 1;
+    for n in numbers {
+        say_index(stdout, *n)?;
     }
     say(stdout, b"\n")
 }

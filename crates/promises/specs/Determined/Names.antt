@@ -8,7 +8,7 @@ use Rattle.format.specs.Parts.{Part}
 use Rattle.format.specs.Questions.{answered}
 use Rattle.format.specs.Reading.{verdict, accepted}
 use Rattle.format.specs.Tables.{Table}
-use Rattle.format.specs.declared.Answer.{Answer}
+use Rattle.format.specs.Returned.{Answer}
 use Rattle.tables.proofs.Same.{tells_same}
 use Rattle.names.proofs.Same.{kind_same, frame_same, framed_same, stands_same}
 use Rattle.names.specs.Frames.{judge_frames}

@@ -1,5 +1,5 @@
 -- K5: what the promises of the three calls come to.
-use Rattle.std.specs.Prelude.{ℕ, ◌+◌, ◌≤◌, ◌<◌, List, ◌≡◌, refl, length}
+use Rattle.std.specs.Prelude.{ℕ, ◌+◌, ◌≤◌, ◌<◌, List, ◌≡◌, refl, length, Ok, Err}
 use Rattle.std.proofs.Math.Option.{Option, none, some}
 use Rattle.std.proofs.Math.Path.{sym, ap}
 use Rattle.std.proofs.Common.{◌∙◌}
@@ -10,8 +10,7 @@ use Rattle.format.specs.Parts.{Part, place_of}
 use Rattle.format.specs.Questions.{as_place}
 use Rattle.format.specs.Verdicts.{verdict_of}
 use Rattle.format.specs.Walk.{name_section, hint_section, older_hint_section, Section, walk, section_count, payload_in, custom_payload}
-use Rattle.format.specs.declared.Verdict.{Verdict}
-use Rattle.format.specs.declared.Verdict.TheVariants.{Accepted, Refused}
+use Rattle.format.specs.Returned.{Verdict}
 use Rattle.format.specs.Laws.Outcomes.{by_test}
 use Rattle.stream.specs.Stream.{Summary, begin, finish, steps}
 use Rattle.stream.specs.Walked.{summary, walked}
@@ -30,13 +29,13 @@ use Rattle.wakemiono.specs.declared.arriving.WmStreamAnswer.{WmStreamAnswer}
 use Rattle.promises.specs.Demands.{Arrives, nothing_more, found, not_found_lem, Begun, walk_fields, name_fields, hint_fields, older_fields}
 
 -- A part's answer tells whether it was taken
-told_taken : (n : ℕ) (v : Verdict) → (wm_judged n (verdict_of v)).kind ≡ 1 → v ≡ Accepted
-told_taken n Accepted e = refl
-told_taken n (Refused r) e = absurd (omega arith)
+told_taken : (n : ℕ) (v : Verdict) → (wm_judged n (verdict_of v)).kind ≡ 1 → v ≡ (Ok tt)
+told_taken n (Ok _) e = refl
+told_taken n (Err r) e = absurd (omega arith)
 
-told_refused : (n : ℕ) (v : Verdict) → (wm_judged n (verdict_of v)).kind ≡ 2 → v ≡ Accepted → ⊥
-told_refused n Accepted e q = absurd (omega arith)
-told_refused n (Refused r) e q = let z : ◌≡◌ {A = ℕ} 0 1 = cc in omega arith
+told_refused : (n : ℕ) (v : Verdict) → (wm_judged n (verdict_of v)).kind ≡ 2 → v ≡ (Ok tt) → ⊥
+told_refused n (Ok _) e q = absurd (omega arith)
+told_refused n (Err r) e q = let z : ◌≡◌ {A = ℕ} 0 1 = cc in omega arith
 
 arrived : {s u : Stream} {ps : List (List ℕ)} → Arrives s ps u → Parts s ps u
 arrived nothing_more = no_part

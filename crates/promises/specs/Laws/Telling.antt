@@ -1,5 +1,5 @@
 -- K10: what the number reader and the calls that tell come to.
-use Rattle.std.specs.Prelude.{ℕ, ◌+◌, ◌≤◌, ◌<◌, Bool, true, false, List, ◌++◌, ◌↔◌, ◌≡◌, refl, length, take}
+use Rattle.std.specs.Prelude.{ℕ, ◌+◌, ◌≤◌, ◌<◌, Bool, true, false, List, ◌++◌, ◌↔◌, ◌≡◌, refl, length, take, Ok}
 use Rattle.std.proofs.Common.{sym, ap, ◌∙◌, arith, eqb-true, length-append, length-take}
 use Rattle.format.specs.Bytes.{Bytes}
 use Rattle.format.specs.Reading.{Judged, accepted, refused, Accepted, verdict}
@@ -13,7 +13,6 @@ use Rattle.format.proofs.Laws.Padding.{as_few_lem}
 use Rattle.reading.specs.Cursors.{Inside, left}
 use Rattle.reading.specs.Promises.{ReadingNumber}
 use Rattle.reading.specs.declared.Cursor.{Cursor}
-use Rattle.reading.specs.declared.NumberRead.TheVariants.{Value}
 use Rattle.reading.proofs.Laws.{number_means, number_tells}
 use Rattle.rewrite.proofs.WholeLaws.{bytes_left}
 use Rattle.wakemiono.specs.Boundary.{wm_count, wm_judged, wm_yes, WmWrites}
@@ -21,7 +20,7 @@ use Rattle.wakemiono.specs.declared.WmAnswer.{WmAnswer}
 use Rattle.promises.specs.Laws.Outputs.{wrote_there, wrote_first, wrote_refused}
 
 -- a number took its fewest bytes exactly when the bytes read are its shortest form
-pub number_told : (s : List ℕ) (c next : Cursor) (v : ℕ) (told : Bool) → Bytes s → Inside s c → ReadingNumber c s (Value v next told) → (told ≡ true) ↔ (left s c ≡ shortest v ++ left s next)
+pub number_told : (s : List ℕ) (c next : Cursor) (v : ℕ) (told : Bool) → Bytes s → Inside s c → ReadingNumber c s (Ok (v, next, told)) → (told ≡ true) ↔ (left s c ≡ shortest v ++ left s next)
 number_told s c next v told h i n =
     let e = number_means n refl in
     let tells = number_tells n refl in (
