@@ -62,10 +62,12 @@ fn survey_hints(c: Cursor, s: &[u8], n: u32) -> HintSurvey
     ensures { SurveysHints n s.now c result }
 {
     let mut next = c;
+    let mut more = n;
     let mut rising = true;
     let mut least: u64 = 0;
     let mut length = 0;
-    for _ in 0..n {
+    // counted down by hand: around another loop a `for` takes one instruction more a hint, by which rewriting misses its bar
+    while 0 < more {
         let hint = hint_here(next, s);
         let offset = hint.offset;
         rising = still_rising(rising, least, offset);
@@ -73,6 +75,7 @@ fn survey_hints(c: Cursor, s: &[u8], n: u32) -> HintSurvey
         least = offset as u64 + 1;
         length = length + KIND_LENGTH + number_length(offset);
         next = hint.next;
+        more = more - 1;
     }
     HintSurvey {
         rising,
@@ -149,11 +152,14 @@ fn put_hints(out: &mut [u8], at: usize, c: Cursor, s: &[u8], n: u32) -> Put
     ensures { Puts (times older_hint n) hints_bytes s.now c out.old out.new at result }
 {
     let mut next = c;
+    let mut more = n;
     let mut to = at;
-    for _ in 0..n {
+    // counted down by hand, as in `survey_hints`
+    while 0 < more {
         let hint = hint_here(next, s);
         to = put_hint(out, to, hint.kind, hint.offset);
         next = hint.next;
+        more = more - 1;
     }
     Put { at: to, next }
 }

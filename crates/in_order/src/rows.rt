@@ -79,7 +79,8 @@ fn put_hint_rows(
 {
     let mut next = c;
     let mut to = at;
-    for _ in 0..n {
+    // counted down: around another loop a counter that rises is two numbers to keep
+    for _ in (0..n).rev() {
         let hint = hint_here(next, s);
         to = put_row(
             &mut *functions,

@@ -27,7 +27,8 @@ fn entry(c: Cursor, s: &[u8]) -> EntryRead
     Some((index, text, next))
 }
 
-// The text of the first entry with the key among sixteen that begin here. What can't be read whole ends it, and nothing else does.
+// The text of the first entry with the key among sixteen that begin here. What can't be read whole ends it, and nothing else does. It is always a part of `quick`, since behind so many tests the compiler takes the call for a rare one.
+#[inline(always)]
 fn first_with(c: Cursor, s: &[u8], key: u32) -> Held
     requires { Inside s.now c }
     ensures { FindsFirst s.now c key result }

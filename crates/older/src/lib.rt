@@ -112,7 +112,8 @@ fn entries_times(c: Cursor, s: &[u8], function: u32, offset: u32, n: u32) -> See
 {
     let mut next = c;
     let mut held = None;
-    for _ in 0..n {
+    // counted down: around another loop a counter that rises is two numbers to keep
+    for _ in (0..n).rev() {
         let (found, after) = entry_here(next, s, function, offset)?;
         held = held.or(found);
         next = after;

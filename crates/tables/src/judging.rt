@@ -92,7 +92,8 @@ fn lists(c: Cursor, s: &[u8], nested: bool, n: u32) -> Judged
 {
     let mut next = c;
     let mut least: u64 = 0;
-    for _ in 0..n {
+    // counted down: around another loop a counter that rises is two numbers to keep
+    for _ in (0..n).rev() {
         let (outer, after) = list(next, s, nested, least)?;
         next = after;
         least = (outer as u64) + 1;

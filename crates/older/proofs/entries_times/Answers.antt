@@ -1,17 +1,15 @@
-use native.Mathlib.Omega.{arith}
-use Prim.Native.Nat.{◌-◌, ◌<◌, ◌≤◌}
 use Rattle.format.proofs.Nested.{handed_on}
 use Rattle.older.proofs.Steps.{turns}
 use Rattle.older.proofs.entries_times.Goals as goal
 
 pub loop-init : goal.loop-init
-loop-init c = record { left = c.args.n; all = omega arith; holds = search turns }
+loop-init c = search turns
 
 pub loop-preserved : goal.loop-preserved
-loop-preserved c = let t = c.loop.invariant in let h = t.holds in let some : 0 < t.left = omega (arith, t.all, c.loop-test.true) in record { left = t.left - 1; all = omega (arith, t.all, c.loop-test.true); holds = search (c.in_ok-found.ensures, turns) }
+loop-preserved c = search (c.in_ok-found.ensures, turns)
 
 pub returns : goal.returns
-returns c = let t = c.loop.invariant in let h = t.holds in let none : t.left ≤ 0 = omega (arith, t.all, c.loop-test.false) in search turns
+returns c = search turns
 
 pub returns-in_err-found : goal.returns-in_err-found
-returns-in_err-found c = let t = c.loop.invariant in let h = t.holds in let some : 0 < t.left = omega (arith, t.all, c.loop-test.true) in rw (handed_on _ c.from_residual.ensures) (search (c.in_err-found.ensures, turns))
+returns-in_err-found c = rw (handed_on _ c.from_residual.ensures) (search (c.in_err-found.ensures, turns))

@@ -1,19 +1,17 @@
-use native.Mathlib.Omega.{arith}
-use Prim.Native.Nat.{◌-◌, ◌<◌, ◌≤◌}
 use Rattle.in_order.proofs.Listing.{listing_hints}
 use Rattle.in_order.proofs.rows.put_hint_rows.Goals as goal
 
 pub loop-init : goal.loop-init
-loop-init c = record { left = c.args.n; all = omega arith; holds = search listing_hints }
+loop-init c = search listing_hints
 
 pub hint_here-hint-requires : goal.hint_here-hint-requires
-hint_here-hint-requires c = let t = c.loop.invariant in let h = t.holds in let some : 0 < t.left = omega (arith, t.all, c.loop-test.true) in search listing_hints
+hint_here-hint-requires c = search listing_hints
 
 pub put_row-to-requires : goal.put_row-to-requires
-put_row-to-requires c = let t = c.loop.invariant in let h = t.holds in let some : 0 < t.left = omega (arith, t.all, c.loop-test.true) in search listing_hints
+put_row-to-requires c = search listing_hints
 
 pub loop-preserved : goal.loop-preserved
-loop-preserved c = let t = c.loop.invariant in let h = t.holds in let some : 0 < t.left = omega (arith, t.all, c.loop-test.true) in record { left = t.left - 1; all = omega (arith, t.all, c.loop-test.true); holds = search listing_hints }
+loop-preserved c = search listing_hints
 
 pub returns : goal.returns
-returns c = let t = c.loop.invariant in let h = t.holds in let none : t.left ≤ 0 = omega (arith, t.all, c.loop-test.false) in search listing_hints
+returns c = search listing_hints

@@ -1,4 +1,3 @@
-use Rattle.format.specs.Laws.Counted.{Counted}
 use mathlib.Core.List.{[], ◌∷◌}
 use Rattle.format.specs.Older.{older_hint}
 use Rattle.in_order.specs.Rows.{hints_rows}
@@ -6,4 +5,4 @@ use Rattle.in_order.proofs.Listing.{PuttingRows}
 use Rattle.in_order.proofs.rows.put_hint_rows.Given as goal
 
 abbrev pub invariant-loop : goal.invariant-loop
-invariant-loop l = Counted (λ more. PuttingRows older_hint (hints_rows l.function) l.n l.s l.initial.next (l.initial.functions ∷ l.initial.offsets ∷ l.initial.likely ∷ []) l.at (l.functions ∷ l.offsets ∷ l.likely ∷ []) l.to l.next more) l.n l.counter
+invariant-loop l = PuttingRows older_hint (hints_rows l.function) l.n l.s l.initial.next (l.initial.functions ∷ l.initial.offsets ∷ l.initial.likely ∷ []) l.at (l.functions ∷ l.offsets ∷ l.likely ∷ []) l.to l.next l.counter

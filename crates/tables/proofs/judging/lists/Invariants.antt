@@ -1,7 +1,6 @@
-use Rattle.format.specs.Laws.Counted.{Counted}
 use Rattle.tables.specs.Judging.{listed}
 use Rattle.tables.proofs.JudgeSteps.{Turn}
 use Rattle.tables.proofs.judging.lists.Given as goal
 
 abbrev pub invariant-loop : goal.invariant-loop
-invariant-loop l = Counted (λ more. Turn (listed l.nested) l.n l.s l.initial.next l.next l.least more) l.n l.counter
+invariant-loop l = Turn (listed l.nested) l.n l.s l.initial.next l.next l.least l.counter
