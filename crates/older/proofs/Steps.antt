@@ -36,6 +36,10 @@ first_means : (held answer : Held Hint) → or_else (held_of held) (held_of answ
 first_means None answer = refl
 first_means (Some h) answer = refl
 
+or_nothing : (held : Held Hint) → held ≡ option_or held None
+or_nothing None = refl
+or_nothing (Some h) = refl
+
 -- What was read as a number
 module _ {A : Type 0} {value : ℕ → A} {read : Reader A} {s : List ℕ} {c : Cursor} {v : ℕ} {next : Cursor} {told : Bool} (n : Reads value read s c (Ok (v, next, told))) where
   pub read_inside : Inside s c → Inside s next
@@ -143,6 +147,10 @@ module _ {A : Type 0} {each : A → Option Hint} {all : List A → Option Hint} 
       same = opened l ∙ rw (← n.means, first_means held found, q);
     }
 
+    -- one that answers with nothing leaves what is held
+    pub turn_past : {found : Held Hint} {after : Cursor} → 0 < more → Seeks (asked each read) s next (Ok (found, after)) → found ≡ None → Turn each all read n s c after (more - 1) held
+    turn_past l n e = turn_read l n (rw e (or_nothing held))
+
     pub turn_ends : more ≤ 0 → Seeks (asked all (times read n)) s c (Ok (held, next))
     turn_ends h =
         let far = t.same_end in
@@ -164,7 +172,7 @@ pub turn_judged : {A : Type 0} {read : Reader A} {n : ℕ} {s : List ℕ} {c nex
 unfolding asked
 turn_judged {read = read} {s = s} {next = next} {found = found} t l n = turn_read t l n (sym (nothing_held found (nothing_found (read next.at (left s next)) n.means)))
 
-pub ruleset turns = (nothing_firsts, offset_firsts, function_firsts, turn_begins, turn_inside, turn_refused, turn_read, turn_judged, turn_ends, rules)
+pub ruleset turns = (nothing_firsts, offset_firsts, function_firsts, turn_begins, turn_inside, turn_refused, turn_read, turn_past, turn_judged, turn_ends, rules)
 
 -- How many, and so many
 module _ {A : Type 0} (all : List A → Option Hint) (read : Reader A) {s : List ℕ} {c : Cursor} where

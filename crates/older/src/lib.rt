@@ -115,7 +115,10 @@ fn entries_times(c: Cursor, s: &[u8], function: u32, offset: u32, n: u32) -> See
     // counted down: around another loop a counter that rises is two numbers to keep
     for _ in (0..n).rev() {
         let (found, after) = entry_here(next, s, function, offset)?;
-        held = held.or(found);
+        // nearly every entry answers with nothing, and what is held stays as it is
+        if let Some(_) = found {
+            held = held.or(found);
+        }
         next = after;
     }
     Ok((held, next))

@@ -201,15 +201,10 @@ fn group(c: Cursor, s: &[u8], item: Item, inner: Wanted, least: u64) -> RowRead
 fn kept(held: Held, key: u64, k: u32, answer: Held) -> Held
     ensures { result ≡ kept_of held key k answer }
 {
-    match held {
-        Some(part) => Some(part),
-        None => {
-            if key == (k as u64) {
-                return answer;
-            }
-            None
-        }
+    if key == (k as u64) {
+        return held.or(answer);
     }
+    held
 }
 
 // So many rows with items.
@@ -246,7 +241,8 @@ fn tables_rows(c: Cursor, s: &[u8], item: Item, key: u64, inner: Wanted, n: u32)
     let mut next = c;
     let mut least: u64 = 0;
     let mut held = None;
-    for _ in 0..n {
+    // counted down: around another loop a counter that rises is two numbers to keep
+    for _ in (0..n).rev() {
         let (outer, answer, after) = group(next, s, item, inner, least)?;
         held = kept(held, key, outer, answer);
         next = after;

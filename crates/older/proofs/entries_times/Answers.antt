@@ -8,6 +8,9 @@ loop-init c = search turns
 pub loop-preserved : goal.loop-preserved
 loop-preserved c = search (c.in_ok-found.ensures, turns)
 
+pub loop-preserved-in-Some : goal.loop-preserved-in-Some
+loop-preserved-in-Some c = search (c.in_ok-found.ensures, turns)
+
 pub returns : goal.returns
 returns c = search turns
 
